@@ -1,0 +1,5 @@
+pub mod Fault
+pub mod Files
+pub mod MemoryFiles
+pub mod MemorySink
+pub mod Sink

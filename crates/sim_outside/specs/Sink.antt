@@ -1,0 +1,11 @@
+-- How what was written grows.
+use Rattle.std.specs.Prelude.{◌≡◌, ℕ, List, ◌++◌, take, Option, Some}
+use Rattle.std.specs.Option.{option_map}
+
+-- what was written has grown by this piece, where it is told
+abbrev pub GrowsBy : Option (List ℕ) → Option (List ℕ) → List ℕ → Type 0
+GrowsBy old new piece = new ≡ option_map (λ bytes. bytes ++ piece) old
+
+-- it has grown by some of the piece, from its beginning on
+abbrev pub GrowsByPrefix : Option (List ℕ) → Option (List ℕ) → List ℕ → Type 0
+GrowsByPrefix old new piece = (count : ℕ) × GrowsBy old new (take count piece)

@@ -1,0 +1,29 @@
+//! What the program meets of the outside: names and lines as texts, rules and where they are broken,
+//! files to read, a sink to write to, and want of memory.
+//!
+//! A reader or a writer of bytes is a [`Files`] or a [`Sink`]. Each has two meanings that its calls
+//! are stated by: the bytes that it holds or was given, where it tells them, and a count of faults
+//! that never falls. A call fails only where this count rose. [`MemFiles`] and [`MemSink`] keep
+//! everything in memory, tell it, and fail at the calls that they are told to. [`RealFiles`] and
+//! [`RealSink`] reach the system, and tell nothing of its bytes.
+#![tactic(auto)]
+
+pub use blame::{Blame, Rule};
+pub use files::{FileRefusal, Files};
+pub use mem_files::MemFiles;
+pub use mem_sink::MemSink;
+pub use memory::NoMemory;
+pub use real_files::RealFiles;
+pub use real_sink::RealSink;
+pub use sink::{Sink, SinkRefusal};
+pub use text::Text;
+
+mod blame;
+mod files;
+mod mem_files;
+mod mem_sink;
+mod memory;
+mod real_files;
+mod real_sink;
+mod sink;
+mod text;

@@ -1,0 +1,53 @@
+// The program's standard output.
+
+ghost use Rattle.std.specs.Prelude.{◌≡◌, ◌≤◌, ◌<◌, length, IsOkUnless};
+
+use crate::sink::{Sink, SinkRefusal};
+use std::io;
+use std::io::Write;
+
+/// Standard output, written through the runtime. It tells nothing of what was written.
+#[derive(Drop)]
+pub struct RealSink<'a, R> {
+    rt: &'a R,
+    faults: u64,
+}
+
+impl<'a, R: Print> RealSink<'a, R> {
+    /// The standard output of this runtime. No fault is counted yet.
+    pub fn new(rt: &'a R) -> RealSink<'a, R> {
+        RealSink { rt, faults: 0 }
+    }
+}
+
+impl<'a, R: Print> Sink for RealSink<'a, R> {
+    ghost use Rattle.std.specs.Prelude.{None};
+
+    ghost written = { λ _. None };
+
+    ghost faults = { λ sink. sink.faults };
+
+    /// Every error is a fault, and so is a system that takes nothing of what is left of the piece.
+    fn write(&mut self, piece: &[u8]) -> Result<(), SinkRefusal> {
+        let written = write_whole(&mut io::writer(self.rt), piece);
+        if written.is_err() {
+            self.faults = self.faults.saturating_add(1);
+        }
+        written
+    }
+}
+
+// Writes what is left of the piece until nothing is.
+fn write_whole<W: Write>(writer: &mut W, piece: &[u8]) -> Result<(), SinkRefusal>
+    ensures { IsOkUnless result SinkRefusal.Failed }
+{
+    let mut rest = piece;
+    while !rest.is_empty() {
+        let count = writer.write(rest).map_err(|_| SinkRefusal::Failed)?;
+        if count == 0 {
+            return Err(SinkRefusal::Failed);
+        }
+        rest = &rest[count..];
+    }
+    Ok(())
+}

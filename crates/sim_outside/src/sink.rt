@@ -1,0 +1,35 @@
+// A sink that can be written to.
+
+ghost use Rattle.std.specs.Prelude.{◌≡◌, ℕ, ◌≤◌, Option, List, OnOk, IsErrOf};
+ghost use Rattle.sim_outside.specs.Fault.{HasRisen};
+ghost use Rattle.sim_outside.specs.Sink.{GrowsBy, GrowsByPrefix};
+
+use thiserror::Error;
+
+/// Why a piece was not written whole.
+#[derive(Debug, Drop, Error)]
+pub enum SinkRefusal {
+    /// Writing failed, maybe after some of the piece.
+    #[error("writing failed")]
+    Failed,
+    /// There was no memory for the piece, and nothing of it was written.
+    #[error("no memory")]
+    NoMemory,
+}
+
+/// A sink for pieces of bytes.
+pub trait Sink {
+    /// All bytes that were written, where the sink tells it.
+    ghost written: { Self → Option (List ℕ) };
+
+    /// How many writes failed. At its type's end the count stands still.
+    ghost faults: { Self → ℕ };
+
+    /// Writes the piece at the end.
+    fn write(&mut self, piece: &[u8]) -> Result<(), SinkRefusal>
+        ensures ok { OnOk result (GrowsBy (written self.old) (written self.new) piece.now) }
+        ensures failed_after { IsErrOf result SinkRefusal.Failed → GrowsByPrefix (written self.old) (written self.new) piece.now }
+        ensures failed { IsErrOf result SinkRefusal.Failed → HasRisen (faults self.old) (faults self.new) }
+        ensures no_memory { IsErrOf result SinkRefusal.NoMemory → written self.new ≡ written self.old }
+        ensures faults_stay { faults self.old ≤ faults self.new };
+}
