@@ -1,0 +1,66 @@
+-- The reading of a whole text into pieces.
+use Rattle.std.specs.Prelude.{◌≡◌, ◌≢◌, ◌+◌, ◌<◌, ◌≤◌, ℕ, List, [], ◌∷◌, ◌++◌, length, take, drop, count_by, nat_eq, ◌==◌, if◌then◌else◌}
+use Rattle.std.specs.List.{after_last, starts_with}
+use Rattle.capl_lexer.specs.Bytes.{IsBlank}
+use Rattle.capl_lexer.specs.Spelling.{Spells}
+use Rattle.capl_lexer.specs.declared.token.Tok.{Tok}
+use Rattle.capl_lexer.specs.declared.token.Token.{Token}
+
+-- a blank, or a token with the bytes that spell it
+pub data Piece : Type 0 where
+  Blank : ℕ → Piece
+  Lexeme : List ℕ → Tok → Piece
+
+-- no token that stands at the front of the text has more bytes
+abbrev pub IsLongest : List ℕ → ℕ → Type 0
+IsLongest text count = (bytes after : List ℕ) (tok : Tok) → text ≡ bytes ++ after → Spells bytes tok → length bytes ≤ count
+
+-- the piece stands at the front of a text, before this rest
+abbrev pub IsFront : Piece → List ℕ → List ℕ → Type 0
+IsFront (Blank byte) text rest = IsBlank byte × (text ≡ byte ∷ rest)
+IsFront (Lexeme bytes tok) text rest = Spells bytes tok × (text ≡ bytes ++ rest) × IsLongest text (length bytes)
+
+-- the pieces stand one after another at the front of a text, before this rest
+abbrev pub AreFront : List Piece → List ℕ → List ℕ → Type 0
+AreFront [] text rest = text ≡ rest
+AreFront (piece ∷ pieces) text rest = (between : List ℕ) × IsFront piece text between × AreFront pieces between rest
+
+-- the bytes that may stand before a text and are passed over
+abbrev pub byte_order_mark : List ℕ
+byte_order_mark = 0xEF ∷ 0xBB ∷ 0xBF ∷ []
+
+-- the place at which the first piece begins
+abbrev pub start_of : List ℕ → ℕ
+start_of text = if starts_with nat_eq text byte_order_mark then 3 else 0
+
+-- 1 and the line ends before the place
+abbrev pub line_at : List ℕ → ℕ → ℕ
+line_at text place = 1 + count_by (λ byte. byte == 10) (take place text)
+
+-- 1 and the bytes since the last line end before the place, or since the beginning
+abbrev pub column_at : List ℕ → ℕ → ℕ
+column_at text place = 1 + length (after_last (λ byte. byte == 10) (take place text))
+
+-- the tokens of the pieces that begin at a place of a text
+abbrev pub tokens_at : List ℕ → ℕ → List Piece → List Token
+tokens_at text place [] = []
+tokens_at text place (Blank byte ∷ pieces) = tokens_at text (place + 1) pieces
+tokens_at text place (Lexeme bytes tok ∷ pieces) =
+    record {
+      tok = tok;
+      from = place;
+      to = place + length bytes;
+      line = line_at text place;
+      column = column_at text place;
+    } ∷ tokens_at text (place + length bytes) pieces
+
+-- the tokens are those of a reading of the whole text
+abbrev pub IsReading : List ℕ → List Token → Type 0
+IsReading text tokens =
+    (pieces : List Piece) × AreFront pieces (drop (start_of text) text) [] × (tokens ≡ tokens_at text (start_of text) pieces)
+
+-- pieces lead to the place, and none begins there
+pub record IsBadPlace (text : List ℕ) (place : ℕ) : Type 0 where
+  pub before : (pieces : List Piece) × AreFront pieces (drop (start_of text) text) (drop place text)
+  pub within : (start_of text ≤ place) × (place < length text)
+  pub no_piece : (piece : Piece) (rest : List ℕ) → IsFront piece (drop place text) rest → ⊥

@@ -1,0 +1,10 @@
+//! The tokens of a CAPL source.
+//!
+//! A source is read into pieces, blanks and tokens, from its beginning to its end, and each token is
+//! the longest that stands at its place. [`lex`] gives the tokens with their places, lines and
+//! columns, or the first place at which no piece begins.
+#![tactic(auto)]
+
+pub use token::{Sign, Tok, Token, Word};
+
+mod token;
