@@ -1,3 +1,4 @@
 pub mod Bytes
 pub mod Spelling
+pub mod Run
 pub mod Reading

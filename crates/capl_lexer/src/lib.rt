@@ -7,4 +7,6 @@
 
 pub use token::{Sign, Tok, Token, Word};
 
+mod byte_class;
 mod token;
+mod words;

@@ -1,5 +1,8 @@
 // The tokens of a source.
 
+ghost use Rattle.std.specs.Prelude.{◌≡◌};
+ghost use Rattle.capl_lexer.specs.Spelling.{word_spelling};
+
 use sim_outside::Text;
 
 /// A token and where it stands in its file.
@@ -76,6 +79,100 @@ pub enum Word {
     LinFrame,
     FrFrame,
     EthernetPacket,
+}
+
+impl Word {
+    /// All reserved words.
+    pub const ALL: [Word; 40] = [
+        Word::Includes,
+        Word::Variables,
+        Word::On,
+        Word::This,
+        Word::If,
+        Word::Else,
+        Word::While,
+        Word::Do,
+        Word::For,
+        Word::Switch,
+        Word::Case,
+        Word::Default,
+        Word::Break,
+        Word::Continue,
+        Word::Return,
+        Word::Message,
+        Word::Timer,
+        Word::MsTimer,
+        Word::Byte,
+        Word::Word,
+        Word::Dword,
+        Word::Qword,
+        Word::Int,
+        Word::Long,
+        Word::Int64,
+        Word::Char,
+        Word::Void,
+        Word::Const,
+        Word::Float,
+        Word::Double,
+        Word::Struct,
+        Word::Enum,
+        Word::Stack,
+        Word::Testcase,
+        Word::Testfunction,
+        Word::DiagRequest,
+        Word::DiagResponse,
+        Word::LinFrame,
+        Word::FrFrame,
+        Word::EthernetPacket,
+    ];
+
+    /// The bytes that spell it.
+    pub fn spelling(self) -> &'static [u8]
+        ensures { result.now ≡ word_spelling self }
+    {
+        match self {
+            Word::Includes => b"includes",
+            Word::Variables => b"variables",
+            Word::On => b"on",
+            Word::This => b"this",
+            Word::If => b"if",
+            Word::Else => b"else",
+            Word::While => b"while",
+            Word::Do => b"do",
+            Word::For => b"for",
+            Word::Switch => b"switch",
+            Word::Case => b"case",
+            Word::Default => b"default",
+            Word::Break => b"break",
+            Word::Continue => b"continue",
+            Word::Return => b"return",
+            Word::Message => b"message",
+            Word::Timer => b"timer",
+            Word::MsTimer => b"msTimer",
+            Word::Byte => b"byte",
+            Word::Word => b"word",
+            Word::Dword => b"dword",
+            Word::Qword => b"qword",
+            Word::Int => b"int",
+            Word::Long => b"long",
+            Word::Int64 => b"int64",
+            Word::Char => b"char",
+            Word::Void => b"void",
+            Word::Const => b"const",
+            Word::Float => b"float",
+            Word::Double => b"double",
+            Word::Struct => b"struct",
+            Word::Enum => b"enum",
+            Word::Stack => b"stack",
+            Word::Testcase => b"testcase",
+            Word::Testfunction => b"testfunction",
+            Word::DiagRequest => b"diagRequest",
+            Word::DiagResponse => b"diagResponse",
+            Word::LinFrame => b"linFrame",
+            Word::FrFrame => b"frFrame",
+            Word::EthernetPacket => b"ethernetPacket",
+        }
+    }
 }
 
 /// The signs.

@@ -1,0 +1,4 @@
+pub mod WordLemmas
+pub mod Runs
+pub mod Spellings
+pub mod Readings

@@ -1,0 +1,109 @@
+-- A text has at most one reading, and none where it has a bad place.
+use Rattle.std.proofs.Common.{◌≡◌, ◌≢◌, ◌<◌, ◌≤◌, ◌+◌, ◌-◌, ℕ, Bool, true, false, cond, List, [], ◌∷◌, ◌++◌, length, get_or, take, drop, All, inl, inr, refl, sym, ap, subst, ◌∙◌, arith, length-append, length-drop}
+use Rattle.std.proofs.lemmas.List.{append_cancel_left, take_at}
+use Rattle.std.proofs.lemmas.Bool.Decides.{nat_tests}
+use Rattle.std.specs.Prelude.{◌⊎◌}
+use Rattle.capl_lexer.specs.Bytes.{IsBlank, IsDigit, IsNameStart}
+use Rattle.capl_lexer.specs.Spelling.{Spells, sign_spelling}
+use Rattle.capl_lexer.specs.Reading.{Piece, Blank, Lexeme, IsLongest, IsFront, AreFront, start_of, tokens_at, IsReading, IsBadPlace}
+use Rattle.capl_lexer.specs.declared.token.Sign.{Sign}
+use Rattle.capl_lexer.specs.declared.token.Sign.TheVariants as sign
+use Rattle.capl_lexer.specs.declared.token.Tok.{Tok}
+use Rattle.capl_lexer.specs.declared.token.Tok.TheVariants as tok
+use Rattle.capl_lexer.specs.declared.token.Token.{Token}
+use Rattle.capl_lexer.proofs.Spellings.{Begins, spelling-front, spelling-unique}
+
+-- no piece stands at the front of the text
+abbrev pub HasNoFront : List ℕ → Type 0
+HasNoFront text = (piece : Piece) (rest : List ℕ) → IsFront piece text rest → ⊥
+
+-- no token begins with a blank
+pub blank-begins : (token : Tok) (byte : ℕ) → IsBlank byte → Begins token byte → ⊥
+blank-begins (tok.Name text) byte blank begins = grind arith
+blank-begins (tok.Word reserved) byte blank begins = grind arith
+blank-begins (tok.Sign sign.OpenBrace) byte blank begins = let is : 123 ≡ byte = cc in grind arith
+blank-begins (tok.Sign sign.CloseBrace) byte blank begins = let is : 125 ≡ byte = cc in grind arith
+blank-begins (tok.Sign sign.OpenParen) byte blank begins = let is : 40 ≡ byte = cc in grind arith
+blank-begins (tok.Sign sign.CloseParen) byte blank begins = let is : 41 ≡ byte = cc in grind arith
+blank-begins (tok.Sign sign.Semi) byte blank begins = let is : 59 ≡ byte = cc in grind arith
+blank-begins (tok.Sign sign.Comma) byte blank begins = let is : 44 ≡ byte = cc in grind arith
+blank-begins (tok.Sign sign.Assign) byte blank begins = let is : 61 ≡ byte = cc in grind arith
+blank-begins (tok.Num value ext) byte blank begins = grind arith
+blank-begins (tok.Str text) byte blank begins = grind arith
+
+-- no token's spelling begins with a blank
+pub blank-spelling : (bytes : List ℕ) (token : Tok) (byte : ℕ) (rest after : List ℕ) → IsBlank byte → Spells bytes token → byte ∷ rest ≡ bytes ++ after → ⊥
+blank-spelling bytes token byte rest after blank spells split =
+    let front = spelling-front bytes token spells in
+    let whole : byte ∷ rest ≡ front.first ∷ front.others ++ after = split ∙ ap (λ b. b ++ after) front.is in
+    let same : byte ≡ front.first = cc in
+    blank-begins token byte blank (subst (Begins token) (sym same) front.begins)
+
+-- two fronts of one length are one
+front_injective : (xs ys rest other : List ℕ) → xs ++ rest ≡ ys ++ other → length xs ≡ length ys → xs ≡ ys
+front_injective xs ys rest other same lengths =
+    sym (take_at xs rest (length xs) refl) ∙ ap (take (length xs)) same ∙ take_at ys other (length xs) (sym lengths)
+
+-- two pieces at the front of one text are one, and leave one rest
+pub record IsSamePiece (piece other : Piece) (rest after : List ℕ) : Type 0 where
+  pub one_piece : piece ≡ other
+  pub one_rest : rest ≡ after
+
+pub front-unique : (text : List ℕ) (piece other : Piece) (rest after : List ℕ) → IsFront piece text rest → IsFront other text after → IsSamePiece piece other rest after
+front-unique text (Blank byte) (Blank same) rest after (blank, split) (also, again) =
+    let one : byte ∷ rest ≡ same ∷ after = sym split ∙ again in record { one_piece = ap Blank (cc); one_rest = cc }
+front-unique text (Blank byte) (Lexeme bytes token) rest after (blank, split) (spells, again, longest) =
+    absurd (blank-spelling bytes token byte rest after blank spells (sym split ∙ again))
+front-unique text (Lexeme bytes token) (Blank byte) rest after (spells, split, longest) (blank, again) =
+    absurd (blank-spelling bytes token byte after rest blank spells (sym again ∙ split))
+front-unique text (Lexeme bytes token) (Lexeme others another) rest after (spells, split, longest) (also, again, furthest) =
+    let lengths : length bytes ≡ length others = omega (arith, longest others after another again also, furthest bytes rest token split spells) in
+    let whole : bytes ++ rest ≡ others ++ after = sym split ∙ again in
+    let same : bytes ≡ others = front_injective bytes others rest after whole lengths in
+    let token_same : token ≡ another = spelling-unique others token another (subst (λ b. Spells b token) same spells) also in
+    let rest_same : rest ≡ after = append_cancel_left others rest after (ap (λ b. b ++ rest) (sym same) ∙ whole) in
+    record { one_piece = cc; one_rest = rest_same }
+
+-- no piece stands at the front of nothing
+pub front-nil : HasNoFront []
+front-nil (Blank byte) rest (blank, split) = cc
+front-nil (Lexeme bytes token) rest (spells, split, longest) =
+    let front = spelling-front bytes token spells in
+    let whole : [] ≡ front.first ∷ front.others ++ rest = split ∙ ap (λ b. b ++ rest) front.is in cc
+
+-- pieces that lead as far as pieces go are the same, and lead to one place
+pub fronts-unique : (text : List ℕ) (pieces others : List Piece) (rest after : List ℕ) → AreFront pieces text rest → AreFront others text after
+    → HasNoFront rest → HasNoFront after → (pieces ≡ others) × (rest ≡ after)
+fronts-unique text [] [] rest after first second none nothingthing = (refl, sym first ∙ second)
+fronts-unique text [] (other ∷ others) rest after first (between, front, fronts) none nothing =
+    absurd (none other between (subst (λ t. IsFront other t between) first front))
+fronts-unique text (piece ∷ pieces) [] rest after (between, front, fronts) second none nothing =
+    absurd (nothing piece between (subst (λ t. IsFront piece t between) second front))
+fronts-unique text (piece ∷ pieces) (other ∷ others) rest after (between, front, fronts) (beyond, also, more) none nothing =
+    let one = front-unique text piece other between beyond front also in
+    let all = fronts-unique beyond pieces others rest after (subst (λ t. AreFront pieces t rest) one.one_rest fronts) more none nothing in
+    (let head = one.one_piece in let tail = all.0 in cc, all.1)
+
+-- a text has at most one reading
+pub reading-unique : (text : List ℕ) (tokens others : List Token) → IsReading text tokens → IsReading text others → tokens ≡ others
+reading-unique text tokens others (pieces, fronts, is) (more, also, same) =
+    let one = fronts-unique (drop (start_of text) text) pieces more [] [] fronts also front-nil front-nil in
+    is ∙ ap (tokens_at text (start_of text)) one.0 ∙ sym same
+
+-- a text with a bad place has no reading
+pub bad_place-reading : (text : List ℕ) (place : ℕ) (tokens : List Token) → IsBadPlace text place → IsReading text tokens → ⊥
+bad_place-reading text place tokens bad (pieces, fronts, is) =
+    let (before, led) = bad.before in
+    let one = fronts-unique (drop (start_of text) text) before pieces (drop place text) [] led fronts bad.no_piece front-nil in
+    let within = bad.within.1 in
+    omega (arith, ap length one.1, length-drop place text)
+
+-- a text has at most one bad place
+pub bad_place-unique : (text : List ℕ) (place other : ℕ) → IsBadPlace text place → IsBadPlace text other → place ≡ other
+bad_place-unique text place other bad also =
+    let (before, led) = bad.before in
+    let (pieces, fronts) = also.before in
+    let one = fronts-unique (drop (start_of text) text) before pieces (drop place text) (drop other text) led fronts bad.no_piece also.no_piece in
+    let within = bad.within.1 in
+    let beyond = also.within.1 in
+    omega (arith, ap length one.1, length-drop place text, length-drop other text)
