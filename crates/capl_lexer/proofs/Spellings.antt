@@ -18,7 +18,7 @@ use Rattle.capl_lexer.specs.declared.token.Tok.TheVariants as tok
 use Rattle.capl_lexer.proofs.WordLemmas.{word_spelling-injective}
 
 -- a test of `IsNameStart`
-abbrev is_name_start : ℕ → Bool
+abbrev pub is_name_start : ℕ → Bool
 is_name_start byte = cond (ltb byte 65) false (cond (ltb byte 91) true (cond (eqb byte 95) true (cond (ltb byte 97) false (ltb byte 123))))
 
 -- a test of `IsNamePart`
@@ -122,10 +122,10 @@ spelling-front bytes (tok.Num value ext) (number, value_is, inr (digits, x, some
 spelling-front bytes (tok.Str text) (is, plain) = record { first = 34; others = text ++ 34 ∷ []; is = is; begins = refl }
 
 -- the class of tokens that a byte begins: names and words, signs, numbers, strings
-abbrev class_of : ℕ → ℕ
+abbrev pub class_of : ℕ → ℕ
 class_of byte = cond (eqb byte 34) 3 (cond (is_name_start byte) 0 (cond (ltb byte 48) 1 (cond (ltb byte 58) 2 1)))
 
-abbrev class_of_token : Tok → ℕ
+abbrev pub class_of_token : Tok → ℕ
 class_of_token (tok.Name text) = 0
 class_of_token (tok.Word reserved) = 0
 class_of_token (tok.Sign some) = 1
@@ -135,13 +135,13 @@ class_of_token (tok.Str text) = 3
 class_at : (byte other class : ℕ) → other ∷ [] ≡ byte ∷ [] → class_of other ≡ class → class_of byte ≡ class
 class_at byte other class same is = let at : other ≡ byte = cc in subst (λ b. class_of b ≡ class) at is
 
-name_class : (byte : ℕ) → IsNameStart byte → class_of byte ≡ 0
+pub name_class : (byte : ℕ) → IsNameStart byte → class_of byte ≡ 0
 name_class byte start = grind (arith, nat_tests)
 
-digit_class : (byte : ℕ) → IsDigit byte → class_of byte ≡ 2
+pub digit_class : (byte : ℕ) → IsDigit byte → class_of byte ≡ 2
 digit_class byte digit = grind (arith, nat_tests)
 
-begins-class : (token : Tok) (byte : ℕ) → Begins token byte → class_of byte ≡ class_of_token token
+pub begins-class : (token : Tok) (byte : ℕ) → Begins token byte → class_of byte ≡ class_of_token token
 begins-class (tok.Name text) byte start = name_class byte start
 begins-class (tok.Word reserved) byte start = name_class byte start
 begins-class (tok.Sign sign.OpenBrace) byte is = class_at byte 123 1 is refl

@@ -2,3 +2,6 @@ pub mod Bytes
 pub mod Spelling
 pub mod Run
 pub mod Reading
+pub mod Base
+pub mod Front
+pub mod Position

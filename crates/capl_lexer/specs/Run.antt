@@ -14,6 +14,7 @@ IsInClass class.Digit byte = IsDigit byte
 IsInClass class.HexDigit byte = IsHexDigit byte
 IsInClass class.Mark byte = IsMark byte
 IsInClass class.Plain byte = IsPlain byte
+IsInClass class.Quote byte = byte ≡ 34
 
 -- the text has a first byte, and it is of the class
 abbrev pub IsFirstInClass : ByteClass → List ℕ → Type 0

@@ -20,6 +20,8 @@ pub(crate) enum ByteClass {
     Mark,
     /// What stands for itself in a string.
     Plain,
+    /// What stands before and after a string.
+    Quote,
 }
 
 impl ByteClass {
@@ -35,6 +37,7 @@ impl ByteClass {
             ByteClass::HexDigit => matches!(byte, b'0'..=b'9' | b'A'..=b'F' | b'a'..=b'f'),
             ByteClass::Mark => matches!(byte, b'x' | b'X'),
             ByteClass::Plain => !matches!(byte, b'"' | b'\\' | b'\n'),
+            ByteClass::Quote => byte == b'"',
         }
     }
 

@@ -7,6 +7,9 @@
 
 pub use token::{Sign, Tok, Token, Word};
 
+mod base;
 mod byte_class;
+mod front;
+mod position;
 mod token;
 mod words;
