@@ -1,6 +1,7 @@
-pub mod WordLemmas
-pub mod Runs
+mod WordLemmas
+mod Runs
 pub mod Spellings
 pub mod Readings
-pub mod Numbers
-pub mod FrontLemmas
+mod Numbers
+mod FrontLemmas
+mod Steps

@@ -5,3 +5,4 @@ pub mod Reading
 pub mod Base
 pub mod Front
 pub mod Position
+pub mod Refusal

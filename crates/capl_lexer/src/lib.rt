@@ -5,11 +5,13 @@
 //! columns, or the first place at which no piece begins.
 #![tactic(auto)]
 
+pub use lexer::{LexRefusal, lex};
 pub use token::{Sign, Tok, Token, Word};
 
 mod base;
 mod byte_class;
 mod front;
+mod lexer;
 mod position;
 mod token;
 mod words;

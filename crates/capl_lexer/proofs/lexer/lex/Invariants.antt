@@ -1,0 +1,13 @@
+use Rattle.std.proofs.Common.{length, ◌-◌, ◌≡◌}
+use Rattle.capl_lexer.specs.Position.{IsPositionIn}
+use Rattle.capl_lexer.proofs.Steps.{HasRead}
+use Rattle.capl_lexer.proofs.lexer.lex.Given as goal
+
+abbrev pub invariant-loop-position : goal.invariant-loop-position
+invariant-loop-position l = record {
+  at : IsPositionIn l.bytes l.position;
+  read : HasRead l.bytes l.position.place l.tokens.items;
+}
+
+abbrev pub decreases-loop-position : goal.decreases-loop-position
+decreases-loop-position l = length l.bytes - l.position.place
