@@ -1,10 +1,10 @@
 -- The longest token at the front of a text, class by class.
-use Rattle.std.proofs.Common.{◌≡◌, ◌≢◌, ◌<◌, ◌≤◌, ◌+◌, ◌-◌, ℕ, zero, suc, Bool, true, false, cond, List, [], ◌∷◌, ◌++◌, length, get_or, take, drop, All, inl, inr, refl, sym, ap, subst, ◌∙◌, arith, add-one, length-append, length-drop, drop-cons}
-use Rattle.std.specs.Prelude.{◌⊎◌, if◌then◌else◌}
+use Rattle.std.proofs.Common.{◌≡◌, ◌≢◌, ◌<◌, ◌≤◌, ◌+◌, ℕ, zero, suc, Bool, true, false, cond, List, [], ◌∷◌, ◌++◌, length, get_or, take, drop, All, inl, inr, refl, sym, ap, subst, ◌∙◌, arith, length-append, length-drop}
+use Rattle.std.specs.Prelude.{◌⊎◌}
 use Rattle.std.proofs.lemmas.Bool.{cases_lt}
-use Rattle.std.proofs.lemmas.List.{append_assoc, take-append-drop, take_more, drop_at, take_at, get_or_append_left, append_cancel_left, length-take-le, drop-drop}
-use Rattle.capl_lexer.specs.Bytes.{IsDigit, IsHexDigit, IsNameStart, IsNameFront, IsNamePart, IsMark, number_in}
-use Rattle.capl_lexer.specs.Spelling.{word_spelling, sign_spelling, IsName, IsMarked, IsDecimal, IsHexadecimal, number_of_64_bits, IsPlain, Spells}
+use Rattle.std.proofs.lemmas.List.{append_assoc, take_more, drop_at, get_or_append_left, length-take-le}
+use Rattle.capl_lexer.specs.Bytes.{IsDigit, IsHexDigit, IsNameStart, IsNamePart, IsMark, number_in}
+use Rattle.capl_lexer.specs.Spelling.{word_spelling, sign_spelling, IsMarked, IsDecimal, IsHexadecimal, number_of_64_bits, IsPlain, Spells}
 use Rattle.capl_lexer.specs.Run.{IsInClass, IsFirstInClass, IsRun}
 use Rattle.capl_lexer.specs.Reading.{IsLongest}
 use Rattle.capl_lexer.specs.Base.{IsBaseOf, IsHexadecimalFront, radix_of, prefix_of, digits_of}
@@ -13,13 +13,12 @@ use Rattle.capl_lexer.specs.declared.byte_class.ByteClass.{ByteClass}
 use Rattle.capl_lexer.specs.declared.byte_class.ByteClass.TheVariants as class
 use Rattle.capl_lexer.specs.declared.base.Base.{Base}
 use Rattle.capl_lexer.specs.declared.base.Base.TheVariants.{Ten, Sixteen}
-use Rattle.capl_lexer.specs.declared.front.Front.{Front}
 use Rattle.capl_lexer.specs.declared.token.Word.{Word}
 use Rattle.capl_lexer.specs.declared.token.Sign.{Sign}
 use Rattle.capl_lexer.specs.declared.token.Tok.{Tok}
 use Rattle.capl_lexer.specs.declared.token.Tok.TheVariants as tok
 use Rattle.capl_lexer.proofs.Runs.{run-le, run-exact}
-use Rattle.capl_lexer.proofs.Spellings.{Begins, HasNameForm, word-name_form, spelling-front, class_of, class_of_token, begins-class, name_class, digit_class, digit-mark, hex_digit-mark, marked_rest, marked-length, marked_at, mark-le-one, nonempty-length}
+use Rattle.capl_lexer.proofs.Spellings.{Begins, HasNameForm, word-name_form, spelling-front, class_of, class_of_token, begins-class, name_class, digit_class, digit-mark, hex_digit-mark, marked_rest, marked-length, marked_at, mark-le-one}
 
 -- the first byte of a text begins each token at its front
 pub front-begins : (text : List ℕ) (byte : ℕ) (others bytes after : List ℕ) (token : Tok) → text ≡ byte ∷ others → text ≡ bytes ++ after → Spells bytes token → Begins token byte
@@ -125,14 +124,15 @@ decimal_in_hexadecimal : (text : List ℕ) → HexadecimalFront text → (bytes 
     → All IsDigit digits → IsMarked bytes digits ext → length bytes ≤ 2
 decimal_in_hexadecimal text front bytes after digits ext split all is =
     elim (cases_lt 1 (length digits)) [
-      inl long ↦
-        let lengths = marked-length bytes digits ext is in
-        let within : 1 < length bytes = omega arith in
-        let in_text : get_or text 1 0 ≡ get_or bytes 1 0 = ap (λ b. get_or b 1 0) split ∙ get_or_append_left bytes after 0 1 within in
-        let is_x : get_or text 1 0 ≡ front.x = ap (λ b. get_or b 1 0) front.is in
-        let at : get_or digits 1 0 ≡ front.x = sym (marked_at bytes digits ext 1 is long) ∙ sym in_text ∙ is_x in
-        absurd (digit-mark front.x (subst IsDigit at (all 1 0 long)) front.is_mark)
-    | inr short ↦ omega (arith, mark-le-one ext, marked-length bytes digits ext is) ]
+      | inl long ↦
+          let lengths = marked-length bytes digits ext is in
+          let within : 1 < length bytes = omega arith in
+          let in_text : get_or text 1 0 ≡ get_or bytes 1 0 = ap (λ b. get_or b 1 0) split ∙ get_or_append_left bytes after 0 1 within in
+          let is_x : get_or text 1 0 ≡ front.x = ap (λ b. get_or b 1 0) front.is in
+          let at : get_or digits 1 0 ≡ front.x = sym (marked_at bytes digits ext 1 is long) ∙ sym in_text ∙ is_x in
+          absurd (digit-mark front.x (subst IsDigit at (all 1 0 long)) front.is_mark)
+      | inr short ↦ omega (arith, mark-le-one ext, marked-length bytes digits ext is)
+    ]
 
 -- a hexadecimal number at the front makes the front hexadecimal
 hexadecimal_split : (text bytes after digits : List ℕ) (x : ℕ) (ext : Bool) → text ≡ bytes ++ after → digits ≢ [] → All IsHexDigit digits → IsMark x
@@ -217,8 +217,13 @@ number_spelling text Ten behind digits rest count ext size is scanned =
     let first = subst (IsFirstInClass class.Digit) (sym is_text) scanned.start in
     let some = positive_take behind count scanned.run.within (run-positive class.Digit behind count scanned.run first) in
     let same : take (count + cond ext 1 0) behind ≡ take size text = ap (take (count + cond ext 1 0)) is_text ∙ ap (λ n. take n text) (sym sizes) in
-    inl (digits, (λ none. some (sym scanned.is_digits ∙ none)), subst (All IsDigit) (sym scanned.is_digits) scanned.run.inside, refl,
-      subst (λ b. IsMarked b digits ext) same marked)
+    inl (
+      digits,
+      (λ none. some (sym scanned.is_digits ∙ none)),
+      subst (All IsDigit) (sym scanned.is_digits) scanned.run.inside,
+      refl,
+      subst (λ b. IsMarked b digits ext) same marked,
+    )
 number_spelling text Sixteen behind digits rest count ext size is scanned =
     let marked = scanned_digits text Sixteen behind digits rest count ext scanned in
     let front = hexadecimal_front text scanned.is_base in
@@ -227,9 +232,16 @@ number_spelling text Sixteen behind digits rest count ext size is scanned =
     let some = positive_take behind count scanned.run.within (run-positive class.HexDigit behind count scanned.run first) in
     let whole : text ≡ 48 ∷ front.x ∷ behind = front.is ∙ ap (λ b. 48 ∷ front.x ∷ b) (sym scanned.is_behind) in
     let same : 48 ∷ front.x ∷ take (count + cond ext 1 0) behind ≡ take size text =
-      ap (λ n. take n (48 ∷ front.x ∷ behind)) (sym sizes) ∙ ap (take size) (sym whole) in
-    inr (digits, front.x, (λ none. some (sym scanned.is_digits ∙ none)), subst (All IsHexDigit) (sym scanned.is_digits) scanned.run.inside, front.is_mark, refl,
-      subst (λ b. IsMarked b (48 ∷ front.x ∷ digits) ext) same (prefixed (take (count + cond ext 1 0) behind) digits front.x ext marked))
+    ap (λ n. take n (48 ∷ front.x ∷ behind)) (sym sizes) ∙ ap (take size) (sym whole) in
+    inr (
+      digits,
+      front.x,
+      (λ none. some (sym scanned.is_digits ∙ none)),
+      subst (All IsHexDigit) (sym scanned.is_digits) scanned.run.inside,
+      front.is_mark,
+      refl,
+      subst (λ b. IsMarked b (48 ∷ front.x ∷ digits) ext) same (prefixed (take (count + cond ext 1 0) behind) digits front.x ext marked),
+    )
 
 -- a scanned number is the token at the front
 pub number_front : (text : List ℕ) (base : Base) (behind digits rest : List ℕ) (count : ℕ) (ext : Bool) (size : ℕ) → size ≡ prefix_of base + count + cond ext 1 0
@@ -282,12 +294,14 @@ string_front text inside content count first run closed is =
     let sizes : count + 2 ≡ suc (count + 1) = omega arith in
     record {
       within = omega (arith, ap length first);
-      spells = (ap (λ n. take n text) sizes ∙ ap (take (suc (count + 1))) first ∙ ap (λ b. 34 ∷ b) closing ∙ ap (λ b. 34 ∷ b ++ 34 ∷ []) (sym is),
-        subst (All IsPlain) (sym is) run.inside);
+      spells = (
+        ap (λ n. take n text) sizes ∙ ap (take (suc (count + 1))) first ∙ ap (λ b. 34 ∷ b) closing ∙ ap (λ b. 34 ∷ b ++ 34 ∷ []) (sym is),
+        subst (All IsPlain) (sym is) run.inside,
+      );
       longest = λ bytes after token split spells.
-        let (inner, spelled, plain) = string_only text inside bytes after token first split spells in
-        let (ends, _) = string_split text inside count bytes after inner first run split spelled plain in
-        omega (arith, ap length spelled, length-append inner (34 ∷ []));
+          let (inner, spelled, plain) = string_only text inside bytes after token first split spells in
+          let (ends, _) = string_split text inside count bytes after inner first run split spelled plain in
+          omega (arith, ap length spelled, length-append inner (34 ∷ []));
     }
 
 -- Signs, and what begins no token.
@@ -316,9 +330,9 @@ other_none byte text start digit quote none bytes after token split spells =
 pub sign_front : (byte : ℕ) (text : List ℕ) (some : Sign) → (IsNameStart byte → ⊥) → (IsDigit byte → ⊥) → byte ≢ 34 → byte ∷ [] ≡ sign_spelling some
     → IsTokenFront (byte ∷ text) (record { tok = tok.Sign some; length = 1 })
 sign_front byte text some start digit quote is = record {
-    within = omega arith;
-    spells = is;
-    longest = λ bytes after token split spells.
+  within = omega arith;
+  spells = is;
+  longest = λ bytes after token split spells.
       let (other, spelled, first) = sign_only byte text bytes after token start digit quote split spells in
       omega (arith, ap length (spelled ∙ first));
-  }
+}

@@ -1,5 +1,5 @@
 -- Numbers of digits, and where they pass 64 bits.
-use Rattle.std.proofs.Common.{◌≡◌, ◌<◌, ◌≤◌, ◌+◌, ◌*◌, ◌^◌, ℕ, List, [], ◌∷◌, ◌++◌, length, get_or, take, drop, Option, Some, None, refl, sym, ap, subst, ◌∙◌, arith}
+use Rattle.std.proofs.Common.{◌≡◌, ◌<◌, ◌≤◌, ◌+◌, ◌*◌, ◌^◌, ℕ, List, [], ◌∷◌, length, get_or, take, drop, Some, None, sym, ap, ◌∙◌, arith}
 use Rattle.std.specs.List.{fold}
 use Rattle.std.proofs.lemmas.Bool.Decides.{nat_tests}
 use Rattle.std.proofs.lemmas.List.{take_more, take-append-drop}
@@ -30,9 +30,9 @@ number_in-more base digits k within =
 pub number_in-take-le : (base : ℕ) (digits : List ℕ) (k : ℕ) → 1 ≤ base → number_in base (take k digits) ≤ number_in base digits
 number_in-take-le base digits k some =
     let whole : number_in base digits ≡ fold (extended base) (number_in base (take k digits)) (drop k digits) =
-      ap (number_in base) (sym (take-append-drop k digits)) ∙ fold-append (extended base) 0 (take k digits) (drop k digits) in
+    ap (number_in base) (sym (take-append-drop k digits)) ∙ fold-append (extended base) 0 (take k digits) (drop k digits) in
     let grows : number_in base (take k digits) ≤ fold (extended base) (number_in base (take k digits)) (drop k digits) =
-      fold-grows base (number_in base (take k digits)) (drop k digits) some in
+    fold-grows base (number_in base (take k digits)) (drop k digits) some in
     omega (arith, whole, grows)
 
 -- a number that passes 64 bits is none of them

@@ -1,12 +1,9 @@
 -- A text has at most one reading, and none where it has a bad place.
-use Rattle.std.proofs.Common.{◌≡◌, ◌≢◌, ◌<◌, ◌≤◌, ◌+◌, ◌-◌, ℕ, Bool, true, false, cond, List, [], ◌∷◌, ◌++◌, length, get_or, take, drop, All, inl, inr, refl, sym, ap, subst, ◌∙◌, arith, length-append, length-drop}
+use Rattle.std.proofs.Common.{◌≡◌, ℕ, List, [], ◌∷◌, ◌++◌, length, take, drop, refl, sym, ap, subst, ◌∙◌, arith, length-drop}
 use Rattle.std.proofs.lemmas.List.{append_cancel_left, take_at}
-use Rattle.std.proofs.lemmas.Bool.Decides.{nat_tests}
-use Rattle.std.specs.Prelude.{◌⊎◌}
-use Rattle.capl_lexer.specs.Bytes.{IsBlank, IsDigit, IsNameStart}
-use Rattle.capl_lexer.specs.Spelling.{Spells, sign_spelling}
-use Rattle.capl_lexer.specs.Reading.{Piece, Blank, Lexeme, IsLongest, IsFront, AreFront, start_of, tokens_at, IsReading, IsBadPlace}
-use Rattle.capl_lexer.specs.declared.token.Sign.{Sign}
+use Rattle.capl_lexer.specs.Bytes.{IsBlank}
+use Rattle.capl_lexer.specs.Spelling.{Spells}
+use Rattle.capl_lexer.specs.Reading.{Piece, Blank, Lexeme, IsFront, AreFront, start_of, tokens_at, IsReading, IsBadPlace}
 use Rattle.capl_lexer.specs.declared.token.Sign.TheVariants as sign
 use Rattle.capl_lexer.specs.declared.token.Tok.{Tok}
 use Rattle.capl_lexer.specs.declared.token.Tok.TheVariants as tok

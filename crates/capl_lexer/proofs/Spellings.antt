@@ -1,14 +1,13 @@
 -- What spellings begin with, and that bytes spell at most one token.
-use Rattle.std.proofs.Common.{◌≡◌, ◌≢◌, ◌<◌, ◌≤◌, ◌+◌, ℕ, Bool, true, false, cond, List, [], ◌∷◌, ◌++◌, length, get_or, take, drop, All, Option, Some, None, inl, inr, ⊎_elim, refl, sym, ap, subst, ◌∙◌, arith, eqb, ltb, length-append, add-zero}
-use Rattle.std.specs.Prelude.{◌⊎◌, codes, ◌&&◌}
+use Rattle.std.proofs.Common.{◌≡◌, ◌≢◌, ◌<◌, ◌≤◌, ◌+◌, ℕ, Bool, true, false, cond, List, [], ◌∷◌, ◌++◌, length, get_or, take, All, inl, inr, refl, sym, ap, subst, ◌∙◌, arith, eqb, ltb, length-append, add-zero}
+use Rattle.std.specs.Prelude.{◌⊎◌, ◌&&◌}
 use Rattle.std.specs.List.{list_all}
-use Rattle.std.proofs.lemmas.Bool.{and_parts, ltb-true, ltb-false, eqb-true}
+use Rattle.std.proofs.lemmas.Bool.{and_parts}
 use Rattle.std.proofs.lemmas.Bool.Decides.{nat_tests}
 use Rattle.std.proofs.lemmas.List.{append_cancel_right, take_at, get_or_at, get_or_append_left}
 use Rattle.std.proofs.lemmas.List.Elements.{All-cons, All-nil}
-use Rattle.std.proofs.lemmas.Grind.{common_steps, elements}
-use Rattle.capl_lexer.specs.Bytes.{IsDigit, IsHexDigit, IsNameStart, IsNameFront, IsNamePart, IsMark, IsBlank, number_in}
-use Rattle.capl_lexer.specs.Spelling.{word_spelling, sign_spelling, IsName, IsMarked, IsDecimal, IsHexadecimal, number_of_64_bits, IsPlain, Spells}
+use Rattle.capl_lexer.specs.Bytes.{IsDigit, IsHexDigit, IsNameStart, IsNameFront, IsNamePart, IsMark, number_in}
+use Rattle.capl_lexer.specs.Spelling.{word_spelling, sign_spelling, IsMarked, IsDecimal, IsHexadecimal, number_of_64_bits, Spells}
 use Rattle.capl_lexer.specs.declared.token.Word.{Word}
 use Rattle.capl_lexer.specs.declared.token.Word.TheVariants as word
 use Rattle.capl_lexer.specs.declared.token.Sign.{Sign}

@@ -1,5 +1,5 @@
 -- How a reading grows piece by piece, from the beginning of a text to its end or its bad place.
-use Rattle.std.proofs.Common.{◌≡◌, ◌<◌, ◌≤◌, ◌+◌, ◌-◌, ℕ, zero, suc, List, [], ◌∷◌, ◌++◌, length, get_or, take, drop, refl, sym, ap, subst, ◌∙◌, arith, eqb, length-append, length-drop}
+use Rattle.std.proofs.Common.{◌≡◌, ◌<◌, ◌≤◌, ◌+◌, ◌-◌, ℕ, zero, suc, List, [], ◌∷◌, ◌++◌, length, get_or, take, drop, refl, sym, ap, subst, ◌∙◌, arith, eqb, length-drop}
 use Rattle.std.specs.Prelude.{not}
 use Rattle.std.specs.List.{suffix_len}
 use Rattle.std.proofs.lemmas.List.Sums.{count_by-le-length}
@@ -72,38 +72,40 @@ read_token text place tokens token read at =
     let to = at.to in
     let sum : place + count ≡ token.to = omega arith in
     let split : drop place text ≡ bytes ++ drop token.to text =
-      sym (take-append-drop count (drop place text)) ∙ ap (λ b. bytes ++ b) (drop-drop count place text ∙ ap (λ n. drop n text) sum) in
+    sym (take-append-drop count (drop place text)) ∙ ap (λ b. bytes ++ b) (drop-drop count place text ∙ ap (λ n. drop n text) sum) in
     let size : length bytes ≡ count = length-take-le count (drop place text) (omega (arith, length-drop place text)) in
     let piece = Lexeme bytes token.tok in
     let ends : place + length bytes ≡ token.to = omega arith in
     let is_token : token ≡ record { tok = token.tok; from = place; to = place + length bytes; line = line_at text place; column = column_at text place } =
-      token_is token place (place + length bytes) (line_at text place) (column_at text place) at.from (sym ends) at.line at.column in
+    token_is token place (place + length bytes) (line_at text place) (column_at text place) at.from (sym ends) at.line at.column in
     record {
       pieces = read.pieces ++ piece ∷ [];
       fronts = fronts_push read.pieces piece (drop (start_of text) text) (drop place text) (drop token.to text) read.fronts
-        (at.spells, split, subst (IsLongest (drop place text)) (sym size) at.longest);
+          (at.spells, split, subst (IsLongest (drop place text)) (sym size) at.longest);
       goes_on = λ more.
-        ap (tokens_at text (start_of text)) (append_assoc read.pieces (piece ∷ []) more) ∙ read.goes_on (piece ∷ more)
-        ∙ ap (λ t. tokens ++ t ∷ tokens_at text (place + length bytes) more) (sym is_token)
-        ∙ ap (λ n. tokens ++ token ∷ tokens_at text n more) ends
-        ∙ sym (append_assoc tokens (token ∷ []) (tokens_at text token.to more));
+          ap (tokens_at text (start_of text)) (append_assoc read.pieces (piece ∷ []) more) ∙ read.goes_on (piece ∷ more)
+          ∙ ap (λ t. tokens ++ t ∷ tokens_at text (place + length bytes) more) (sym is_token)
+          ∙ ap (λ n. tokens ++ token ∷ tokens_at text n more) ends
+          ∙ sym (append_assoc tokens (token ∷ []) (tokens_at text token.to more));
       start = let start = read.start in omega arith;
     }
 
 -- at the end of the text all of it is read
 pub reading_from : (text : List ℕ) (place : ℕ) (tokens : List Token) → HasRead text place tokens → length text ≤ place → IsReading text tokens
-reading_from text place tokens read end =
-    (read.pieces, subst (AreFront read.pieces (drop (start_of text) text)) (drop_all place text end) read.fronts,
-      sym (append-nil tokens) ∙ sym (read.goes_on []) ∙ ap (tokens_at text (start_of text)) (append-nil read.pieces))
+reading_from text place tokens read end = (
+  read.pieces,
+  subst (AreFront read.pieces (drop (start_of text) text)) (drop_all place text end) read.fronts,
+  sym (append-nil tokens) ∙ sym (read.goes_on []) ∙ ap (tokens_at text (start_of text)) (append-nil read.pieces),
+)
 
 -- a place that is reached and at which no piece begins is bad
 pub bad_place_from : (text : List ℕ) (place : ℕ) (tokens : List Token) → HasRead text place tokens → place < length text
     → (IsFirstInClass class.Blank (drop place text) → ⊥) → HasNoToken (drop place text) → IsBadPlace text place
 bad_place_from text place tokens read within no_blank no_token = record {
-    before = (read.pieces, read.fronts);
-    within = (read.start, within);
-    no_piece = nothing;
-  }
+  before = (read.pieces, read.fronts);
+  within = (read.start, within);
+  no_piece = nothing;
+}
   where
     nothing : (piece : Piece) (rest : List ℕ) → IsFront piece (drop place text) rest → ⊥
     nothing (Blank byte) rest (blank, split) = no_blank (subst (IsFirstInClass class.Blank) (sym split) blank)

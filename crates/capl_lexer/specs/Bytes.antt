@@ -1,5 +1,5 @@
 -- The classes of bytes that tokens are made of.
-use Rattle.std.specs.Prelude.{◌≡◌, ◌≢◌, ◌≤◌, ◌-◌, ◌+◌, ◌*◌, ℕ, List, [], ◌∷◌, ◌⊎◌, fold, nat_lt, if◌then◌else◌}
+use Rattle.std.specs.Prelude.{◌≡◌, ◌≤◌, ◌-◌, ◌+◌, ◌*◌, ℕ, List, [], ◌∷◌, ◌⊎◌, fold, nat_lt, if◌then◌else◌}
 
 -- a tab, a line end, a vertical tab, a form feed, a carriage return or a space
 abbrev pub IsBlank : ℕ → Type 0

@@ -1,5 +1,5 @@
 -- The reading of a whole text into pieces.
-use Rattle.std.specs.Prelude.{◌≡◌, ◌≢◌, ◌+◌, ◌<◌, ◌≤◌, ℕ, List, [], ◌∷◌, ◌++◌, length, take, drop, count_by, nat_eq, ◌==◌, if◌then◌else◌}
+use Rattle.std.specs.Prelude.{◌≡◌, ◌+◌, ◌<◌, ◌≤◌, ℕ, List, [], ◌∷◌, ◌++◌, length, take, drop, count_by, nat_eq, ◌==◌, if◌then◌else◌}
 use Rattle.std.specs.List.{after_last, starts_with}
 use Rattle.capl_lexer.specs.Bytes.{IsBlank}
 use Rattle.capl_lexer.specs.Spelling.{Spells}

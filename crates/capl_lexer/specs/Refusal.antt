@@ -1,5 +1,5 @@
 -- What a refusal tells of its text.
-use Rattle.std.specs.Prelude.{◌≡◌, ◌+◌, ◌≤◌, ◌-◌, ℕ, List, length, take, drop, ⊤}
+use Rattle.std.specs.Prelude.{◌≡◌, ◌≤◌, ◌-◌, ℕ, List, length, take, drop, ⊤}
 use Rattle.capl_lexer.specs.Spelling.{Spells}
 use Rattle.capl_lexer.specs.Reading.{IsReading, IsBadPlace, IsLongest, line_at, column_at}
 use Rattle.capl_lexer.specs.declared.token.Token.{Token}

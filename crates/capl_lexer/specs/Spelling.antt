@@ -1,5 +1,5 @@
 -- How each token is spelled.
-use Rattle.std.specs.Prelude.{◌≡◌, ◌≢◌, ◌<◌, ◌^◌, ℕ, Bool, true, false, List, [], ◌∷◌, ◌++◌, length, All, Option, Some, None, ◌⊎◌, nat_lt, if◌then◌else◌, codes}
+use Rattle.std.specs.Prelude.{◌≡◌, ◌≢◌, ◌^◌, ℕ, Bool, true, false, List, [], ◌∷◌, ◌++◌, All, Option, Some, None, ◌⊎◌, nat_lt, if◌then◌else◌, codes}
 use Rattle.capl_lexer.specs.Bytes.{IsDigit, IsHexDigit, IsNameFront, IsNamePart, IsMark, number_in}
 use Rattle.capl_lexer.specs.declared.token.Word.{Word}
 use Rattle.capl_lexer.specs.declared.token.Word.TheVariants as word

@@ -100,3 +100,6 @@ fn token_at(alloc: Global, bytes: &[u8], position: Position) -> Result<Option<To
         column: position.column as u32,
     }))
 }
+
+#[cfg(test)]
+mod tests;

@@ -1,8 +1,8 @@
-use Rattle.std.proofs.Common.{◌≡◌, ℕ, ◌-◌, ◌+◌, Bool, true, false, cond, List, [], ◌∷◌, drop, take, length, refl, ap, ◌∙◌, sym, subst, All, arith, Option}
+use Rattle.std.proofs.Common.{◌≡◌, ℕ, ◌-◌, ◌+◌, Bool, true, false, cond, List, drop, take, length, refl, ap, ◌∙◌, sym, subst, All, arith, Option}
 use Rattle.std.specs.Int.{from_bool}
 use Rattle.std.proofs.lemmas.List.{take_rest}
 use Rattle.capl_lexer.specs.Run.{IsFirstInClass, IsRun, IsInClass}
-use Rattle.capl_lexer.specs.Base.{prefix_of, digits_of, radix_of}
+use Rattle.capl_lexer.specs.Base.{prefix_of}
 use Rattle.capl_lexer.specs.Front.{IsTokenFront}
 use Rattle.capl_lexer.specs.declared.byte_class.ByteClass.{ByteClass}
 use Rattle.capl_lexer.specs.declared.byte_class.ByteClass.TheVariants as class
@@ -29,17 +29,17 @@ returns c =
     let behind : List ℕ = take (length text - prefix) (drop prefix text) in
     let rest_is : take (length behind - count) (drop count behind) ≡ drop count behind = take_rest behind count in
     let size : prefix + count + c.from.result ≡ prefix_of base + count + cond ext 1 0 =
-      omega (arith, c.prefix-from.ensures, c.from.ensures, from_bool-cond ext) in
+    omega (arith, c.prefix-from.ensures, c.from.ensures, from_bool-cond ext) in
     let found = number_front text base behind (take count behind) (drop count behind) count ext (prefix + count + c.from.result) size
-      record {
-        start = c.requires;
-        is_base = c.at_front-base.ensures;
-        is_behind = take_rest text prefix ∙ ap (λ n. drop n text) c.prefix-from.ensures;
-        run = subst (λ kind. IsRun kind behind count) c.digits.ensures c.run-count.ensures;
-        is_digits = refl;
-        is_rest = refl;
-        has_mark = λ first. c.begins-ext.ensures.1 (subst (IsFirstInClass class.Mark) (sym rest_is) first);
-        is_marked = λ marked. subst (IsFirstInClass class.Mark) rest_is (c.begins-ext.ensures.0 marked);
-      } in
+    record {
+      start = c.requires;
+      is_base = c.at_front-base.ensures;
+      is_behind = take_rest text prefix ∙ ap (λ n. drop n text) c.prefix-from.ensures;
+      run = subst (λ kind. IsRun kind behind count) c.digits.ensures c.run-count.ensures;
+      is_digits = refl;
+      is_rest = refl;
+      has_mark = λ first. c.begins-ext.ensures.1 (subst (IsFirstInClass class.Mark) (sym rest_is) first);
+      is_marked = λ marked. subst (IsFirstInClass class.Mark) rest_is (c.begins-ext.ensures.0 marked);
+    } in
     subst (λ (value : Option ℕ). IsTokenFront text (record { tok = tok.Num value ext; length = prefix + count + c.from.result }))
     (sym c.number-value.ensures) found

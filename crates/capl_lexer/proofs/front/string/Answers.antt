@@ -1,4 +1,4 @@
-use Rattle.std.proofs.Common.{◌≡◌, ℕ, ◌-◌, List, [], ◌∷◌, drop, take, length, false, refl, ap, ◌∙◌, sym, subst, IsTrue}
+use Rattle.std.proofs.Common.{◌≡◌, ℕ, ◌-◌, List, [], ◌∷◌, drop, take, length, ap, ◌∙◌, sym, subst}
 use Rattle.std.proofs.lemmas.List.{take_rest}
 use Rattle.std.proofs.lemmas.Bool.{iff_false}
 use Rattle.capl_lexer.specs.Run.{IsFirstInClass, IsRun}

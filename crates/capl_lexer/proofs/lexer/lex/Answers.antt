@@ -1,8 +1,7 @@
-use Rattle.std.proofs.Common.{◌≡◌, ℕ, ◌-◌, ◌+◌, ◌<◌, List, ◌++◌, [], ◌∷◌, drop, take, length, refl, ap, ◌∙◌, sym, subst, arith, Option, MatchOption}
+use Rattle.std.proofs.Common.{◌≡◌, ◌++◌, [], ◌∷◌, drop, sym, subst, arith, Option, MatchOption}
 use Rattle.std.proofs.lemmas.List.{take_rest}
 use Rattle.std.proofs.lemmas.Bool.{iff_false}
 use Rattle.capl_lexer.specs.Run.{IsFirstInClass}
-use Rattle.capl_lexer.specs.Reading.{IsReading, IsBadPlace}
 use Rattle.capl_lexer.specs.Front.{HasNoToken}
 use Rattle.capl_lexer.specs.Refusal.{IsTokenAt}
 use Rattle.capl_lexer.specs.declared.byte_class.ByteClass.TheVariants as class
@@ -19,7 +18,7 @@ loop-position-preserved-then-begins c =
     record {
       at = c.after-position.ensures.at;
       read = subst (λ n. HasRead text n c.loop-position.tokens.items) (sym c.after-position.ensures.place)
-        (read_blank text place c.loop-position.tokens.items c.loop-position.invariant.read c.loop-position-test.true blank);
+          (read_blank text place c.loop-position.tokens.items c.loop-position.invariant.read c.loop-position-test.true blank);
     }
 
 pub overflow_cast-result : goal.overflow_cast-result
@@ -33,7 +32,7 @@ returns-in_default-clause-refused c = λ tokens reading.
     let text = c.args.bytes.now in
     let place = c.loop-position.position.place in
     let no_blank = λ (blank : IsFirstInClass class.Blank (drop place text)).
-      iff_false c.begins.ensures c.if-begins.false (subst (IsFirstInClass class.Blank) (sym (take_rest text place)) blank) in
+    iff_false c.begins.ensures c.if-begins.false (subst (IsFirstInClass class.Blank) (sym (take_rest text place)) blank) in
     let no_token = subst (λ (found : Option Token). MatchOption found (HasNoToken (drop place text)) (IsTokenAt text place)) c.in_default.is c.in_ok-token.ensures in
     bad_place-reading text place tokens
     (bad_place_from text place c.loop-position.tokens.items c.loop-position.invariant.read c.loop-position-test.true no_blank no_token) reading
@@ -52,12 +51,12 @@ loop-position-preserved c =
     let token = c.in-Some.token in
     let at = subst (λ (found : Option Token). MatchOption found (HasNoToken (drop place text)) (IsTokenAt text place)) c.in-Some.is c.in_ok-token.ensures in
     let to : c.after-position-in-loop-position.result.place ≡ token.to =
-      omega (arith, token_at-positive text place token at, at.from, c.after-position-in-loop-position.ensures.place) in
+    omega (arith, token_at-positive text place token at, at.from, c.after-position-in-loop-position.ensures.place) in
     let read = read_token text place c.loop-position.tokens.items token c.loop-position.invariant.read at in
     record {
       at = c.after-position-in-loop-position.ensures.at;
       read = subst (HasRead text c.after-position-in-loop-position.result.place) (sym c.in_ok-push.ensures.items)
-        (subst (λ n. HasRead text n (c.loop-position.tokens.items ++ token ∷ [])) (sym to) read);
+          (subst (λ n. HasRead text n (c.loop-position.tokens.items ++ token ∷ [])) (sym to) read);
     }
 
 pub returns-clause-reading : goal.returns-clause-reading

@@ -1,4 +1,4 @@
-use Rattle.std.proofs.Common.{length, ◌-◌, ◌≡◌}
+use Rattle.std.proofs.Common.{length, ◌-◌}
 use Rattle.capl_lexer.specs.Position.{IsPositionIn}
 use Rattle.capl_lexer.proofs.Steps.{HasRead}
 use Rattle.capl_lexer.proofs.lexer.lex.Given as goal

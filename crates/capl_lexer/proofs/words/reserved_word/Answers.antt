@@ -1,4 +1,4 @@
-use Rattle.std.proofs.Common.{rules, tests, ◌≡◌, MatchOption, option_map, Option, Some, None, refl, sym, ◌∙◌}
+use Rattle.std.proofs.Common.{rules, tests, ◌≡◌, option_map, Option, Some, None, refl, sym, ◌∙◌}
 use Rattle.std.specs.Str.{bytes_eq}
 use Rattle.std.proofs.lemmas.Iterator.{YieldsList-from_slice}
 use Rattle.std.proofs.lemmas.Iterator.Consumers.{YieldsList-from_copied}
@@ -16,6 +16,6 @@ option_map-id None = refl
 pub returns : goal.returns
 returns c =
     let found : option_map (λ (word : Word). word) c.find.result ≡ word_of c.args.bytes.now =
-      find_from_yields_List (λ word. bytes_eq (word_spelling word) c.args.bytes.now) _ _ c.find.result c.find.ensures.ran
-        (YieldsList-from_copied (YieldsList-from_slice ALL cc)) (λ x b q k. search (rules, tests)) in
+    find_from_yields_List (λ word. bytes_eq (word_spelling word) c.args.bytes.now) _ _ c.find.result c.find.ensures.ran
+    (YieldsList-from_copied (YieldsList-from_slice ALL cc)) (λ x b q k. search (rules, tests)) in
     rw (sym (option_map-id c.find.result) ∙ found) (word_of-sound c.args.bytes.now)

@@ -1,7 +1,6 @@
-use Rattle.std.proofs.Common.{◌≡◌, ◌<◌, ◌^◌, ◌≤◌, ◌+◌, ◌*◌, ℕ, length, take, get_or, sym, ap, ◌∙◌, arith, refl}
+use Rattle.std.proofs.Common.{◌≡◌, ◌^◌, ◌≤◌, ◌+◌, ◌*◌, take, ap, ◌∙◌, arith}
 use Rattle.std.proofs.lemmas.List.{take_all}
-use Rattle.std.proofs.Math.Nat.{mul-le-mul_left}
-use Rattle.capl_lexer.specs.Bytes.{digit_value, number_in}
+use Rattle.capl_lexer.specs.Bytes.{number_in}
 use Rattle.capl_lexer.specs.Spelling.{number_of_64_bits}
 use Rattle.capl_lexer.specs.Base.{radix_of}
 use Rattle.capl_lexer.specs.declared.base.Base.{Base}
@@ -19,7 +18,7 @@ returns-in_err-checked_mul c =
     let more = number_in-more base c.args.digits.now c.loop-digit.digit-index c.loop-digit-test.true in
     let whole = number_in-take-le base c.args.digits.now (c.loop-digit.digit-index + 1) (radix_of-positive c.args.self) in
     let same : c.loop-digit.number * c.radix.result ≡ number_in base (take c.loop-digit.digit-index c.args.digits.now) * base =
-      ap (λ n. n * c.radix.result) c.loop-digit.invariant.is_number ∙ ap (λ n. number_in base (take c.loop-digit.digit-index c.args.digits.now) * n) c.radix.ensures in
+    ap (λ n. n * c.radix.result) c.loop-digit.invariant.is_number ∙ ap (λ n. number_in base (take c.loop-digit.digit-index c.args.digits.now) * n) c.radix.ensures in
     let above : 2 ^ 64 ≤ number_in base c.args.digits.now = omega (arith, c.in_err-checked_mul.ensures) in
     c.from_residual.ensures ∙ number_of_64_bits-above (number_in base c.args.digits.now) above
 
@@ -29,9 +28,9 @@ returns-in_err-number c =
     let more = number_in-more base c.args.digits.now c.loop-digit.digit-index c.loop-digit-test.true in
     let whole = number_in-take-le base c.args.digits.now (c.loop-digit.digit-index + 1) (radix_of-positive c.args.self) in
     let same : c.loop-digit.number * c.radix.result ≡ number_in base (take c.loop-digit.digit-index c.args.digits.now) * base =
-      ap (λ n. n * c.radix.result) c.loop-digit.invariant.is_number ∙ ap (λ n. number_in base (take c.loop-digit.digit-index c.args.digits.now) * n) c.radix.ensures in
+    ap (λ n. n * c.radix.result) c.loop-digit.invariant.is_number ∙ ap (λ n. number_in base (take c.loop-digit.digit-index c.args.digits.now) * n) c.radix.ensures in
     let above : 2 ^ 64 ≤ number_in base c.args.digits.now =
-      omega (arith, c.in_err-number.ensures, c.in_ok-checked_mul.ensures, c.value_of.ensures) in
+    omega (arith, c.in_err-number.ensures, c.in_ok-checked_mul.ensures, c.value_of.ensures) in
     c.from_residual-in_err-number.ensures ∙ number_of_64_bits-above (number_in base c.args.digits.now) above
 
 pub returns : goal.returns

@@ -1,8 +1,7 @@
-use Rattle.std.proofs.Common.{◌≡◌, ℕ, List, All, take, drop, length, [], get_or, arith, refl, subst}
+use Rattle.std.proofs.Common.{◌≡◌, ℕ, List, All, take, drop, length, [], arith, subst}
 use Rattle.std.proofs.lemmas.List.{drop_all}
 use Rattle.std.proofs.lemmas.List.Elements.{All-more}
-use Rattle.std.proofs.Math.Nat.{le_antisymm}
-use Rattle.capl_lexer.specs.Run.{IsInClass, IsFirstInClass, IsRun}
+use Rattle.capl_lexer.specs.Run.{IsInClass, IsFirstInClass}
 use Rattle.capl_lexer.proofs.byte_class.ByteClass.run.Goals as goal
 
 pub loop-place-preserved : goal.loop-place-preserved
