@@ -21,7 +21,8 @@ use Rattle.capl_lexer.proofs.Runs.{run-le, run-exact}
 use Rattle.capl_lexer.proofs.Spellings.{Begins, HasNameForm, word-name_form, spelling-front, class_of, class_of_token, begins-class, name_class, digit_class, digit-mark, hex_digit-mark, marked_rest, marked-length, marked_at, mark-le-one}
 
 -- the first byte of a text begins each token at its front
-pub front-begins : (text : List ℕ) (byte : ℕ) (others bytes after : List ℕ) (token : Tok) → text ≡ byte ∷ others → text ≡ bytes ++ after → Spells bytes token → Begins token byte
+pub front-begins : (text : List ℕ) (byte : ℕ) (others bytes after : List ℕ) (token : Tok)
+    → text ≡ byte ∷ others → text ≡ bytes ++ after → Spells bytes token → Begins token byte
 front-begins text byte others bytes after token first split spells =
     let front = spelling-front bytes token spells in
     let whole : byte ∷ others ≡ front.first ∷ front.others ++ after = sym first ∙ split ∙ ap (λ b. b ++ after) front.is in
@@ -29,17 +30,22 @@ front-begins text byte others bytes after token first split spells =
     subst (Begins token) same front.begins
 
 -- the class of a token at the front is that of the first byte
-pub front-class : (text : List ℕ) (byte : ℕ) (others bytes after : List ℕ) (token : Tok) → text ≡ byte ∷ others → text ≡ bytes ++ after → Spells bytes token → class_of byte ≡ class_of_token token
+pub front-class : (text : List ℕ) (byte : ℕ) (others bytes after : List ℕ) (token : Tok)
+    → text ≡ byte ∷ others → text ≡ bytes ++ after → Spells bytes token
+    → class_of byte ≡ class_of_token token
 front-class text byte others bytes after token first split spells =
     begins-class token byte (front-begins text byte others bytes after token first split spells)
 
 -- a run of the class of the first byte has a byte
-pub run-positive : (class : ByteClass) (text : List ℕ) (count : ℕ) → IsRun class text count → IsFirstInClass class text → 0 < count
+pub run-positive : (class : ByteClass) (text : List ℕ) (count : ℕ) → IsRun class text count
+    → IsFirstInClass class text → 0 < count
 run-positive class text zero run first = absurd (run.ends first)
 run-positive class text (suc count) run first = omega arith
 
 -- the first byte after a place stands at it
-pub first_after : (class : ByteClass) (text : List ℕ) (place : ℕ) → IsFirstInClass class (drop place text) → (place < length text) × IsInClass class (get_or text place 0)
+pub first_after : (class : ByteClass) (text : List ℕ) (place : ℕ)
+    → IsFirstInClass class (drop place text)
+    → (place < length text) × IsInClass class (get_or text place 0)
 first_after class [] zero first = absurd first
 first_after class [] (suc place) first = absurd first
 first_after class (byte ∷ text) zero first = (omega arith, first)
@@ -49,7 +55,8 @@ first_after class (byte ∷ text) (suc place) first =
 -- Names and reserved words.
 
 -- no token at the front is longer than the run of letters, digits and `_`
-pub name-longest : (text : List ℕ) (count : ℕ) → IsFirstInClass class.NameStart text → IsRun class.NamePart text count → IsLongest text count
+pub name-longest : (text : List ℕ) (count : ℕ) → IsFirstInClass class.NameStart text
+    → IsRun class.NamePart text count → IsLongest text count
 name-longest [] count start run bytes after token split spells = absurd start
 name-longest (byte ∷ text) count start run bytes after (tok.Name name) split spells =
     run-le class.NamePart (byte ∷ text) count bytes after run split spells.1.parts
@@ -61,20 +68,25 @@ name-longest (byte ∷ text) count start run bytes after token split spells =
     absurd (omega (arith, same))
 
 -- the run of a text that begins as a name has the form of a name
-pub name_run : (text : List ℕ) (count : ℕ) → IsFirstInClass class.NameStart text → IsRun class.NamePart text count → HasNameForm (take count text)
+pub name_run : (text : List ℕ) (count : ℕ) → IsFirstInClass class.NameStart text
+    → IsRun class.NamePart text count → HasNameForm (take count text)
 name_run [] count start run = absurd start
 name_run (byte ∷ text) zero start run = absurd (run.ends (inl start))
 name_run (byte ∷ text) (suc count) start run = record { start = start; parts = run.inside }
 
 -- a run that is a reserved word is its token
-pub word_front : (text : List ℕ) (count : ℕ) (reserved : Word) → IsFirstInClass class.NameStart text → IsRun class.NamePart text count
-    → take count text ≡ word_spelling reserved → IsTokenFront text (record { tok = tok.Word reserved; length = count })
+pub word_front : (text : List ℕ) (count : ℕ) (reserved : Word)
+    → IsFirstInClass class.NameStart text → IsRun class.NamePart text count
+    → take count text ≡ word_spelling reserved
+    → IsTokenFront text (record { tok = tok.Word reserved; length = count })
 word_front text count reserved start run is =
     record { within = run.within; spells = is; longest = name-longest text count start run }
 
 -- a run that is no reserved word is a name
-pub name_front : (text : List ℕ) (count : ℕ) (name : List ℕ) → IsFirstInClass class.NameStart text → IsRun class.NamePart text count
-    → ((word : Word) → take count text ≢ word_spelling word) → name ≡ take count text → IsTokenFront text (record { tok = tok.Name name; length = count })
+pub name_front : (text : List ℕ) (count : ℕ) (name : List ℕ) → IsFirstInClass class.NameStart text
+    → IsRun class.NamePart text count
+    → ((word : Word) → take count text ≢ word_spelling word) → name ≡ take count text
+    → IsTokenFront text (record { tok = tok.Name name; length = count })
 name_front text count name start run other is =
     let form = name_run text count start run in
     record {
@@ -86,8 +98,10 @@ name_front text count name start run other is =
 -- Numbers.
 
 -- digits at the front, marked or not, are no longer than their run and the mark behind it
-marked_run-le : (kind : ByteClass) → ((byte : ℕ) → IsInClass kind byte → IsMark byte → ⊥) → (text : List ℕ) (count : ℕ) (ext : Bool) → IsRun kind text count
-    → (IsFirstInClass class.Mark (drop count text) → ext ≡ true) → (bytes digits after : List ℕ) (marked : Bool) → text ≡ bytes ++ after
+marked_run-le : (kind : ByteClass) → ((byte : ℕ) → IsInClass kind byte → IsMark byte → ⊥)
+    → (text : List ℕ) (count : ℕ) (ext : Bool) → IsRun kind text count
+    → (IsFirstInClass class.Mark (drop count text) → ext ≡ true)
+    → (bytes digits after : List ℕ) (marked : Bool) → text ≡ bytes ++ after
     → All (IsInClass kind) digits → IsMarked bytes digits marked → length bytes ≤ count + cond ext 1 0
 marked_run-le kind outside text count ext run has_mark bytes digits after true split all (mark, is_mark, is) =
     let whole : text ≡ digits ++ mark ∷ after = split ∙ ap (λ b. b ++ after) is ∙ append_assoc digits (mark ∷ []) after in
@@ -120,7 +134,8 @@ prefix-le (a ∷ []) Sixteen is = absurd is
 prefix-le [] Sixteen is = absurd is
 
 -- decimal digits do not go past the `0` of a hexadecimal front
-decimal_in_hexadecimal : (text : List ℕ) → HexadecimalFront text → (bytes after digits : List ℕ) (ext : Bool) → text ≡ bytes ++ after
+decimal_in_hexadecimal : (text : List ℕ) → HexadecimalFront text
+    → (bytes after digits : List ℕ) (ext : Bool) → text ≡ bytes ++ after
     → All IsDigit digits → IsMarked bytes digits ext → length bytes ≤ 2
 decimal_in_hexadecimal text front bytes after digits ext split all is =
     elim (cases_lt 1 (length digits)) [
@@ -135,7 +150,8 @@ decimal_in_hexadecimal text front bytes after digits ext split all is =
     ]
 
 -- a hexadecimal number at the front makes the front hexadecimal
-hexadecimal_split : (text bytes after digits : List ℕ) (x : ℕ) (ext : Bool) → text ≡ bytes ++ after → digits ≢ [] → All IsHexDigit digits → IsMark x
+hexadecimal_split : (text bytes after digits : List ℕ) (x : ℕ) (ext : Bool) → text ≡ bytes ++ after
+    → digits ≢ [] → All IsHexDigit digits → IsMark x
     → IsMarked bytes (48 ∷ x ∷ digits) ext → IsHexadecimalFront text
 hexadecimal_split text bytes after [] x ext split some all is_mark is = absurd (some refl)
 hexadecimal_split text bytes after (digit ∷ digits) x true split some all is_mark (mark, marks, is) =
@@ -146,8 +162,10 @@ hexadecimal_split text bytes after (digit ∷ digits) x false split some all is_
     subst IsHexadecimalFront (sym whole) (refl, is_mark, all 0 0 (omega arith))
 
 -- no token at the front is longer than the number
-number-longest : (text : List ℕ) (base : Base) (count : ℕ) (ext : Bool) → IsFirstInClass class.Digit text → IsBaseOf text base
-    → IsRun (digits_of base) (drop (prefix_of base) text) count → (IsFirstInClass class.Mark (drop count (drop (prefix_of base) text)) → ext ≡ true)
+number-longest : (text : List ℕ) (base : Base) (count : ℕ) (ext : Bool)
+    → IsFirstInClass class.Digit text → IsBaseOf text base
+    → IsRun (digits_of base) (drop (prefix_of base) text) count
+    → (IsFirstInClass class.Mark (drop count (drop (prefix_of base) text)) → ext ≡ true)
     → IsLongest text (prefix_of base + count + cond ext 1 0)
 number-longest [] base count ext start is run has_mark bytes after token split spells = absurd start
 number-longest (byte ∷ text) Ten count ext start is run has_mark bytes after (tok.Num value marked) split (number, value_is, inl (digits, some, all, number_is, marks)) =
@@ -167,7 +185,8 @@ number-longest (byte ∷ text) base count ext start is run has_mark bytes after 
     absurd (omega (arith, same))
 
 -- what stands before a place, with a mark at the place or without
-pub marked_take : (text : List ℕ) (to : ℕ) (ext : Bool) → to ≤ length text → (ext ≡ true → IsFirstInClass class.Mark (drop to text))
+pub marked_take : (text : List ℕ) (to : ℕ) (ext : Bool) → to ≤ length text
+    → (ext ≡ true → IsFirstInClass class.Mark (drop to text))
     → IsMarked (take (to + cond ext 1 0) text) (take to text) ext
 marked_take text to true within has_mark =
     let (inside, is_mark) = first_after class.Mark text to (has_mark refl) in
@@ -179,12 +198,14 @@ positive_take : (text : List ℕ) (count : ℕ) → count ≤ length text → 0 
 positive_take text count within some none = omega (arith, ap length none, length-take-le count text within)
 
 -- a mark lies within the text
-marked-within : (text : List ℕ) (to : ℕ) (ext : Bool) → to ≤ length text → (ext ≡ true → IsFirstInClass class.Mark (drop to text)) → to + cond ext 1 0 ≤ length text
+marked-within : (text : List ℕ) (to : ℕ) (ext : Bool) → to ≤ length text
+    → (ext ≡ true → IsFirstInClass class.Mark (drop to text)) → to + cond ext 1 0 ≤ length text
 marked-within text to true within has_mark = let inside = (first_after class.Mark text to (has_mark refl)).0 in omega arith
 marked-within text to false within has_mark = omega arith
 
 -- a prefix before marked digits
-prefixed : (bytes digits : List ℕ) (x : ℕ) (ext : Bool) → IsMarked bytes digits ext → IsMarked (48 ∷ x ∷ bytes) (48 ∷ x ∷ digits) ext
+prefixed : (bytes digits : List ℕ) (x : ℕ) (ext : Bool) → IsMarked bytes digits ext
+    → IsMarked (48 ∷ x ∷ bytes) (48 ∷ x ∷ digits) ext
 prefixed bytes digits x true (mark, is_mark, is) = (mark, is_mark, ap (λ b. 48 ∷ x ∷ b) is)
 prefixed bytes digits x false is = ap (λ b. 48 ∷ x ∷ b) is
 
@@ -262,8 +283,10 @@ number_front text base behind digits rest count ext size is scanned =
 -- Strings.
 
 -- a string at the front is closed where its run of plain bytes ends
-string_split : (text inside : List ℕ) (count : ℕ) (bytes after content : List ℕ) → text ≡ 34 ∷ inside → IsRun class.Plain inside count → text ≡ bytes ++ after
-    → bytes ≡ 34 ∷ content ++ 34 ∷ [] → All IsPlain content → (length content ≡ count) × IsFirstInClass class.Quote (drop count inside)
+string_split : (text inside : List ℕ) (count : ℕ) (bytes after content : List ℕ)
+    → text ≡ 34 ∷ inside → IsRun class.Plain inside count → text ≡ bytes ++ after
+    → bytes ≡ 34 ∷ content ++ 34 ∷ [] → All IsPlain content
+    → (length content ≡ count) × IsFirstInClass class.Quote (drop count inside)
 string_split text inside count bytes after content first run split is plain =
     let whole : 34 ∷ inside ≡ 34 ∷ (content ++ 34 ∷ []) ++ after = sym first ∙ split ∙ ap (λ b. b ++ after) is in
     let behind : inside ≡ (content ++ 34 ∷ []) ++ after = cc in
@@ -273,21 +296,26 @@ string_split text inside count bytes after content first run split is plain =
     (ends, subst (IsFirstInClass class.Quote) (sym rest) refl)
 
 -- at the front of a text that begins with a quote each token is a string
-string_only : (text inside bytes after : List ℕ) (token : Tok) → text ≡ 34 ∷ inside → text ≡ bytes ++ after → Spells bytes token
+string_only : (text inside bytes after : List ℕ) (token : Tok) → text ≡ 34 ∷ inside
+    → text ≡ bytes ++ after → Spells bytes token
     → (content : List ℕ) × (bytes ≡ 34 ∷ content ++ 34 ∷ []) × All IsPlain content
 string_only text inside bytes after (tok.Str content) first split spells = (content, spells.0, spells.1)
 string_only text inside bytes after token first split spells =
     let same = front-class text 34 inside bytes after token first split spells in absurd (omega (arith, same))
 
 -- no token stands where a string is not closed
-pub string_none : (text inside : List ℕ) (count : ℕ) → text ≡ 34 ∷ inside → IsRun class.Plain inside count → (IsFirstInClass class.Quote (drop count inside) → ⊥) → HasNoToken text
+pub string_none : (text inside : List ℕ) (count : ℕ) → text ≡ 34 ∷ inside
+    → IsRun class.Plain inside count → (IsFirstInClass class.Quote (drop count inside) → ⊥)
+    → HasNoToken text
 string_none text inside count first run open_end bytes after token split spells =
     let (content, is, plain) = string_only text inside bytes after token first split spells in
     open_end (string_split text inside count bytes after content first run split is plain).1
 
 -- a closed string is the token at the front
-pub string_front : (text inside content : List ℕ) (count : ℕ) → text ≡ 34 ∷ inside → IsRun class.Plain inside count → IsFirstInClass class.Quote (drop count inside)
-    → content ≡ take count inside → IsTokenFront text (record { tok = tok.Str content; length = count + 2 })
+pub string_front : (text inside content : List ℕ) (count : ℕ) → text ≡ 34 ∷ inside
+    → IsRun class.Plain inside count → IsFirstInClass class.Quote (drop count inside)
+    → content ≡ take count inside
+    → IsTokenFront text (record { tok = tok.Str content; length = count + 2 })
 string_front text inside content count first run closed is =
     let (within, quote) = first_after class.Quote inside count closed in
     let closing : take (count + 1) inside ≡ take count inside ++ 34 ∷ [] = take_more inside count 0 within ∙ ap (λ b. take count inside ++ b ∷ []) quote in
@@ -313,8 +341,10 @@ nothing_none bytes after token split spells =
     let whole : [] ≡ front.first ∷ front.others ++ after = split ∙ ap (λ b. b ++ after) front.is in cc
 
 -- at the front of a text that begins with no letter, digit or quote each token is a sign
-sign_only : (byte : ℕ) (text bytes after : List ℕ) (token : Tok) → (IsNameStart byte → ⊥) → (IsDigit byte → ⊥) → byte ≢ 34 → byte ∷ text ≡ bytes ++ after
-    → Spells bytes token → (some : Sign) × (bytes ≡ sign_spelling some) × (sign_spelling some ≡ byte ∷ [])
+sign_only : (byte : ℕ) (text bytes after : List ℕ) (token : Tok) → (IsNameStart byte → ⊥)
+    → (IsDigit byte → ⊥) → byte ≢ 34 → byte ∷ text ≡ bytes ++ after
+    → Spells bytes token
+    → (some : Sign) × (bytes ≡ sign_spelling some) × (sign_spelling some ≡ byte ∷ [])
 sign_only byte text bytes after (tok.Name name) start digit quote split spells = absurd (start (front-begins (byte ∷ text) byte text bytes after (tok.Name name) refl split spells))
 sign_only byte text bytes after (tok.Word reserved) start digit quote split spells = absurd (start (front-begins (byte ∷ text) byte text bytes after (tok.Word reserved) refl split spells))
 sign_only byte text bytes after (tok.Sign some) start digit quote split spells = (some, spells, front-begins (byte ∷ text) byte text bytes after (tok.Sign some) refl split spells)
@@ -322,12 +352,14 @@ sign_only byte text bytes after (tok.Num value ext) start digit quote split spel
 sign_only byte text bytes after (tok.Str content) start digit quote split spells = absurd (quote (front-begins (byte ∷ text) byte text bytes after (tok.Str content) refl split spells))
 
 -- a byte that begins no token
-pub other_none : (byte : ℕ) (text : List ℕ) → (IsNameStart byte → ⊥) → (IsDigit byte → ⊥) → byte ≢ 34 → ((some : Sign) → byte ∷ [] ≢ sign_spelling some) → HasNoToken (byte ∷ text)
+pub other_none : (byte : ℕ) (text : List ℕ) → (IsNameStart byte → ⊥) → (IsDigit byte → ⊥)
+    → byte ≢ 34 → ((some : Sign) → byte ∷ [] ≢ sign_spelling some) → HasNoToken (byte ∷ text)
 other_none byte text start digit quote none bytes after token split spells =
     let (some, is, first) = sign_only byte text bytes after token start digit quote split spells in none some (sym first)
 
 -- a sign is the token at the front
-pub sign_front : (byte : ℕ) (text : List ℕ) (some : Sign) → (IsNameStart byte → ⊥) → (IsDigit byte → ⊥) → byte ≢ 34 → byte ∷ [] ≡ sign_spelling some
+pub sign_front : (byte : ℕ) (text : List ℕ) (some : Sign) → (IsNameStart byte → ⊥)
+    → (IsDigit byte → ⊥) → byte ≢ 34 → byte ∷ [] ≡ sign_spelling some
     → IsTokenFront (byte ∷ text) (record { tok = tok.Sign some; length = 1 })
 sign_front byte text some start digit quote is = record {
   within = omega arith;

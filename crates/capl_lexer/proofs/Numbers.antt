@@ -15,7 +15,8 @@ extended base number digit = number * base + digit_value digit
 extended-grows : (base number digit : ℕ) → 1 ≤ base → number ≤ extended base number digit
 extended-grows base number digit some = omega (arith, mul-le-mul_left number some)
 
-fold-grows : (base number : ℕ) (digits : List ℕ) → 1 ≤ base → number ≤ fold (extended base) number digits
+fold-grows : (base number : ℕ) (digits : List ℕ) → 1 ≤ base
+    → number ≤ fold (extended base) number digits
 fold-grows base number [] some = omega arith
 fold-grows base number (digit ∷ digits) some =
     le_trans (extended-grows base number digit some) (fold-grows base (extended base number digit) digits some)
@@ -27,7 +28,8 @@ number_in-more base digits k within =
     ap (number_in base) (take_more digits k 0 within) ∙ fold-append (extended base) 0 (take k digits) (get_or digits k 0 ∷ [])
 
 -- more digits stand for no smaller number
-pub number_in-take-le : (base : ℕ) (digits : List ℕ) (k : ℕ) → 1 ≤ base → number_in base (take k digits) ≤ number_in base digits
+pub number_in-take-le : (base : ℕ) (digits : List ℕ) (k : ℕ) → 1 ≤ base
+    → number_in base (take k digits) ≤ number_in base digits
 number_in-take-le base digits k some =
     let whole : number_in base digits ≡ fold (extended base) (number_in base (take k digits)) (drop k digits) =
     ap (number_in base) (sym (take-append-drop k digits)) ∙ fold-append (extended base) 0 (take k digits) (drop k digits) in

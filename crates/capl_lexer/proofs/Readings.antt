@@ -29,7 +29,8 @@ blank-begins (tok.Num value ext) byte blank begins = grind arith
 blank-begins (tok.Str text) byte blank begins = grind arith
 
 -- no token's spelling begins with a blank
-pub blank-spelling : (bytes : List ℕ) (token : Tok) (byte : ℕ) (rest after : List ℕ) → IsBlank byte → Spells bytes token → byte ∷ rest ≡ bytes ++ after → ⊥
+pub blank-spelling : (bytes : List ℕ) (token : Tok) (byte : ℕ) (rest after : List ℕ) → IsBlank byte
+    → Spells bytes token → byte ∷ rest ≡ bytes ++ after → ⊥
 blank-spelling bytes token byte rest after blank spells split =
     let front = spelling-front bytes token spells in
     let whole : byte ∷ rest ≡ front.first ∷ front.others ++ after = split ∙ ap (λ b. b ++ after) front.is in
@@ -37,7 +38,8 @@ blank-spelling bytes token byte rest after blank spells split =
     blank-begins token byte blank (subst (Begins token) (sym same) front.begins)
 
 -- two fronts of one length are one
-front_injective : (xs ys rest other : List ℕ) → xs ++ rest ≡ ys ++ other → length xs ≡ length ys → xs ≡ ys
+front_injective : (xs ys rest other : List ℕ) → xs ++ rest ≡ ys ++ other → length xs ≡ length ys
+    → xs ≡ ys
 front_injective xs ys rest other same lengths =
     sym (take_at xs rest (length xs) refl) ∙ ap (take (length xs)) same ∙ take_at ys other (length xs) (sym lengths)
 
@@ -46,7 +48,8 @@ pub record IsSamePiece (piece other : Piece) (rest after : List ℕ) : Type 0 wh
   pub one_piece : piece ≡ other
   pub one_rest : rest ≡ after
 
-pub front-unique : (text : List ℕ) (piece other : Piece) (rest after : List ℕ) → IsFront piece text rest → IsFront other text after → IsSamePiece piece other rest after
+pub front-unique : (text : List ℕ) (piece other : Piece) (rest after : List ℕ)
+    → IsFront piece text rest → IsFront other text after → IsSamePiece piece other rest after
 front-unique text (Blank byte) (Blank same) rest after (blank, split) (also, again) =
     let one : byte ∷ rest ≡ same ∷ after = sym split ∙ again in record { one_piece = ap Blank (cc); one_rest = cc }
 front-unique text (Blank byte) (Lexeme bytes token) rest after (blank, split) (spells, again, longest) =
@@ -69,7 +72,8 @@ front-nil (Lexeme bytes token) rest (spells, split, longest) =
     let whole : [] ≡ front.first ∷ front.others ++ rest = split ∙ ap (λ b. b ++ rest) front.is in cc
 
 -- pieces that lead as far as pieces go are the same, and lead to one place
-pub fronts-unique : (text : List ℕ) (pieces others : List Piece) (rest after : List ℕ) → AreFront pieces text rest → AreFront others text after
+pub fronts-unique : (text : List ℕ) (pieces others : List Piece) (rest after : List ℕ)
+    → AreFront pieces text rest → AreFront others text after
     → HasNoFront rest → HasNoFront after → (pieces ≡ others) × (rest ≡ after)
 fronts-unique text [] [] rest after first second none nothingthing = (refl, sym first ∙ second)
 fronts-unique text [] (other ∷ others) rest after first (between, front, fronts) none nothing =
@@ -82,13 +86,15 @@ fronts-unique text (piece ∷ pieces) (other ∷ others) rest after (between, fr
     (let head = one.one_piece in let tail = all.0 in cc, all.1)
 
 -- a text has at most one reading
-pub reading-unique : (text : List ℕ) (tokens others : List Token) → IsReading text tokens → IsReading text others → tokens ≡ others
+pub reading-unique : (text : List ℕ) (tokens others : List Token) → IsReading text tokens
+    → IsReading text others → tokens ≡ others
 reading-unique text tokens others (pieces, fronts, is) (more, also, same) =
     let one = fronts-unique (drop (start_of text) text) pieces more [] [] fronts also front-nil front-nil in
     is ∙ ap (tokens_at text (start_of text)) one.0 ∙ sym same
 
 -- a text with a bad place has no reading
-pub bad_place-reading : (text : List ℕ) (place : ℕ) (tokens : List Token) → IsBadPlace text place → IsReading text tokens → ⊥
+pub bad_place-reading : (text : List ℕ) (place : ℕ) (tokens : List Token) → IsBadPlace text place
+    → IsReading text tokens → ⊥
 bad_place-reading text place tokens bad (pieces, fronts, is) =
     let (before, led) = bad.before in
     let one = fronts-unique (drop (start_of text) text) before pieces (drop place text) [] led fronts bad.no_piece front-nil in
@@ -96,7 +102,8 @@ bad_place-reading text place tokens bad (pieces, fronts, is) =
     omega (arith, ap length one.1, length-drop place text)
 
 -- a text has at most one bad place
-pub bad_place-unique : (text : List ℕ) (place other : ℕ) → IsBadPlace text place → IsBadPlace text other → place ≡ other
+pub bad_place-unique : (text : List ℕ) (place other : ℕ) → IsBadPlace text place
+    → IsBadPlace text other → place ≡ other
 bad_place-unique text place other bad also =
     let (before, led) = bad.before in
     let (pieces, fronts) = also.before in

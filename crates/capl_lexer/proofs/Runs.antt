@@ -7,11 +7,14 @@ use Rattle.capl_lexer.specs.Run.{IsInClass, IsFirstInClass, IsRun}
 use Rattle.capl_lexer.specs.declared.byte_class.ByteClass.{ByteClass}
 
 -- the byte at a place is the first of what follows the place
-first_at : (class : ByteClass) (text : List ℕ) (place : ℕ) → place < length text → IsInClass class (get_or text place 0) → IsFirstInClass class (drop place text)
+first_at : (class : ByteClass) (text : List ℕ) (place : ℕ) → place < length text
+    → IsInClass class (get_or text place 0) → IsFirstInClass class (drop place text)
 first_at class text place within is_in = rw (drop-cons text place 0) is_in
 
 -- bytes of the class at the front are no more than the run
-pub run-le : (class : ByteClass) (text : List ℕ) (count : ℕ) (front after : List ℕ) → IsRun class text count → text ≡ front ++ after → All (IsInClass class) front → length front ≤ count
+pub run-le : (class : ByteClass) (text : List ℕ) (count : ℕ) (front after : List ℕ)
+    → IsRun class text count → text ≡ front ++ after → All (IsInClass class) front
+    → length front ≤ count
 run-le class text count front after run split all =
     elim (cases_lt count (length front)) [
       | inl short ↦

@@ -77,7 +77,8 @@ pub record HasFront (bytes : List ℕ) (token : Tok) : Type 0 where
   pub begins : Begins token first
 
 -- bytes with the form of a name have a first byte
-name_front : (bytes : List ℕ) → IsNameFront bytes → (first : ℕ) × (others : List ℕ) × (bytes ≡ first ∷ others) × IsNameStart first
+name_front : (bytes : List ℕ) → IsNameFront bytes
+    → (first : ℕ) × (others : List ℕ) × (bytes ≡ first ∷ others) × IsNameStart first
 name_front [] none = absurd none
 name_front (byte ∷ bytes) start = (byte, bytes, refl, start)
 
@@ -91,13 +92,15 @@ sign_front sign.Comma = record { first = 44; others = []; is = refl; begins = re
 sign_front sign.Assign = record { first = 61; others = []; is = refl; begins = refl }
 
 -- the first byte of digits, with or without a mark
-marked_front : (bytes digits : List ℕ) (ext : Bool) → digits ≢ [] → All IsDigit digits → IsMarked bytes digits ext
+marked_front : (bytes digits : List ℕ) (ext : Bool) → digits ≢ [] → All IsDigit digits
+    → IsMarked bytes digits ext
     → (first : ℕ) × (others : List ℕ) × (bytes ≡ first ∷ others) × IsDigit first
 marked_front bytes [] ext some all marked = absurd (some refl)
 marked_front bytes (digit ∷ digits) true some all (mark, is_mark, is) = (digit, digits ++ mark ∷ [], is, all 0 0 (omega arith))
 marked_front bytes (digit ∷ digits) false some all is = (digit, digits, is, all 0 0 (omega arith))
 
-hex_front : (bytes digits : List ℕ) (x : ℕ) (ext : Bool) → IsMarked bytes (48 ∷ x ∷ digits) ext → (others : List ℕ) × (bytes ≡ 48 ∷ others)
+hex_front : (bytes digits : List ℕ) (x : ℕ) (ext : Bool) → IsMarked bytes (48 ∷ x ∷ digits) ext
+    → (others : List ℕ) × (bytes ≡ 48 ∷ others)
 hex_front bytes digits x true (mark, is_mark, is) = (x ∷ digits ++ mark ∷ [], is)
 hex_front bytes digits x false is = (x ∷ digits, is)
 
@@ -131,7 +134,8 @@ class_of_token (tok.Sign some) = 1
 class_of_token (tok.Num value ext) = 2
 class_of_token (tok.Str text) = 3
 
-class_at : (byte other class : ℕ) → other ∷ [] ≡ byte ∷ [] → class_of other ≡ class → class_of byte ≡ class
+class_at : (byte other class : ℕ) → other ∷ [] ≡ byte ∷ [] → class_of other ≡ class
+    → class_of byte ≡ class
 class_at byte other class same is = let at : other ≡ byte = cc in subst (λ b. class_of b ≡ class) at is
 
 pub name_class : (byte : ℕ) → IsNameStart byte → class_of byte ≡ 0
@@ -154,10 +158,12 @@ begins-class (tok.Num value ext) byte digit = digit_class byte digit
 begins-class (tok.Str text) byte quote = class_at byte 34 3 (ap (λ b. b ∷ []) (sym quote)) refl
 
 -- the tokens that one byte begins are of one class
-pub same_class : (byte : ℕ) (token other : Tok) → Begins token byte → Begins other byte → class_of_token token ≡ class_of_token other
+pub same_class : (byte : ℕ) (token other : Tok) → Begins token byte → Begins other byte
+    → class_of_token token ≡ class_of_token other
 same_class byte token other first second = sym (begins-class token byte first) ∙ begins-class other byte second
 
-spelled_class : (bytes : List ℕ) (token other : Tok) → Spells bytes token → Spells bytes other → class_of_token token ≡ class_of_token other
+spelled_class : (bytes : List ℕ) (token other : Tok) → Spells bytes token → Spells bytes other
+    → class_of_token token ≡ class_of_token other
 spelled_class bytes token other first second =
     let one = spelling-front bytes token first in
     let two = spelling-front bytes other second in
@@ -190,7 +196,8 @@ push_injective xs ys x y same =
     sym (take_at xs (x ∷ []) (length xs) refl) ∙ ap (take (length xs)) same ∙ take_at ys (y ∷ []) (length xs) (sym lengths)
 
 -- where the bytes of a class are followed by a mark, they are not all of the class
-pushed_outside : (P : ℕ → Type 0) → ((byte : ℕ) → P byte → IsMark byte → ⊥) → (digits others : List ℕ) (mark : ℕ)
+pushed_outside : (P : ℕ → Type 0) → ((byte : ℕ) → P byte → IsMark byte → ⊥)
+    → (digits others : List ℕ) (mark : ℕ)
     → IsMark mark → digits ++ mark ∷ [] ≡ others → All P others → ⊥
 pushed_outside P outside digits others mark is_mark is all =
     let at : get_or others (length digits) 0 ≡ mark = ap (λ bytes. get_or bytes (length digits) 0) (sym is) ∙ get_or_at digits mark [] 0 (length digits) refl in
@@ -198,8 +205,10 @@ pushed_outside P outside digits others mark is_mark is all =
     outside mark (subst P at (all (length digits) 0 within)) is_mark
 
 -- bytes of a class to which no mark belongs are told from their mark
-pub marked-unique : (P : ℕ → Type 0) → ((byte : ℕ) → P byte → IsMark byte → ⊥) → (bytes digits others : List ℕ) (ext marked : Bool)
-    → All P digits → All P others → IsMarked bytes digits ext → IsMarked bytes others marked → (digits ≡ others) × (ext ≡ marked)
+pub marked-unique : (P : ℕ → Type 0) → ((byte : ℕ) → P byte → IsMark byte → ⊥)
+    → (bytes digits others : List ℕ) (ext marked : Bool)
+    → All P digits → All P others → IsMarked bytes digits ext → IsMarked bytes others marked
+    → (digits ≡ others) × (ext ≡ marked)
 marked-unique P outside bytes digits others true true all all_others (mark, is_mark, is) (other, is_other, also) =
     (push_injective digits others mark other (sym is ∙ also), refl)
 marked-unique P outside bytes digits others true false all all_others (mark, is_mark, is) also =
@@ -215,7 +224,8 @@ marked_rest bytes digits x true (mark, is_mark, is) = (digits ++ mark ∷ [], is
 marked_rest bytes digits x false is = (digits, is, refl)
 
 -- how many bytes marked ones are
-pub marked-length : (bytes digits : List ℕ) (ext : Bool) → IsMarked bytes digits ext → length bytes ≡ length digits + cond ext 1 0
+pub marked-length : (bytes digits : List ℕ) (ext : Bool) → IsMarked bytes digits ext
+    → length bytes ≡ length digits + cond ext 1 0
 marked-length bytes digits true (mark, is_mark, is) = ap length is ∙ length-append digits (mark ∷ [])
 marked-length bytes digits false is = ap length is ∙ sym (add-zero (length digits))
 
@@ -225,7 +235,8 @@ mark-le-one true = omega arith
 mark-le-one false = omega arith
 
 -- marked bytes begin with what is marked
-pub marked_at : (bytes digits : List ℕ) (ext : Bool) (k : ℕ) → IsMarked bytes digits ext → k < length digits → get_or bytes k 0 ≡ get_or digits k 0
+pub marked_at : (bytes digits : List ℕ) (ext : Bool) (k : ℕ) → IsMarked bytes digits ext
+    → k < length digits → get_or bytes k 0 ≡ get_or digits k 0
 marked_at bytes digits true k (mark, is_mark, is) within = ap (λ b. get_or b k 0) is ∙ get_or_append_left digits (mark ∷ []) 0 k within
 marked_at bytes digits false k is within = ap (λ b. get_or b k 0) is
 
@@ -234,7 +245,8 @@ nonempty-length [] some = absurd (some refl)
 nonempty-length (byte ∷ bytes) some = omega arith
 
 -- no bytes are a number in both bases
-pub decimal-hexadecimal : (bytes : List ℕ) (number other : ℕ) (ext marked : Bool) → IsDecimal bytes number ext → IsHexadecimal bytes other marked → ⊥
+pub decimal-hexadecimal : (bytes : List ℕ) (number other : ℕ) (ext marked : Bool)
+    → IsDecimal bytes number ext → IsHexadecimal bytes other marked → ⊥
 decimal-hexadecimal bytes number other ext marked (digits, some, all, number_is, is) (hex, x, some_hex, all_hex, x_is, other_is, also) =
     let (rest, split, rest_is) = marked_rest bytes hex x marked also in
     let long : 0 < length hex = nonempty-length hex some_hex in
@@ -243,8 +255,10 @@ decimal-hexadecimal bytes number other ext marked (digits, some, all, number_is,
     digit-mark x (subst IsDigit at (all 1 0 two)) x_is
 
 -- bytes are at most one number
-pub number-unique : (bytes : List ℕ) (number other : ℕ) (ext marked : Bool) → IsDecimal bytes number ext ⊎ IsHexadecimal bytes number ext
-    → IsDecimal bytes other marked ⊎ IsHexadecimal bytes other marked → (number ≡ other) × (ext ≡ marked)
+pub number-unique : (bytes : List ℕ) (number other : ℕ) (ext marked : Bool)
+    → IsDecimal bytes number ext ⊎ IsHexadecimal bytes number ext
+    → IsDecimal bytes other marked ⊎ IsHexadecimal bytes other marked
+    → (number ≡ other) × (ext ≡ marked)
 number-unique bytes number other ext marked (inl (digits, some, all, number_is, is)) (inl (others, some_others, all_others, other_is, also)) =
     let (same, mark) = marked-unique IsDigit digit-mark bytes digits others ext marked all all_others is also in
     (number_is ∙ ap (number_in 10) same ∙ sym other_is, mark)
@@ -258,7 +272,8 @@ number-unique bytes number other ext marked (inr (digits, x, some, all, x_is, nu
     (number_is ∙ ap (number_in 16) same ∙ sym other_is, mark)
 
 -- bytes spell at most one token
-pub spelling-unique : (bytes : List ℕ) (token other : Tok) → Spells bytes token → Spells bytes other → token ≡ other
+pub spelling-unique : (bytes : List ℕ) (token other : Tok) → Spells bytes token
+    → Spells bytes other → token ≡ other
 spelling-unique bytes (tok.Name text) (tok.Name others) first second = ap tok.Name (sym first.0 ∙ second.0)
 spelling-unique bytes (tok.Name text) (tok.Word reserved) first second = absurd (first.1.not_reserved reserved second)
 spelling-unique bytes (tok.Word reserved) (tok.Name text) first second = absurd (second.1.not_reserved reserved first)

@@ -8,8 +8,7 @@ use Rattle.capl_lexer.specs.Bytes.{IsBlank}
 use Rattle.capl_lexer.specs.Spelling.{Spells}
 use Rattle.capl_lexer.specs.Reading.{Piece, Blank, Lexeme, IsFront, AreFront, IsLongest, start_of, line_at, column_at, tokens_at, IsReading, IsBadPlace}
 use Rattle.capl_lexer.specs.Run.{IsFirstInClass}
-use Rattle.capl_lexer.specs.Front.{HasNoToken}
-use Rattle.capl_lexer.specs.Refusal.{IsTokenAt}
+use Rattle.capl_lexer.specs.Front.{HasNoToken, IsTokenAt}
 use Rattle.capl_lexer.specs.Position.{IsPositionIn}
 use Rattle.capl_lexer.specs.declared.byte_class.ByteClass.TheVariants as class
 use Rattle.capl_lexer.specs.declared.position.Position.{Position}
@@ -25,7 +24,9 @@ pub record HasRead (text : List ℕ) (place : ℕ) (tokens : List Token) : Type 
   pub start : start_of text ≤ place
 
 -- one more piece
-fronts_push : (pieces : List Piece) (piece : Piece) (text between rest : List ℕ) → AreFront pieces text between → IsFront piece between rest → AreFront (pieces ++ piece ∷ []) text rest
+fronts_push : (pieces : List Piece) (piece : Piece) (text between rest : List ℕ)
+    → AreFront pieces text between → IsFront piece between rest
+    → AreFront (pieces ++ piece ∷ []) text rest
 fronts_push [] piece text between rest fronts front = (rest, subst (λ t. IsFront piece t rest) (sym fronts) front, refl)
 fronts_push (first ∷ pieces) piece text between rest (next, is, fronts) front = (next, is, fronts_push pieces piece next between rest fronts front)
 
@@ -34,7 +35,8 @@ pub read_nothing : (text : List ℕ) → HasRead text (start_of text) []
 read_nothing text = record { pieces = []; fronts = refl; goes_on = λ more. refl; start = omega arith }
 
 -- a blank is read
-pub read_blank : (text : List ℕ) (place : ℕ) (tokens : List Token) → HasRead text place tokens → place < length text → IsFirstInClass class.Blank (drop place text)
+pub read_blank : (text : List ℕ) (place : ℕ) (tokens : List Token) → HasRead text place tokens
+    → place < length text → IsFirstInClass class.Blank (drop place text)
     → HasRead text (place + 1) tokens
 read_blank text place tokens read within blank =
     let byte = get_or text place 0 in
@@ -48,22 +50,26 @@ read_blank text place tokens read within blank =
     }
 
 -- a spelled part of a text is not empty
-spelled-positive : (text : List ℕ) (count : ℕ) (token : Tok) → Spells (take count text) token → 0 < count
+spelled-positive : (text : List ℕ) (count : ℕ) (token : Tok) → Spells (take count text) token
+    → 0 < count
 spelled-positive text zero token spells = let front = spelling-front [] token spells in let is = front.is in cc
 spelled-positive text (suc count) token spells = omega arith
 
 -- a token goes on
-pub token_at-positive : (text : List ℕ) (place : ℕ) (token : Token) → IsTokenAt text place token → place < token.to
+pub token_at-positive : (text : List ℕ) (place : ℕ) (token : Token) → IsTokenAt text place token
+    → place < token.to
 token_at-positive text place token at =
     let some = spelled-positive (drop place text) (token.to - place) token.tok at.spells in omega arith
 
 -- a token by its parts
-token_is : (token : Token) (from to line column : ℕ) → token.from ≡ from → token.to ≡ to → token.line ≡ line → token.column ≡ column
+token_is : (token : Token) (from to line column : ℕ) → token.from ≡ from → token.to ≡ to
+    → token.line ≡ line → token.column ≡ column
     → token ≡ record { tok = token.tok; from = from; to = to; line = line; column = column }
 token_is token from to line column e f g h = λ i. record { tok = token.tok; from = e i; to = f i; line = g i; column = h i }
 
 -- a token is read
-pub read_token : (text : List ℕ) (place : ℕ) (tokens : List Token) (token : Token) → HasRead text place tokens → IsTokenAt text place token
+pub read_token : (text : List ℕ) (place : ℕ) (tokens : List Token) (token : Token)
+    → HasRead text place tokens → IsTokenAt text place token
     → HasRead text token.to (tokens ++ token ∷ [])
 read_token text place tokens token read at =
     let count = token.to - place in
@@ -91,7 +97,8 @@ read_token text place tokens token read at =
     }
 
 -- at the end of the text all of it is read
-pub reading_from : (text : List ℕ) (place : ℕ) (tokens : List Token) → HasRead text place tokens → length text ≤ place → IsReading text tokens
+pub reading_from : (text : List ℕ) (place : ℕ) (tokens : List Token) → HasRead text place tokens
+    → length text ≤ place → IsReading text tokens
 reading_from text place tokens read end = (
   read.pieces,
   subst (AreFront read.pieces (drop (start_of text) text)) (drop_all place text end) read.fronts,
@@ -99,8 +106,10 @@ reading_from text place tokens read end = (
 )
 
 -- a place that is reached and at which no piece begins is bad
-pub bad_place_from : (text : List ℕ) (place : ℕ) (tokens : List Token) → HasRead text place tokens → place < length text
-    → (IsFirstInClass class.Blank (drop place text) → ⊥) → HasNoToken (drop place text) → IsBadPlace text place
+pub bad_place_from : (text : List ℕ) (place : ℕ) (tokens : List Token) → HasRead text place tokens
+    → place < length text
+    → (IsFirstInClass class.Blank (drop place text) → ⊥) → HasNoToken (drop place text)
+    → IsBadPlace text place
 bad_place_from text place tokens read within no_blank no_token = record {
   before = (read.pieces, read.fronts);
   within = (read.start, within);
@@ -112,12 +121,14 @@ bad_place_from text place tokens read within no_blank no_token = record {
     nothing (Lexeme bytes tok) rest (spells, split, longest) = no_token bytes rest tok split spells
 
 -- a line is at most one more than the place
-pub line-le : (text : List ℕ) (position : Position) → IsPositionIn text position → position.line ≤ 1 + position.place
+pub line-le : (text : List ℕ) (position : Position) → IsPositionIn text position
+    → position.line ≤ 1 + position.place
 line-le text position at =
     omega (arith, at.line, at.within, count_by-le-length (λ byte. eqb byte 10) (take position.place text), length-take-le position.place text at.within)
 
 -- a column is at most one more than the place
-pub column-le : (text : List ℕ) (position : Position) → IsPositionIn text position → position.column ≤ 1 + position.place
+pub column-le : (text : List ℕ) (position : Position) → IsPositionIn text position
+    → position.column ≤ 1 + position.place
 column-le text position at =
     let before = take position.place text in
     omega (arith, at.column, length-drop (length before - suffix_len (λ byte. not (eqb byte 10)) before) before, length-take-le position.place text at.within)

@@ -14,7 +14,8 @@ abbrev pub word_of : List ℕ → Option Word
 word_of bytes = find (λ word. bytes_eq (word_spelling word) bytes) ALL
 
 find_step : {X : Type 0} (p : X → Bool) (x : X) (xs : List X) (b : Bool) → p x ≡ b
-    → MatchOption (find p xs) ⊤ (λ y. p y ≡ true) → MatchOption (cond b (Some x) (find p xs)) ⊤ (λ y. p y ≡ true)
+    → MatchOption (find p xs) ⊤ (λ y. p y ≡ true)
+    → MatchOption (cond b (Some x) (find p xs)) ⊤ (λ y. p y ≡ true)
 find_step p x xs true e rest = e
 find_step p x xs false e rest = rest
 
@@ -42,7 +43,8 @@ word_of-sound bytes =
     found_case bytes (word_of bytes) refl (find-passes (λ word. bytes_eq (word_spelling word) bytes) ALL)
 
 -- two words with one spelling are one word
-pub word_spelling-injective : (word other : Word) → word_spelling word ≡ word_spelling other → word ≡ other
+pub word_spelling-injective : (word other : Word) → word_spelling word ≡ word_spelling other
+    → word ≡ other
 word_spelling-injective word other same =
     let first : word_of (word_spelling word) ≡ Some word = word_of-spelling word in
     let second : word_of (word_spelling other) ≡ Some other = word_of-spelling other in

@@ -1,6 +1,6 @@
 // The base in which a number is written.
 
-ghost use Rattle.std.specs.Prelude.{◌≡◌, ◌<◌, ◌^◌, All};
+ghost use Rattle.std.specs.Prelude.{◌≡◌, All};
 ghost use Rattle.capl_lexer.specs.Bytes.{digit_value, number_in};
 ghost use Rattle.capl_lexer.specs.Spelling.{number_of_64_bits};
 ghost use Rattle.capl_lexer.specs.Run.{IsInClass};

@@ -1,6 +1,6 @@
 // The token at the front of a text.
 
-ghost use Rattle.std.specs.Prelude.{◌≡◌, IfOk, MatchOption};
+ghost use Rattle.std.specs.Prelude.{IfOk, MatchOption};
 ghost use Rattle.capl_lexer.specs.Run.{IsFirstInClass};
 ghost use Rattle.capl_lexer.specs.Front.{IsTokenFront, HasNoToken};
 
@@ -23,7 +23,8 @@ pub(crate) struct Front {
 /// The longest token at the front of the text, or None where none stands there. Takes time and
 /// memory linear in the token's bytes.
 pub(crate) fn token_front(alloc: Global, text: &[u8]) -> Result<Option<Front>, NoMemory>
-    ensures { IfOk result (λ found. MatchOption found (HasNoToken text.now) (IsTokenFront text.now)) }
+    ensures { IfOk result (λ found.
+        MatchOption found (HasNoToken text.now) (IsTokenFront text.now)) }
 {
     let Some(first) = text.first() else {
         return Ok(None);
@@ -76,7 +77,8 @@ fn number(text: &[u8]) -> Front
 // The string at the front of a text that begins with a quote, or None where it is not closed.
 fn string(alloc: Global, text: &[u8]) -> Result<Option<Front>, NoMemory>
     requires { IsFirstInClass ByteClass.Quote text.now }
-    ensures { IfOk result (λ found. MatchOption found (HasNoToken text.now) (IsTokenFront text.now)) }
+    ensures { IfOk result (λ found.
+        MatchOption found (HasNoToken text.now) (IsTokenFront text.now)) }
 {
     let inside = &text[1..];
     let length = ByteClass::Plain.run(inside);

@@ -1,11 +1,11 @@
 // The tokens of a whole text.
 
-ghost use Rattle.std.specs.Prelude.{◌≡◌, ◌+◌, ◌<◌, ◌^◌, List, IfOk, IfErr, IfSome, MatchOption, drop, length, ⊤};
+ghost use Rattle.std.specs.Prelude.{◌≡◌, ◌<◌, ◌^◌, List, IfOk, IfErr, MatchOption, drop, length};
 ghost use Rattle.capl_lexer.specs.Reading.{IsReading};
 ghost use Rattle.capl_lexer.specs.Position.{IsPositionIn};
-ghost use Rattle.capl_lexer.specs.Front.{HasNoToken};
-ghost use Rattle.capl_lexer.specs.Refusal.{IsRefusalOf, RefusesAllReadings, IsTokenAt};
-ghost use Rattle.capl_lexer.specs.declared.token.Token.{Token as AnyToken};
+ghost use Rattle.capl_lexer.specs.Front.{HasNoToken, IsTokenAt};
+ghost use Rattle.capl_lexer.specs.Refusal.{IsRefusalOf, RefusesAllReadings};
+ghost use Rattle.capl_lexer.specs.declared.token.Token.{Token};
 
 use crate::byte_class::ByteClass;
 use crate::front::token_front;
@@ -56,7 +56,8 @@ pub fn lex(alloc: Global, bytes: &[u8]) -> Result<Vec<Token>, LexRefusal>
 
     // These are the tokens of a reading, and no reading has others.
     ensures reading { IfOk result (λ tokens. IsReading bytes.now tokens.items) }
-    ensures only { IfOk result (λ tokens. (others : List AnyToken) → IsReading bytes.now others → others ≡ tokens.items) }
+    ensures only { IfOk result (λ tokens.
+        (others : List Token) → IsReading bytes.now others → others ≡ tokens.items) }
 
     // A text is refused at its bad place, and then it has no reading.
     ensures bad { IfErr result (IsRefusalOf bytes.now) }

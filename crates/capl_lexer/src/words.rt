@@ -1,15 +1,16 @@
 // How reserved words and signs are written.
 
-ghost use Rattle.std.specs.Prelude.{◌≡◌, ◌≢◌, ◌∷◌, [], MatchOption, codes};
+ghost use Rattle.std.specs.Prelude.{◌≡◌, ◌≢◌, ◌∷◌, [], MatchOption};
 ghost use Rattle.capl_lexer.specs.Spelling.{word_spelling, sign_spelling};
-ghost use Rattle.capl_lexer.specs.declared.token.Word.{Word as AnyWord};
-ghost use Rattle.capl_lexer.specs.declared.token.Sign.{Sign as AnySign};
+ghost use Rattle.capl_lexer.specs.declared.token.Word.{Word};
+ghost use Rattle.capl_lexer.specs.declared.token.Sign.{Sign};
 
 use crate::token::{Sign, Word};
 
 // The reserved word that the bytes spell.
 pub(crate) fn reserved_word(bytes: &[u8]) -> Option<Word>
-    ensures { MatchOption result ((word : AnyWord) → bytes.now ≢ word_spelling word) (λ word. bytes.now ≡ word_spelling word) }
+    ensures { MatchOption result
+        ((word : Word) → bytes.now ≢ word_spelling word) (λ word. bytes.now ≡ word_spelling word) }
 {
     Word::ALL
         .iter()
@@ -19,7 +20,8 @@ pub(crate) fn reserved_word(bytes: &[u8]) -> Option<Word>
 
 // The sign that the byte spells.
 pub(crate) fn sign_of(byte: u8) -> Option<Sign>
-    ensures { MatchOption result ((sign : AnySign) → byte ∷ [] ≢ sign_spelling sign) (λ sign. byte ∷ [] ≡ sign_spelling sign) }
+    ensures { MatchOption result
+        ((sign : Sign) → byte ∷ [] ≢ sign_spelling sign) (λ sign. byte ∷ [] ≡ sign_spelling sign) }
 {
     match byte {
         b'{' => Some(Sign::OpenBrace),

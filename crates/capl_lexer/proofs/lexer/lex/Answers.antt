@@ -2,8 +2,7 @@ use Rattle.std.proofs.Common.{◌≡◌, ◌++◌, [], ◌∷◌, drop, sym, sub
 use Rattle.std.proofs.lemmas.List.{take_rest}
 use Rattle.std.proofs.lemmas.Bool.{iff_false}
 use Rattle.capl_lexer.specs.Run.{IsFirstInClass}
-use Rattle.capl_lexer.specs.Front.{HasNoToken}
-use Rattle.capl_lexer.specs.Refusal.{IsTokenAt}
+use Rattle.capl_lexer.specs.Front.{HasNoToken, IsTokenAt}
 use Rattle.capl_lexer.specs.declared.byte_class.ByteClass.TheVariants as class
 use Rattle.capl_lexer.specs.declared.token.Token.{Token}
 use Rattle.capl_lexer.proofs.Readings.{reading-unique, bad_place-reading}
