@@ -1,5 +1,5 @@
 -- How what was written grows.
-use Rattle.std.specs.Prelude.{◌≡◌, ℕ, List, ◌++◌, take, Option, Some}
+use Rattle.std.specs.Prelude.{◌≡◌, ℕ, List, ◌++◌, take, Option}
 use Rattle.std.specs.Option.{option_map}
 
 -- what was written has grown by this piece, where it is told

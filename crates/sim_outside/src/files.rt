@@ -35,12 +35,7 @@ pub trait Files {
 
     /// Reads the whole file of this name, if it has at most `limit` bytes. Takes time and memory
     /// linear in the bytes that are read, which are at most one more than the limit.
-    fn read(
-        &mut self,
-        alloc: Global,
-        name: &Text,
-        limit: usize,
-    ) -> Result<Vec<u8>, FileRefusal>
+    fn read(&mut self, alloc: Global, name: &Text, limit: usize) -> Result<Vec<u8>, FileRefusal>
         // Where the contents are told, the answer is true of them.
         ensures told { IfSome (held self.old) (λ contents. AgreesWith contents name.now limit result) }
         ensures within_limit { IfOk result (λ bytes. vec_len bytes ≤ limit) }

@@ -26,4 +26,6 @@ mod memory;
 mod real_files;
 mod real_sink;
 mod sink;
+#[cfg(test)]
+mod tests;
 mod text;

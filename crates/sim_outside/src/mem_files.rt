@@ -27,10 +27,10 @@ impl Model for MemFiles {
     ghost Value = { MemoryFiles };
 
     ghost view = { λ files. record {
-        entries = map (λ entry. (entry.0, entry.1.items)) files.entries.items;
-        failing = files.failing.items;
-        next_call = files.next_call;
-        faults = files.faults;
+      entries = map (λ entry. (entry.0, entry.1.items)) files.entries.items;
+      failing = files.failing.items;
+      next_call = files.next_call;
+      faults = files.faults;
     } };
 }
 
@@ -39,10 +39,10 @@ impl MemFiles {
     /// `read` with the listed numbers fail, counted from 1. No fault is counted yet.
     pub fn new(entries: Vec<(Text, Vec<u8>)>, failing: Vec<u64>) -> MemFiles
         ensures { result ≡ record {
-            entries = map (λ entry. (entry.0, entry.1.items)) entries.items;
-            failing = failing.items;
-            next_call = 1;
-            faults = 0;
+          entries = map (λ entry. (entry.0, entry.1.items)) entries.items;
+          failing = failing.items;
+          next_call = 1;
+          faults = 0;
         } }
     {
         MemFiles {
@@ -62,12 +62,7 @@ impl Files for MemFiles {
 
     ghost faults = { λ files. files.faults };
 
-    fn read(
-        &mut self,
-        alloc: Global,
-        name: &Text,
-        limit: usize,
-    ) -> Result<Vec<u8>, FileRefusal>
+    fn read(&mut self, alloc: Global, name: &Text, limit: usize) -> Result<Vec<u8>, FileRefusal>
         ensures told { IfSome (Some (held_in self.old.entries)) (λ contents. AgreesWith contents name.now limit result) }
         ensures within_limit { IfOk result (λ bytes. vec_len bytes ≤ limit) }
         ensures failed { IsErrOf result FileRefusal.Failed → HasRisen self.old.faults self.new.faults }
@@ -76,9 +71,11 @@ impl Files for MemFiles {
 
         // It fails at the listed calls and nowhere else, and only there its faults rise.
         ensures listed { IsErrOf result FileRefusal.Failed ↔ Contains self.old.failing self.old.next_call }
+        ensures counted { IsErrOf result FileRefusal.Failed → self.new.faults ≡ raised self.old.faults }
+        ensures uncounted { ¬ IsErrOf result FileRefusal.Failed → self.new.faults ≡ self.old.faults }
         ensures next { self.new ≡ record self.old {
-            next_call = raised self.old.next_call;
-            faults = self.new.faults;
+          next_call = raised self.old.next_call;
+          faults = self.new.faults;
         } }
     {
         let call = self.next_call;

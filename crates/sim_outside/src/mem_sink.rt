@@ -25,10 +25,10 @@ impl Model for MemSink {
     ghost Value = { MemorySink };
 
     ghost view = { λ sink. record {
-        written = sink.written.items;
-        failing = sink.failing.items;
-        next_call = sink.next_call;
-        faults = sink.faults;
+      written = sink.written.items;
+      failing = sink.failing.items;
+      next_call = sink.next_call;
+      faults = sink.faults;
     } };
 }
 
@@ -72,11 +72,11 @@ impl Sink for MemSink {
         // It fails at the listed calls and nowhere else, after as many bytes as are listed there.
         ensures not_listed { OnOk result (kept_at self.old self.old.next_call ≡ None) }
         ensures listed { IsErrOf result SinkRefusal.Failed → KeepsAtFault self.old self.new piece.now }
-        ensures counts { OnOk result (self.new.faults ≡ self.old.faults) }
+        ensures uncounted { ¬ IsErrOf result SinkRefusal.Failed → self.new.faults ≡ self.old.faults }
         ensures next { self.new ≡ record self.old {
-            written = self.new.written;
-            next_call = raised self.old.next_call;
-            faults = self.new.faults;
+          written = self.new.written;
+          next_call = raised self.old.next_call;
+          faults = self.new.faults;
         } }
     {
         let call = self.next_call;

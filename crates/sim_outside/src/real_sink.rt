@@ -5,6 +5,7 @@ ghost use Rattle.std.specs.Prelude.{◌≡◌, ◌≤◌, ◌<◌, length, IsOkU
 use crate::sink::{Sink, SinkRefusal};
 use std::io;
 use std::io::Write;
+use std::marker::Model;
 
 /// Standard output, written through the runtime. It tells nothing of what was written.
 #[derive(Drop)]
@@ -13,9 +14,20 @@ pub struct RealSink<'a, R> {
     faults: u64,
 }
 
+// It is seen as the count of its faults.
+impl<'a, R> Model for RealSink<'a, R> {
+    ghost use Rattle.std.specs.Prelude.{ℕ};
+
+    ghost Value = { ℕ };
+
+    ghost view = { λ sink. sink.faults };
+}
+
 impl<'a, R: Print> RealSink<'a, R> {
     /// The standard output of this runtime. No fault is counted yet.
-    pub fn new(rt: &'a R) -> RealSink<'a, R> {
+    pub fn new(rt: &'a R) -> RealSink<'a, R>
+        ensures { result ≡ 0 }
+    {
         RealSink { rt, faults: 0 }
     }
 }
@@ -25,7 +37,7 @@ impl<'a, R: Print> Sink for RealSink<'a, R> {
 
     ghost written = { λ _. None };
 
-    ghost faults = { λ sink. sink.faults };
+    ghost faults = { λ sink. sink };
 
     /// Every error is a fault, and so is a system that takes nothing of what is left of the piece.
     fn write(&mut self, piece: &[u8]) -> Result<(), SinkRefusal> {
