@@ -5,3 +5,4 @@ pub mod Readings
 mod Numbers
 mod FrontLemmas
 mod Steps
+mod NameTests

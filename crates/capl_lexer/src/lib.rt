@@ -6,12 +6,14 @@
 #![tactic(auto)]
 
 pub use lexer::{LexRefusal, lex};
+pub use names::is_name;
 pub use token::{Sign, Tok, Token, Word};
 
 mod base;
 mod byte_class;
 mod front;
 mod lexer;
+mod names;
 mod position;
 mod token;
 mod words;

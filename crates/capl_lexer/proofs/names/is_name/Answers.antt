@@ -1,0 +1,19 @@
+use Rattle.std.proofs.Common.{rules, arith, sym, subst}
+use Rattle.std.proofs.lemmas.Bool.{false≢true}
+use Rattle.std.specs.Prelude.{IsTrue}
+use Rattle.capl_lexer.specs.Run.{IsFirstInClass}
+use Rattle.capl_lexer.specs.Spelling.{IsName}
+use Rattle.capl_lexer.specs.declared.byte_class.ByteClass.TheVariants as class
+use Rattle.capl_lexer.proofs.NameTests.{name_is_run, name_by_words, is_none_is}
+use Rattle.capl_lexer.proofs.names.is_name.Goals as goal
+
+pub returns : goal.returns
+returns c =
+    let first : IsFirstInClass class.NameStart c.args.bytes.now = search (rules, c.begins.ensures, c.if-not-begins.false) in
+    subst (λ r. (IsTrue r → IsName c.args.bytes.now) × (IsName c.args.bytes.now → IsTrue r)) (is_none_is c.reserved_word.result c.is_none.result c.is_none.ensures)
+    (name_by_words c.args.bytes.now c.run.result c.reserved_word.result first c.run.ensures c.if-run-bytes.false c.reserved_word.ensures)
+
+-- a name would be one run
+pub returns-then-run-bytes : goal.returns-then-run-bytes
+returns-then-run-bytes c =
+    ((λ no. absurd (false≢true no)), (λ name. absurd (omega (arith, name_is_run c.args.bytes.now c.run.result c.run.ensures name, c.if-run-bytes.true))))
