@@ -1,0 +1,5 @@
+use Rattle.capl_parser.proofs.Trees.{spelling_unique}
+use Rattle.capl_parser.proofs.laws.one_tree.Goals as goal
+
+pub returns : goal.returns
+returns c = spelling_unique

@@ -1,0 +1,11 @@
+-- Where the next of the statements is refused, no statements stand at the front.
+use Rattle.std.proofs.Common.{rules}
+use Rattle.capl_parser.specs.Spelling.{statement_tokens}
+use Rattle.capl_parser.proofs.Parts.{none_closed}
+use Rattle.capl_parser.proofs.Trees.{separable_statements}
+use Rattle.capl_parser.proofs.statements.statements.Goals as goal
+
+pub returns-in_err-statement-clause-not_spelled : goal.returns-in_err-statement-clause-not_spelled
+returns-in_err-statement-clause-not_spelled c refused =
+    none_closed statement_tokens separable_statements c.loop-list.list.items _ c.loop-list.cursor c.loop-list.invariant
+    (search rules) (search rules)
