@@ -1,0 +1,4 @@
+pub mod Growth
+pub mod OneAnswer
+pub mod Scenarios
+pub mod Words

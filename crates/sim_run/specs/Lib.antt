@@ -1,0 +1,6 @@
+pub mod Answer
+pub mod Inputs
+pub mod Scenario
+pub mod Source
+pub mod Status
+pub mod Window

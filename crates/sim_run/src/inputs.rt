@@ -1,0 +1,124 @@
+// Reading the inputs.
+
+ghost use Rattle.std.specs.Prelude.{◌≡◌, ◌≤◌, ◌<◌, ◌^◌, List, ℕ, length, IfOk, IfSome, IsErrOf, MatchOption};
+ghost use Rattle.sim_outside.specs.Fault.{HasRisen};
+ghost use Rattle.sim_run.specs.Answer.{Holds, ScenarioAt, SourceAt};
+ghost use Rattle.sim_run.specs.Inputs.{AreInputs};
+ghost use Rattle.capl_parser.specs.declared.tree.FileTree.{FileTree};
+ghost use Rattle.sim_run.specs.declared.scenario.Node.{Node};
+
+use crate::names::name_beside;
+use crate::scenario::{Node, node_of};
+use crate::source::tree_of;
+use capl_parser::FileTree;
+use sim_outside::{FileRefusal, Files, NoMemory, Text};
+use std::alloc::Global;
+
+/// What the inputs of a run are.
+#[derive(Debug, Drop)]
+pub(crate) enum Inputs {
+    /// The node and the tree of its source.
+    Accepted { node: Node, tree: FileTree },
+    /// The first file that is not of the form that is taken.
+    Broken { file: Text },
+}
+
+/// Why the inputs were not read.
+#[derive(Debug, Drop)]
+pub(crate) enum ReadFailure {
+    /// A read failed.
+    Failed,
+    /// There was no memory.
+    NoMemory,
+}
+
+impl From<NoMemory> for ReadFailure {
+    ghost use Rattle.std.specs.Prelude.{◌≡◌};
+    ghost use Rattle.sim_run.specs.declared.inputs.ReadFailure.TheVariants as failure;
+
+    ghost from_gives = { λ _ e. e ≡ failure.NoMemory };
+
+    fn from(_: NoMemory) -> ReadFailure {
+        ReadFailure::NoMemory
+    }
+}
+
+// The most bytes of a scenario or a source.
+const LIMIT: usize = 1 << 20;
+
+/// Reads the scenario of this name and the source of its node.
+pub(crate) fn read_inputs<F: Files>(
+    alloc: Global,
+    name: Text,
+    files: &mut F,
+) -> Result<Inputs, ReadFailure>
+    ensures inputs { IfSome (F.held files.old) (λ contents. IfOk result (AreInputs contents name)) }
+    ensures failed { IsErrOf result ReadFailure.Failed → HasRisen (F.faults files.old) (F.faults files.new) }
+    ensures faults_stay { F.faults files.old ≤ F.faults files.new }
+{
+    let Some(node) = read_scenario(alloc, &name, files)? else {
+        return Ok(Inputs::Broken { file: name });
+    };
+    let file = name_beside(alloc, name.bytes(), node.file.bytes())?;
+    let Some(tree) = read_source(alloc, &file, files)? else {
+        return Ok(Inputs::Broken { file });
+    };
+    Ok(Inputs::Accepted { node, tree })
+}
+
+// The node of the scenario of this name, or None where there is no such scenario.
+fn read_scenario<F: Files>(
+    alloc: Global,
+    name: &Text,
+    files: &mut F,
+) -> Result<Option<Node>, ReadFailure>
+    ensures found { IfSome (F.held files.old) (λ contents. IfOk result (λ found.
+        MatchOption found ((node : Node) → ScenarioAt contents name.now node → ⊥) (ScenarioAt contents name.now))) }
+    ensures failed { IsErrOf result ReadFailure.Failed → HasRisen (F.faults files.old) (F.faults files.new) }
+    ensures faults_stay { F.faults files.old ≤ F.faults files.new }
+    ensures contents_stay { F.held files.new ≡ F.held files.old }
+{
+    let Some(text) = read_text(alloc, name, files)? else {
+        return Ok(None);
+    };
+    Ok(node_of(alloc, &text)?)
+}
+
+// The tree of the source of this name, or None where there is no such source.
+fn read_source<F: Files>(
+    alloc: Global,
+    name: &Text,
+    files: &mut F,
+) -> Result<Option<FileTree>, ReadFailure>
+    ensures found { IfSome (F.held files.old) (λ contents. IfOk result (λ found.
+        MatchOption found ((tree : FileTree) → SourceAt contents name.now tree → ⊥) (SourceAt contents name.now))) }
+    ensures failed { IsErrOf result ReadFailure.Failed → HasRisen (F.faults files.old) (F.faults files.new) }
+    ensures faults_stay { F.faults files.old ≤ F.faults files.new }
+    ensures contents_stay { F.held files.new ≡ F.held files.old }
+{
+    let Some(text) = read_text(alloc, name, files)? else {
+        return Ok(None);
+    };
+    Ok(tree_of(alloc, &text)?)
+}
+
+// The bytes of the file of this name, or None where it is missing or too long.
+fn read_text<F: Files>(
+    alloc: Global,
+    name: &Text,
+    files: &mut F,
+) -> Result<Option<Vec<u8>>, ReadFailure>
+    ensures held { IfSome (F.held files.old) (λ contents. IfOk result (λ found.
+        MatchOption found ((text : List ℕ) → Holds contents name.now text → ⊥) (λ text. Holds contents name.now text.items))) }
+    ensures short { IfOk result (λ found. IfSome found (λ text. length text.items ≤ 2 ^ 20)) }
+    ensures failed { IsErrOf result ReadFailure.Failed → HasRisen (F.faults files.old) (F.faults files.new) }
+    ensures faults_stay { F.faults files.old ≤ F.faults files.new }
+    ensures contents_stay { F.held files.new ≡ F.held files.old }
+{
+    match files.read(alloc, name, LIMIT) {
+        Ok(text) => Ok(Some(text)),
+        Err(FileRefusal::Missing | FileRefusal::TooLong) => Ok(None),
+        Err(FileRefusal::Failed) => Err(ReadFailure::Failed),
+        Err(FileRefusal::NoMemory) => Err(ReadFailure::NoMemory),
+    }
+}

@@ -1,0 +1,113 @@
+// Whole runs over files and a sink in memory.
+
+use crate::{Status, laws, simulate};
+use sim_outside::{MemFiles, MemSink, Text};
+use std::alloc::Global;
+use std::test::Fail;
+
+// A run, and what it must end with and write.
+#[derive(Clone, Copy)]
+struct Run<'a> {
+    words: &'a [&'a str],
+    scenario: Option<&'a str>,
+    source: Option<&'a str>,
+    failing_reads: &'a [u64],
+    failing_writes: &'a [(u64, usize)],
+    status: Status,
+    written: &'a str,
+}
+
+const SCENARIO: &str = "scenario 1\nnode N n.can\n";
+
+// A run of `window s.scn` in which nothing fails.
+fn window<'a>(source: &'a str, status: Status, written: &'a str) -> Run<'a> {
+    Run {
+        words: &["window", "s.scn"],
+        scenario: Some(SCENARIO),
+        source: Some(source),
+        failing_reads: &[],
+        failing_writes: &[],
+        status,
+        written,
+    }
+}
+
+// The files `s.scn` and `n.can`, where they are there.
+fn files(alloc: Global, run: &Run) -> Result<MemFiles, Fail> {
+    let mut entries = Vec::new(alloc);
+    for (name, text) in [("s.scn", run.scenario), ("n.can", run.source)] {
+        if let Some(text) = text {
+            let name = Text::make(alloc, name.as_bytes())?;
+            entries.push((name, text.as_bytes().to_vec(alloc)?))?;
+        }
+    }
+    Ok(MemFiles::new(entries, run.failing_reads.to_vec(alloc)?))
+}
+
+fn words(alloc: Global, run: &Run) -> Result<Vec<String>, Fail> {
+    let mut words = Vec::new(alloc);
+    for word in run.words {
+        words.push(String::from_str(alloc, word)?)?;
+    }
+    Ok(words)
+}
+
+#[test]
+fn runs_end_and_write_as_they_must(rt: HostRuntime) -> Result<(), Fail> {
+    let hello = r#"on start { write("hello"); }"#;
+    let two = r#"on start { write("a"); write("b"); }"#;
+    let runs = [
+        window(hello, Status::Done, "w 0.000000 N hello\n"),
+        window("", Status::Done, ""),
+        window(
+            "on start { stop(); }",
+            Status::Refused,
+            "refused n.can N01\n",
+        ),
+        Run {
+            scenario: None,
+            ..window(hello, Status::Refused, "refused s.scn N01\n")
+        },
+        Run {
+            words: &[],
+            ..window(hello, Status::Usage, "")
+        },
+        Run {
+            failing_reads: &[2],
+            ..window(hello, Status::ReadFault, "")
+        },
+        Run {
+            failing_writes: &[(2, 3)],
+            ..window(two, Status::WriteFault, "w 0.000000 N a\nw 0")
+        },
+    ];
+    let alloc = rt.alloc();
+    for run in &runs {
+        let mut files = files(alloc, run)?;
+        let mut sink = MemSink::new(alloc, run.failing_writes.to_vec(alloc)?);
+        let words = words(alloc, run)?;
+        assert_eq!(rt; simulate(alloc, &words, &mut files, &mut sink), run.status);
+        assert_eq!(rt; sink.written(), run.written.as_bytes());
+    }
+    Ok(())
+}
+
+// A source is taken up to 1 MiB.
+#[test]
+fn long_sources_are_refused(rt: HostRuntime) -> Result<(), Fail> {
+    let alloc = rt.alloc();
+    for (count, status) in [(1 << 20, Status::Done), ((1 << 20) + 1, Status::Refused)] {
+        let mut entries = Vec::new(alloc);
+        entries.push((
+            Text::make(alloc, b"s.scn")?,
+            SCENARIO.as_bytes().to_vec(alloc)?,
+        ))?;
+        entries.push((Text::make(alloc, b"n.can")?, vec![in alloc; b' '; count]?))?;
+        let mut files = MemFiles::new(entries, Vec::new(alloc));
+        let mut sink = MemSink::new(alloc, Vec::new(alloc));
+        let words = words(alloc, &window("", status, ""))?;
+        assert_eq!(rt; simulate(alloc, &words, &mut files, &mut sink), status);
+    }
+    laws::one_answer();
+    Ok(())
+}
