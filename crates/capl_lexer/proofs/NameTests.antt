@@ -1,15 +1,13 @@
 -- When bytes are a name, by their first byte and the run of name bytes at their front.
-use Rattle.std.proofs.Common.{refl, ◌≡◌, ◌≢◌, ◌<◌, ◌≤◌, ℕ, List, [], ◌∷◌, ◌++◌, length, take, sym, subst, arith}
-use Rattle.std.specs.Prelude.{All, Bool, true, false, not, Option, Some, None, MatchOption, IsTrue, is_none, is_some}
-use Rattle.std.proofs.Math.Seq.{take-length}
+use Rattle.std.proofs.Common.{refl, ◌≡◌, ◌≢◌, ◌≤◌, ℕ, List, [], ◌∷◌, length, sym}
+use Rattle.std.specs.Prelude.{Bool, true, false, not, Option, Some, None, MatchOption, IsTrue, is_none, is_some}
 use Rattle.std.proofs.lemmas.Bool.{false≢true}
-use Rattle.std.proofs.lemmas.List.{append-nil}
-use Rattle.capl_lexer.specs.Bytes.{IsNameFront, IsNamePart}
-use Rattle.capl_lexer.specs.Run.{IsInClass, IsFirstInClass, IsRun}
+use Rattle.capl_lexer.specs.Bytes.{IsNameFront}
+use Rattle.capl_lexer.specs.Run.{IsFirstInClass, IsRun}
 use Rattle.capl_lexer.specs.Spelling.{IsName, word_spelling}
 use Rattle.capl_lexer.specs.declared.byte_class.ByteClass.TheVariants as class
 use Rattle.capl_lexer.specs.declared.token.Word.{Word}
-use Rattle.capl_lexer.proofs.Runs.{run-le}
+use Rattle.capl_lexer.proofs.Runs.{run-whole, whole-run}
 
 -- the first byte is that of a name
 pub first_from_front : (bytes : List ℕ) → IsNameFront bytes → IsFirstInClass class.NameStart bytes
@@ -22,16 +20,15 @@ front_from_first (byte ∷ bytes) first = first
 
 -- a name is one run of name bytes
 pub name_is_run : (bytes : List ℕ) (count : ℕ) → IsRun class.NamePart bytes count → IsName bytes → length bytes ≤ count
-name_is_run bytes count run name = run-le class.NamePart bytes count bytes [] run (sym (append-nil bytes)) name.parts
+name_is_run bytes count run name = whole-run class.NamePart bytes count run name.parts
 
 -- a run of name bytes that begins as a name is one, if it is no reserved word
 pub name_from_run : (bytes : List ℕ) (count : ℕ) → IsFirstInClass class.NameStart bytes → IsRun class.NamePart bytes count → length bytes ≤ count →
     ((word : Word) → bytes ≢ word_spelling word) → IsName bytes
 name_from_run bytes count first run whole free =
-    let all : count ≡ length bytes = omega (arith, run.within) in
     record {
       start = front_from_first bytes first;
-      parts = subst (All IsNamePart) (take-length bytes) (subst (λ n. All IsNamePart (take n bytes)) all run.inside);
+      parts = run-whole class.NamePart bytes count run whole;
       not_reserved = free;
     }
 

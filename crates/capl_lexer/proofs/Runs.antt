@@ -1,7 +1,9 @@
 -- Runs of bytes of one class, against other splits of the text.
-use Rattle.std.proofs.Common.{◌≡◌, ◌<◌, ◌≤◌, ℕ, List, ◌∷◌, ◌++◌, length, get_or, take, drop, All, inl, inr, refl, ap, subst, ◌∙◌, arith, length-append, drop-cons}
+use Rattle.std.proofs.Common.{◌≡◌, ◌<◌, ◌≤◌, ℕ, List, [], ◌∷◌, ◌++◌, length, get_or, take, drop, All, inl, inr, refl, sym, ap, subst, ◌∙◌, arith, length-append, drop-cons}
 use Rattle.std.proofs.lemmas.Bool.{cases_lt}
+use Rattle.std.proofs.Math.Seq.{take-length}
 use Rattle.std.proofs.lemmas.Grind.{common_steps}
+use Rattle.std.proofs.lemmas.List.{append-nil}
 use Rattle.std.proofs.lemmas.List.{get_or_append_left, get_or_at, get_or-take}
 use Rattle.capl_lexer.specs.Run.{IsInClass, IsFirstInClass, IsRun}
 use Rattle.capl_lexer.specs.declared.byte_class.ByteClass.{ByteClass}
@@ -36,3 +38,13 @@ run-exact class text count front byte after run split all outside =
           absurd (outside (let P : ℕ → Type 0 = IsInClass class in subst P taken (run.inside (length front) 0 inside)))
       | inr long ↦ omega arith
     ]
+
+-- a run that ends with the text is the whole text
+pub run-whole : (class : ByteClass) (text : List ℕ) (count : ℕ) → IsRun class text count → length text ≤ count → All (IsInClass class) text
+run-whole class text count run whole =
+    let all : count ≡ length text = omega (arith, run.within) in
+    subst (All (IsInClass class)) (take-length text) (subst (λ n. All (IsInClass class) (take n text)) all run.inside)
+
+-- a text of one class is one run
+pub whole-run : (class : ByteClass) (text : List ℕ) (count : ℕ) → IsRun class text count → All (IsInClass class) text → length text ≤ count
+whole-run class text count run all = run-le class text count text [] run (sym (append-nil text)) all

@@ -5,12 +5,14 @@
 //! columns, or the first place at which no piece begins.
 #![tactic(auto)]
 
+pub use decimal::decimal_number;
 pub use lexer::{LexRefusal, lex};
 pub use names::is_name;
 pub use token::{Sign, Tok, Token, Word};
 
 mod base;
 mod byte_class;
+mod decimal;
 mod front;
 mod lexer;
 mod names;
