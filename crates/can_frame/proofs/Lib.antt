@@ -1,0 +1,4 @@
+pub mod BitLists
+pub mod Payload
+pub mod Fields
+mod KeyBits

@@ -1,0 +1,4 @@
+pub mod Bits
+pub mod Frame
+pub mod FrameInside
+pub mod Arbitration

@@ -1,0 +1,209 @@
+//! Classic CAN frames of ISO 11898-1 and their two keys.
+//!
+//! A `Frame` always has an identifier, a data length code and a channel in range, and 0 in each
+//! byte past its payload. `arb_key` orders frames as arbitration on the bus does, by the first bit
+//! in which their arbitration fields differ. `sel_key` names an identifier by one number. No call
+//! takes memory.
+#![tactic(auto)]
+
+ghost use Rattle.std.specs.Prelude.{◌≡◌, ◌≤◌, ◌↔◌, IsTrue, IsSome, IfSome};
+ghost use Rattle.can_frame.specs.Frame.{IsFrame, IsIdent, FrameFields, data_len, padded};
+
+pub use keys::{arb_key, sel_key};
+use std::marker::Model;
+
+mod keys;
+pub mod laws;
+
+/// The identifier of a frame, and by its variant the frame's format.
+#[derive(Clone, Copy, Debug, PartialEq, Eq)]
+pub enum Ident {
+    /// A standard identifier of 11 bits: 0 to 0x7FF in a frame.
+    Std(u16),
+    /// An extended identifier of 29 bits: 0 to 0x1FFF_FFFF in a frame.
+    Ext(u32),
+}
+
+/// A classic CAN data or remote frame, and the channel that it belongs to.
+///
+/// Contracts see it as a `FrameFields`, and each value is an `IsFrame`.
+#[derive(Clone, Copy, Debug, PartialEq, Eq)]
+pub struct Frame {
+    ident: Ident,
+    rtr: bool,
+    dlc: u8,
+    payload: [u8; 8],
+    can: u8,
+}
+
+impl Model for Frame {
+    ghost use Rattle.can_frame.specs.Frame.{FrameFields, IsFrame};
+
+    ghost Value = { FrameFields };
+
+    ghost use Rattle.can_frame.specs.FrameInside.{fields_of};
+
+    ghost view = { fields_of };
+
+    ghost invariant = { λ f. IsFrame (fields_of f) };
+
+    ghost inverse = { λ v. record {
+      ident = v.ident;
+      rtr = v.remote;
+      dlc = v.dlc;
+      payload = v.payload;
+      can = v.can;
+    } };
+}
+
+impl Frame {
+    /// The frame with these fields, or `None` exactly where the identifier is above 0x7FF
+    /// (standard) or 0x1FFF_FFFF (extended), `dlc` is above 8 or `can` is neither 1 nor 2.
+    ///
+    /// The payload of a data frame is its first `dlc` bytes. A remote frame has no data field, so
+    /// it has no payload, whatever its `dlc` asks for. Bytes past the payload become 0.
+    pub fn make(ident: Ident, rtr: bool, dlc: u8, payload: [u8; 8], can: u8) -> Option<Frame>
+        ensures in_range { IsSome result ↔ (IsIdent ident × (dlc ≤ 8) × (1 ≤ can) × (can ≤ 2)) }
+        ensures ident { IfSome result (λ f. f.ident ≡ ident) }
+        ensures remote { IfSome result (λ f. f.remote ≡ rtr) }
+        ensures dlc { IfSome result (λ f. f.dlc ≡ dlc) }
+        ensures payload { IfSome result (λ f. f.payload ≡ padded (data_len f) payload) }
+        ensures can { IfSome result (λ f. f.can ≡ can) }
+        ensures valid { IfSome result IsFrame }
+    {
+        if !is_ident(ident) || dlc > 8 || can < 1 || can > 2 {
+            return None;
+        }
+        let data_len = if rtr { 0 } else { usize::from(dlc) };
+        Some(Frame {
+            ident,
+            rtr,
+            dlc,
+            payload: first_bytes(payload, data_len),
+            can,
+        })
+    }
+
+    /// The identifier.
+    pub fn ident(&self) -> Ident
+        ensures value { result ≡ self.now.ident }
+        ensures valid { IsFrame self.now }
+    {
+        self.ident
+    }
+
+    /// Whether this is a remote frame.
+    pub fn rtr(&self) -> bool
+        ensures value { result ≡ self.now.remote }
+        ensures valid { IsFrame self.now }
+    {
+        self.rtr
+    }
+
+    /// The data length code, 0 to 8. A remote frame has one too, and no data.
+    pub fn dlc(&self) -> u8
+        ensures value { result ≡ self.now.dlc }
+        ensures valid { IsFrame self.now }
+    {
+        self.dlc
+    }
+
+    /// The eight payload bytes; those past the payload are 0.
+    pub fn payload(&self) -> [u8; 8]
+        ensures value { result ≡ self.now.payload }
+        ensures valid { IsFrame self.now }
+    {
+        self.payload
+    }
+
+    /// The channel, 1 or 2.
+    pub fn can(&self) -> u8
+        ensures value { result ≡ self.now.can }
+        ensures valid { IsFrame self.now }
+    {
+        self.can
+    }
+}
+
+/// The first `len` bytes, and zeros in place of the others.
+fn first_bytes(mut payload: [u8; 8], len: usize) -> [u8; 8]
+    requires { len ≤ 8 }
+    ensures { result ≡ padded len payload }
+{
+    payload[len..].fill(0);
+    payload
+}
+
+/// Whether the identifier's format can carry it.
+fn is_ident(ident: Ident) -> bool
+    ensures { IsTrue result ↔ IsIdent ident }
+{
+    match ident {
+        Ident::Std(number) => number <= 0x7FF,
+        Ident::Ext(number) => number <= 0x1FFF_FFFF,
+    }
+}
+
+#[cfg(test)]
+mod tests {
+    use super::*;
+    use std::test::Fail;
+
+    const BYTES: [u8; 8] = [1, 2, 3, 4, 5, 6, 7, 8];
+
+    #[test]
+    fn make_keeps_the_fields(rt: HostRuntime) -> Result<(), Fail> {
+        let frame = Frame::make(Ident::Std(0x123), false, 3, BYTES, 2).ok_or("a frame")?;
+        assert_eq!(rt; frame.ident(), Ident::Std(0x123));
+        assert_eq!(rt; frame.rtr(), false);
+        assert_eq!(rt; frame.dlc(), 3);
+        assert_eq!(rt; frame.payload(), [1, 2, 3, 0, 0, 0, 0, 0]);
+        assert_eq!(rt; frame.can(), 2);
+        let remote = Frame::make(Ident::Ext(5), true, 8, BYTES, 1).ok_or("a frame")?;
+        assert_eq!(rt; remote.dlc(), 8);
+        assert_eq!(rt; remote.payload(), [0; 8]);
+        Ok(())
+    }
+
+    #[test]
+    fn make_refuses_what_is_out_of_range(rt: HostRuntime) {
+        let refused = [
+            (Ident::Std(0x800), 0, 1),
+            (Ident::Ext(0x2000_0000), 0, 1),
+            (Ident::Std(0x7FF), 9, 1),
+            (Ident::Ext(0x1FFF_FFFF), 8, 0),
+            (Ident::Ext(0x1FFF_FFFF), 8, 3),
+        ];
+        for (ident, dlc, can) in refused {
+            assert_eq!(rt; Frame::make(ident, false, dlc, BYTES, can), None);
+        }
+    }
+
+    // The keys are the arbitration fields of ISO 11898-1, written out by hand.
+    #[test]
+    fn keys_of_some_frames(rt: HostRuntime) -> Result<(), Fail> {
+        let rows = [
+            (Ident::Std(0), false, 0, 0),
+            (Ident::Std(0), true, 0x0010_0000, 0),
+            (Ident::Std(1), false, 0x0020_0000, 1),
+            (Ident::Ext(0), false, 0x0018_0000, 0x8000_0000),
+            (Ident::Ext(0), true, 0x0018_0001, 0x8000_0000),
+            (Ident::Ext(1), false, 0x0018_0002, 0x8000_0001),
+            (Ident::Ext(0x0004_0000), false, 0x0038_0000, 0x8004_0000),
+            (Ident::Std(0x7FF), true, 0xFFF0_0000, 0x7FF),
+            (Ident::Ext(0x1FFF_FFFF), true, 0xFFFF_FFFF, 0x9FFF_FFFF),
+        ];
+        for (ident, rtr, arbitration, selection) in rows {
+            let frame = Frame::make(ident, rtr, 0, BYTES, 1).ok_or("a frame")?;
+            assert_eq!(rt; arb_key(&frame), arbitration);
+            assert_eq!(rt; sel_key(&frame), selection);
+        }
+        Ok(())
+    }
+
+    #[test]
+    fn laws_can_be_called() {
+        laws::arb_key_orders();
+        laws::sel_key_names();
+    }
+}
