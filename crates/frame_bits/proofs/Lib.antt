@@ -1,0 +1,5 @@
+mod CrcSteps
+mod Runs
+mod FieldSteps
+pub mod OneStuffing
+pub mod Lengths

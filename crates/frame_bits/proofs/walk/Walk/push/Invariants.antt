@@ -1,0 +1,10 @@
+use Rattle.std.proofs.Common.{◌+◌, ◌-◌, ◌*◌, ◌/◌, ◌^◌, ◌≤◌, Bool, List, ◌++◌}
+use Rattle.can_frame.specs.Bits.{field_bits}
+use Rattle.frame_bits.specs.WalkState.{HasWalked}
+use Rattle.frame_bits.proofs.walk.Walk.push.Given as goal
+
+abbrev pub invariant-loop-place : goal.invariant-loop-place
+invariant-loop-place l = record {
+  walked : (bits : List Bool) → HasWalked l.initial.self bits → HasWalked l.self (bits ++ field_bits (l.field.width - l.place) (l.field.number / 2 ^ l.place));
+  counted : l.self.stuffing.count ≤ l.initial.self.stuffing.count + 2 * (l.field.width - l.place);
+}

@@ -1,0 +1,10 @@
+use Rattle.std.proofs.Common.{◌+◌, ◌*◌, ◌≤◌, Bool, List, ◌++◌, take}
+use Rattle.frame_bits.specs.FieldBits.{bits_in_all}
+use Rattle.frame_bits.specs.WalkState.{HasWalked}
+use Rattle.frame_bits.proofs.walk.Walk.push_all.Given as goal
+
+abbrev pub invariant-loop-field : goal.invariant-loop-field
+invariant-loop-field l = record {
+  walked : (bits : List Bool) → HasWalked l.initial.self bits → HasWalked l.self (bits ++ bits_in_all (take l.field-index l.fields));
+  counted : l.self.stuffing.count ≤ l.initial.self.stuffing.count + 36 * l.field-index;
+}

@@ -1,0 +1,33 @@
+use Rattle.std.specs.Prelude.{ℕ, Bool, true, false, not, List, [], ◌∷◌, ◌++◌, length, replicate}
+use Rattle.std.proofs.Common.{zero, suc}
+
+-- the sum of two bits without carry
+abbrev pub xor : Bool → Bool → Bool
+xor false b = b
+xor true b = not b
+
+-- the bits with coefficients added to the first of them
+abbrev pub added : List Bool → List Bool → List Bool
+added [] bits = bits
+added (c ∷ coefficients) [] = []
+added (c ∷ coefficients) (b ∷ bits) = xor c b ∷ added coefficients bits
+
+-- the coefficients of x^15 + x^14 + x^10 + x^8 + x^7 + x^4 + x^3 + 1 from x^14 down
+unfoldable pub generator : List Bool
+generator =
+    true ∷ false ∷ false ∷ false ∷ true ∷ false ∷ true ∷ true ∷ false ∷ false ∷ true ∷ true ∷ false ∷ false ∷ true ∷ []
+
+-- a step of long division: the leading bit is struck, and where it is 1 the generator is added
+abbrev pub strike : List Bool → List Bool
+strike [] = []
+strike (false ∷ bits) = bits
+strike (true ∷ bits) = added generator bits
+
+-- what so many steps leave
+abbrev pub divided : ℕ → List Bool → List Bool
+divided zero bits = bits
+divided (suc n) bits = strike (divided n bits)
+
+-- the CRC: the remainder of the bits with fifteen zeros appended
+unfoldable pub crc_bits : List Bool → List Bool
+crc_bits bits = divided (length bits) (bits ++ replicate 15 false)

@@ -1,0 +1,11 @@
+use Rattle.std.specs.Prelude.{Bool, List}
+use Rattle.std.specs.List.{flat_map}
+use Rattle.can_frame.specs.Bits.{field_bits}
+use Rattle.frame_bits.specs.declared.field.Field.{Field}
+
+-- the bits of a field, and of fields one after another
+abbrev pub bits_in : Field → List Bool
+bits_in field = field_bits field.width field.number
+
+abbrev pub bits_in_all : List Field → List Bool
+bits_in_all fields = flat_map bits_in fields

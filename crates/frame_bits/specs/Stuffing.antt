@@ -1,0 +1,44 @@
+use Rattle.std.specs.Prelude.{◌≡◌, ◌≢◌, Bool, true, false, not, if◌then◌else◌, ◌||◌, List, [], ◌∷◌, ◌++◌, replicate}
+use Rattle.std.specs.Bool.{beq}
+use Rattle.std.specs.List.{starts_with}
+
+-- whether a list begins with five equal bits
+abbrev pub begins_with_run : List Bool → Bool
+begins_with_run bits = starts_with beq bits (replicate 5 false) || starts_with beq bits (replicate 5 true)
+
+-- the bits that do not follow five equal bits; `before` has what stands before them, the nearest
+-- first
+abbrev pub kept_after : List Bool → List Bool → List Bool
+kept_after before [] = []
+kept_after before (b ∷ bits) =
+    if begins_with_run before then kept_after (b ∷ before) bits else b ∷ kept_after (b ∷ before) bits
+
+-- a list without the bits that follow five equal bits
+unfoldable pub without_stuff_bits : List Bool → List Bool
+without_stuff_bits s = kept_after [] s
+
+-- s is a stuffing of b
+pub record IsStuffing (s b : List Bool) : Type 0 where
+  -- no six neighbouring bits are equal
+  pub no_six : (front back : List Bool) (x : Bool) → s ≢ (front ++ replicate 6 x) ++ back
+  -- each run of five equal bits is followed by a bit, also at the end
+  pub followed : (front back : List Bool) (x : Bool) → s ≡ (front ++ replicate 5 x) ++ back → back ≢ []
+  -- without the bits that follow such runs it is b; the bits that are left out count in runs
+  pub carries : without_stuff_bits s ≡ b
+
+-- after five equal bits, the inserted ones counted, one of the other value; `before` as above
+abbrev pub stuffed_after : List Bool → List Bool → List Bool
+stuffed_after before [] = []
+stuffed_after before (b ∷ bits) =
+    if begins_with_run (b ∷ before)
+    then b ∷ not b ∷ stuffed_after (not b ∷ b ∷ before) bits
+    else b ∷ stuffed_after (b ∷ before) bits
+
+-- the stuffing of a list
+unfoldable pub stuffed : List Bool → List Bool
+stuffed b = stuffed_after [] b
+
+-- a list has exactly one stuffing
+pub record HasOneStuffing (b : List Bool) : Type 0 where
+  pub is_one : IsStuffing (stuffed b) b
+  pub no_other : (s : List Bool) → IsStuffing s b → s ≡ stuffed b

@@ -1,0 +1,59 @@
+// The CRC of ISO 11898-1.
+
+ghost use Rattle.std.specs.Prelude.{◌≡◌, ◌<◌, ◌^◌, Bool, List, [], ◌∷◌, ◌++◌};
+ghost use Rattle.can_frame.specs.Bits.{number_of};
+ghost use Rattle.frame_bits.specs.Crc.{crc_bits};
+ghost use Rattle.frame_bits.specs.Walk.{IsRegister};
+
+/// The generator polynomial without its leading term.
+const GENERATOR: u16 = 0x4599;
+
+/// The fifteen bits of the CRC register.
+#[derive(Clone, Copy)]
+pub struct Crc {
+    register: u16,
+    ghost in_range: { register < 2 ^ 15 },
+}
+
+impl Crc {
+    /// The register before the first bit.
+    pub fn new() -> Self
+        ensures { IsRegister result.register [] }
+    {
+        Crc { register: 0 }
+    }
+
+    /// Takes one bit in.
+    pub fn push(&mut self, bit: bool)
+        ensures { (bits : List Bool) → IsRegister self.old.register bits
+            → IsRegister self.new.register (bits ++ bit ∷ []) }
+    {
+        let leading = self.register >> 14 == 1;
+        let shifted = (self.register & 0x3FFF) << 1;
+        self.register = if leading == bit {
+            shifted
+        } else {
+            shifted ^ GENERATOR
+        };
+    }
+
+    /// The CRC of the bits that were taken in.
+    pub fn value(&self) -> u16
+        ensures range { result < 2 ^ 15 }
+        ensures value { (bits : List Bool) → IsRegister self.now.register bits → result ≡ number_of (crc_bits bits) }
+    {
+        self.register
+    }
+}
+
+/// The CRC of the bits: their remainder by x^15 + x^14 + x^10 + x^8 + x^7 + x^4 + x^3 + 1 with
+/// fifteen zeros appended, as a number of 15 bits.
+pub fn crc15(bits: &[bool]) -> u16
+    ensures { result ≡ number_of (crc_bits bits.now) }
+{
+    let mut crc = Crc::new();
+    for bit in bits {
+        crc.push(*bit);
+    }
+    crc.value()
+}

@@ -1,0 +1,72 @@
+// A walk over the bits of a frame, with a CRC register and a counter of the stuffing.
+
+ghost use Rattle.std.specs.Prelude.{◌≡◌, ◌+◌, ◌*◌, ◌≤◌, ◌<◌, ◌^◌, [], ◌∷◌, length};
+ghost use Rattle.frame_bits.specs.Fields.{data_bits};
+ghost use Rattle.frame_bits.specs.FieldBits.{bits_in, bits_in_all};
+ghost use Rattle.frame_bits.specs.WalkState.{HasWalked, GoesOver};
+
+use crate::crc::Crc;
+use crate::field::Field;
+use crate::stuffing::StuffCounter;
+
+#[derive(Clone, Copy)]
+pub struct Walk {
+    pub crc: Crc,
+    pub stuffing: StuffCounter,
+}
+
+impl Walk {
+    /// The walk before the first bit.
+    pub fn new() -> Self
+        ensures none { HasWalked result [] }
+        ensures zero { result.stuffing.count ≡ 0 }
+    {
+        Walk {
+            crc: Crc::new(),
+            stuffing: StuffCounter::new(),
+        }
+    }
+
+    /// Goes over one bit.
+    fn push_bit(&mut self, bit: bool)
+        requires { self.old.stuffing.count + 2 < 2 ^ 32 }
+        ensures walked { GoesOver self.old self.new (bit ∷ []) }
+        ensures at_most_two { self.new.stuffing.count ≤ self.old.stuffing.count + 2 }
+    {
+        self.crc.push(bit);
+        self.stuffing.push(bit);
+    }
+
+    /// Goes over the bits of a field.
+    pub fn push(&mut self, field: Field)
+        requires { self.old.stuffing.count + 2 * field.width < 2 ^ 32 }
+        ensures walked { GoesOver self.old self.new (bits_in field) }
+        ensures at_most_two { self.new.stuffing.count ≤ self.old.stuffing.count + 2 * field.width }
+    {
+        for place in (0..field.width).rev() {
+            self.push_bit(field.number >> place & 1 == 1);
+        }
+    }
+
+    /// Goes over the bits of the fields.
+    pub fn push_all(&mut self, fields: &[Field])
+        requires { self.old.stuffing.count + 36 * length fields.now < 2 ^ 32 }
+        ensures walked { GoesOver self.old self.new (bits_in_all fields.now) }
+        ensures at_most { self.new.stuffing.count ≤ self.old.stuffing.count + 36 * length fields.now }
+    {
+        for field in fields {
+            self.push(*field);
+        }
+    }
+
+    /// Goes over the bits of the bytes.
+    pub fn push_bytes(&mut self, bytes: &[u8])
+        requires { self.old.stuffing.count + 16 * length bytes.now < 2 ^ 32 }
+        ensures walked { GoesOver self.old self.new (data_bits bytes.now) }
+        ensures at_most { self.new.stuffing.count ≤ self.old.stuffing.count + 16 * length bytes.now }
+    {
+        for byte in bytes {
+            self.push(Field::new(8, u32::from(*byte)));
+        }
+    }
+}
