@@ -1,0 +1,4 @@
+pub mod Congruence
+pub mod Operations
+pub mod Wrapping
+pub mod Values

@@ -1,0 +1,3 @@
+pub mod Arithmetic
+pub mod Congruent
+pub mod Kind
