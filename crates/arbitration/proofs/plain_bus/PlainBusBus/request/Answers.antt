@@ -1,0 +1,116 @@
+use Rattle.std.proofs.Common.{◌≡◌, ℕ, ◌+◌, List, map, refl, sym, ap, subst, ◌∙◌, arith}
+use Rattle.std.specs.Prelude.{IsTrue}
+use Rattle.std.specs.List.{All}
+use Rattle.std.specs.Option.{option_map}
+use Rattle.std.specs.Ordering.{nat_cmp}
+use Rattle.std.specs.Vec.{with_items}
+use Rattle.std.proofs.lemmas.List.{with_items_is}
+use Rattle.std.specs.FinMap.{is_sorted, from_entries}
+use Rattle.can_frame.specs.Frame.{FrameFields}
+use Rattle.arbitration.specs.declared.bus.Waiting.{Waiting}
+use Rattle.arbitration.specs.Waiting.{name_cmp, entry_of, requests_of}
+use Rattle.arbitration.specs.Bus.{BusState, next_number, requested}
+use Rattle.arbitration.specs.PlainBus.{state_of, transmission_of, IsBelowNext}
+use Rattle.arbitration.specs.Places.{place_behind, anew_at, carried_at}
+use Rattle.arbitration.proofs.Edits.{in_order-insert}
+use Rattle.arbitration.proofs.Numbering.{in_order-anew}
+use Rattle.arbitration.proofs.Asked.{asking, asked_list, asked, asked-last, below-asked, below-last, IsLast-request, place_behind-le, asked_number, longer, noted-early, noted-last}
+use Rattle.arbitration.proofs.plain_bus.PlainBusBus.request.Goals as goal
+
+abbrev InOrder : List Waiting → Type 0
+InOrder rs = IsTrue (is_sorted name_cmp (map entry_of rs))
+
+-- the list with the request is in order
+in_order : (s : BusState) (rs after : List Waiting) (node n : ℕ) (f : FrameFields) → InOrder rs → All (IsBelowNext s) rs → n ≡ next_number s node → after ≡ asked_list rs node n f → InOrder after
+in_order s rs after node n f order below is e = subst InOrder (sym e) (in_order-insert rs (asking node n f) (IsLast-request s rs node n f below is) order)
+
+pub add-requires : goal.add-requires
+add-requires c =
+    let rs = c.self.inside.waiting.items in
+    let at = ap (λ us. place_behind us c.args.node) c.deref.ensures.value in
+    let within = place_behind-le rs c.args.node in
+    omega arith
+
+pub number_anew-requires : goal.number_anew-requires
+number_anew-requires c =
+    let b = c.self.inside in
+    let n = c.unwrap_or-number.result in
+    let is = asked_number b.next c.args.node n c.copied.result _ c.unwrap_or-number.ensures c.copied.ensures c.get.ensures.value in
+    let list = longer b.waiting.items c.deref.result.now c.add.new.waiting.items c.args.node n c.place_behind-place.result c.args.f.now c.deref.ensures.value c.place_behind-place.ensures c.in_ok-add.ensures.waiting in
+    in_order (state_of b) b.waiting.items _ c.args.node n c.args.f.now c.self.invariant.in_order c.self.invariant.below_next is (c.deref_mut.ensures.value ∙ list)
+
+pub invariant_of-self-else-number : goal.invariant_of-self-else-number
+invariant_of-self-else-number c =
+    let b = c.self.inside in
+    let rs = b.waiting.items in
+    let s = state_of b in
+    let node = c.args.node in
+    let n = c.unwrap_or-number.result in
+    let f = c.args.f.now in
+    let is = asked_number b.next node n c.copied.result _ c.unwrap_or-number.ensures c.copied.ensures c.get.ensures.value in
+    let list = longer rs c.deref.result.now c.add.new.waiting.items node n c.place_behind-place.result f c.deref.ensures.value c.place_behind-place.ensures c.in_ok-add.ensures.waiting in
+    let next = noted-early c.deref-2.result.now b.wire b.next c.add.new.next node n c.following_number-following.result c.if-number.false c.following_number-following.ensures c.in_ok-add.ensures.next in
+    let Below : List Waiting → Type 0 = All (IsBelowNext (record s { next = from_entries {R = nat_cmp} c.add.new.next.entries })) in
+    record {
+      takes_time = c.self.invariant.takes_time;
+      in_order = in_order s rs c.add.new.waiting.items node n f c.self.invariant.in_order c.self.invariant.below_next is list;
+      below_next = subst Below (sym list) (below-asked s rs node n (n + 1) f _ c.self.invariant.below_next is (omega arith) next);
+    }
+
+pub returns-else-number-clause-ok : goal.returns-else-number-clause-ok
+returns-else-number-clause-ok c =
+    let b = c.self.inside in
+    let rs = b.waiting.items in
+    let s = state_of b in
+    let node = c.args.node in
+    let n = c.unwrap_or-number.result in
+    let f = c.args.f.now in
+    let is = asked_number b.next node n c.copied.result _ c.unwrap_or-number.ensures c.copied.ensures c.get.ensures.value in
+    let list = longer rs c.deref.result.now c.add.new.waiting.items node n c.place_behind-place.result f c.deref.ensures.value c.place_behind-place.ensures c.in_ok-add.ensures.waiting in
+    let next = noted-early c.deref-2.result.now b.wire b.next c.add.new.next node n c.following_number-following.result c.if-number.false c.following_number-following.ensures c.in_ok-add.ensures.next in
+    ap (λ us. record s { waiting = requests_of us; next = from_entries c.add.new.next.entries }) list
+    ∙ asked s rs node n f _ refl c.self.invariant.below_next is c.if-number.false next
+    ∙ ap (λ t. requested t node f) c.self.view_is
+
+pub invariant_of-self-then-number : goal.invariant_of-self-then-number
+invariant_of-self-then-number c =
+    let b = c.self.inside in
+    let rs = b.waiting.items in
+    let s = state_of b in
+    let node = c.args.node in
+    let n = c.unwrap_or-number.result in
+    let f = c.args.f.now in
+    let is = asked_number b.next node n c.copied.result _ c.unwrap_or-number.ensures c.copied.ensures c.get.ensures.value in
+    let list = longer rs c.deref.result.now c.add.new.waiting.items node n c.place_behind-place.result f c.deref.ensures.value c.place_behind-place.ensures c.in_ok-add.ensures.waiting in
+    let anew : (with_items c.add.new.waiting c.number_anew.new.waiting).items ≡ map (anew_at (asked_list rs node n f) b.wire node) (asked_list rs node n f) =
+    with_items_is c.add.new.waiting c.number_anew.new.waiting (omega arith)
+    ∙ c.number_anew.ensures
+    ∙ ap (λ us. map (anew_at us b.wire node) us) (c.deref_mut.ensures.value ∙ list) in
+    let next = noted-last rs c.deref-2.result.now b.wire b.next c.add.new.next node n c.following_number-following.result c.deref-2.ensures.value c.if-number.true c.following_number-following.ensures c.in_ok-add.ensures.next in
+    let Below : List Waiting → Type 0 = All (IsBelowNext (record s { next = from_entries {R = nat_cmp} c.add.new.next.entries })) in
+    record {
+      takes_time = c.self.invariant.takes_time;
+      in_order = subst InOrder (sym anew) (in_order-anew (asked_list rs node n f) b.wire node (in_order s rs (asked_list rs node n f) node n f c.self.invariant.in_order c.self.invariant.below_next is refl));
+      below_next = subst Below (sym anew) (below-last s rs b.wire node n f _ c.self.invariant.below_next is next);
+    }
+
+pub returns-then-number-clause-ok : goal.returns-then-number-clause-ok
+returns-then-number-clause-ok c =
+    let b = c.self.inside in
+    let rs = b.waiting.items in
+    let s = state_of b in
+    let node = c.args.node in
+    let n = c.unwrap_or-number.result in
+    let f = c.args.f.now in
+    let is = asked_number b.next node n c.copied.result _ c.unwrap_or-number.ensures c.copied.ensures c.get.ensures.value in
+    let list = longer rs c.deref.result.now c.add.new.waiting.items node n c.place_behind-place.result f c.deref.ensures.value c.place_behind-place.ensures c.in_ok-add.ensures.waiting in
+    let anew : (with_items c.add.new.waiting c.number_anew.new.waiting).items ≡ map (anew_at (asked_list rs node n f) b.wire node) (asked_list rs node n f) =
+    with_items_is c.add.new.waiting c.number_anew.new.waiting (omega arith)
+    ∙ c.number_anew.ensures
+    ∙ ap (λ us. map (anew_at us b.wire node) us) (c.deref_mut.ensures.value ∙ list) in
+    let carried : c.carried_anew-wire.result ≡ option_map (carried_at (asked_list rs node n f) b.wire node) b.wire =
+    c.carried_anew-wire.ensures.value ∙ ap (λ us. option_map (carried_at us b.wire node) b.wire) (c.deref-then-number.ensures.value ∙ list) in
+    let next = noted-last rs c.deref-2.result.now b.wire b.next c.add.new.next node n c.following_number-following.result c.deref-2.ensures.value c.if-number.true c.following_number-following.ensures c.in_ok-add.ensures.next in
+    (λ i. record s { waiting = requests_of (anew i); wire = option_map transmission_of (carried i); next = from_entries c.add.new.next.entries })
+    ∙ asked-last s rs b.wire node n f _ refl refl c.self.invariant.in_order c.self.invariant.below_next is c.if-number.true c.carried_anew-wire.ensures.ranged next
+    ∙ ap (λ t. requested t node f) c.self.view_is

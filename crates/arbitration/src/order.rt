@@ -1,0 +1,20 @@
+// The order in which requests go.
+
+ghost use Rattle.std.specs.Prelude.{◌≡◌};
+ghost use Rattle.arbitration.specs.Order.{goes_before};
+
+use crate::Waiting;
+use can_frame::arb_key;
+
+/// Whether `a` goes before `b`: by the arbitration fields, of equal fields by the lesser node, and
+/// of one node by the lesser number.
+pub fn goes_before(a: &Waiting, b: &Waiting) -> bool
+    ensures { result ≡ goes_before a.now b.now }
+{
+    let a_key = arb_key(&a.frame);
+    let b_key = arb_key(&b.frame);
+    if a_key != b_key {
+        return a_key < b_key;
+    }
+    a.node < b.node || a.node == b.node && a.number < b.number
+}
