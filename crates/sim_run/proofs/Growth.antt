@@ -1,15 +1,10 @@
 -- How what was written grows by one piece after another.
-use Rattle.std.proofs.Common.{◌≡◌, ℕ, zero, suc, ◌+◌, ◌<◌, List, [], ◌∷◌, ◌++◌, length, take, drop, get_or, Option, Some, None, refl, sym, ap, ◌∙◌, append_assoc, arith, take-append-drop}
+use Rattle.std.proofs.Common.{◌≡◌, ℕ, zero, suc, ◌+◌, ◌<◌, List, [], ◌∷◌, ◌++◌, length, take, drop, get_or, Option, Some, None, refl, sym, ap, ◌∙◌, append_assoc, arith}
 use Rattle.std.proofs.Math.Seq.{take-append-add, take-nil}
 use Rattle.std.proofs.lemmas.List.{append-nil}
 use Rattle.std.specs.List.{flat_map}
 use Rattle.std.specs.Option.{option_map}
 use Rattle.sim_outside.specs.Sink.{GrowsBy, GrowsByPrefix}
-
--- nothing more is no more
-pub grows_by_nothing : (old : Option (List ℕ)) (whole : List ℕ) → GrowsByPrefix old old whole
-grows_by_nothing None whole = (0, refl)
-grows_by_nothing (Some bytes) whole = (0, ap Some (sym (append-nil bytes)))
 
 -- the first n of a front are the first n of the whole, or fewer
 front_of : (n : ℕ) (xs ys : List ℕ) → (m : ℕ) × (take m (xs ++ ys) ≡ take n xs)
@@ -38,3 +33,14 @@ pub flat_map_around : {X : Type 0} (f : X → List ℕ) (xs : List X) (i : ℕ) 
 flat_map_around f [] i x within is = absurd (omega arith)
 flat_map_around f (y ∷ ys) zero x within is = grind arith
 flat_map_around f (y ∷ ys) (suc i) x within is = grind (arith, flat_map_around f ys i x (omega arith) is, append_assoc {A = ℕ})
+
+-- nothing is written yet
+pub grows_by_none : (old : Option (List ℕ)) → GrowsBy old old []
+grows_by_none None = refl
+grows_by_none (Some bytes) = ap Some (sym (append-nil bytes))
+
+-- one piece and then another
+pub grows_twice : (old mid new : Option (List ℕ)) (piece more : List ℕ) → GrowsBy old mid piece → GrowsBy mid new more → GrowsBy old new (piece ++ more)
+grows_twice None mid new piece more first second = second ∙ ap (option_map (λ bytes. bytes ++ more)) first
+grows_twice (Some bytes) mid new piece more first second =
+    second ∙ ap (option_map (λ bytes. bytes ++ more)) first ∙ ap Some (append_assoc bytes piece more)

@@ -1,70 +1,118 @@
 -- A scenario is split in one way.
-use Rattle.std.proofs.Common.{◌≡◌, ◌≢◌, ℕ, ◌+◌, ◌<◌, List, [], ◌∷◌, ◌++◌, Option, Some, None, length, refl, sym, ap, subst, ◌∙◌, append_assoc, arith, Bor}
-use Rattle.std.specs.Prelude.{All, codes, MatchOption}
+use Rattle.std.proofs.Common.{◌≡◌, ◌≢◌, ℕ, ◌<◌, List, [], ◌∷◌, ◌++◌, Option, Some, None, length, refl, sym, ap, subst, ◌∙◌, arith}
+use Rattle.std.specs.Prelude.{All, codes}
 use Rattle.std.proofs.lemmas.List.{append_cancel_right}
 use Rattle.std.proofs.lemmas.List.Elements.{All-tail}
 use Rattle.capl_lexer.specs.Bytes.{IsNamePart}
-use Rattle.sim_run.specs.declared.scenario.Node.{Node}
-use Rattle.sim_run.specs.Scenario.{IsScenario, scenario_text}
+use Rattle.sim_run.specs.declared.scenario.Scenario.{Scenario}
+use Rattle.sim_run.specs.Lines.{AreLinesOf, HasNoLines}
+use Rattle.sim_run.specs.Scenario.{IsScenario, IsNodeName, IsFileName, IsPrintable, until_line, end_moment}
 
--- it has no blank
-abbrev pub NoBlank : List ℕ → Type 0
-NoBlank bytes = All (λ byte. byte ≢ 32) bytes
+-- it has no such byte
+abbrev pub Without : ℕ → List ℕ → Type 0
+Without separator bytes = All (λ byte. byte ≢ separator) bytes
 
--- no bytes before a blank have it
-pub blank_inside : (name file : List ℕ) → NoBlank (name ++ 32 ∷ file) → ⊥
-blank_inside [] file none = none 0 0 (omega arith) refl
-blank_inside (byte ∷ name) file none = blank_inside name file (All-tail (λ x. x ≢ 32) byte (name ++ 32 ∷ file) none)
+-- what has a separator in it is not without
+pub separator_inside : (separator : ℕ) (front after : List ℕ) → Without separator (front ++ separator ∷ after) → ⊥
+separator_inside separator [] after none = none 0 0 (omega arith) refl
+separator_inside separator (byte ∷ front) after none =
+    separator_inside separator front after (All-tail (λ x. x ≢ separator) byte (front ++ separator ∷ after) none)
 
--- two splits at a first blank are one
-pub one_split : (a b x y : List ℕ) → NoBlank a → NoBlank b → a ++ 32 ∷ x ≡ b ++ 32 ∷ y → (a ≡ b) × (x ≡ y)
-one_split [] [] x y first second same = (refl, cc)
-one_split [] (c ∷ b) x y first second same = absurd (second 0 0 (omega arith) (cc))
-one_split (c ∷ a) [] x y first second same = absurd (first 0 0 (omega arith) (cc))
-one_split (c ∷ a) (d ∷ b) x y first second same =
-    let rest = one_split a b x y (All-tail (λ x. x ≢ 32) c a first) (All-tail (λ x. x ≢ 32) d b second) (cc) in
+-- two splits at a first separator are one
+pub one_split : (separator : ℕ) (a b x y : List ℕ) → Without separator a → Without separator b → a ++ separator ∷ x ≡ b ++ separator ∷ y → (a ≡ b) × (x ≡ y)
+one_split separator [] [] x y first second same = (refl, cc)
+one_split separator [] (c ∷ b) x y first second same = absurd (second 0 0 (omega arith) (cc))
+one_split separator (c ∷ a) [] x y first second same = absurd (first 0 0 (omega arith) (cc))
+one_split separator (c ∷ a) (d ∷ b) x y first second same =
+    let rest = one_split separator a b x y (All-tail (λ x. x ≢ separator) c a first) (All-tail (λ x. x ≢ separator) d b second) (cc) in
     let heads : c ≡ d = cc in
     ((λ i. heads i ∷ rest.0 i), rest.1)
 
--- a part of a name is no blank
+-- a name has no blank
 not_blank : (byte : ℕ) → IsNamePart byte → byte ≢ 32
 not_blank byte part same = grind arith
 
--- a name has no blank
-pub name_has_no_blank : (name : List ℕ) → All IsNamePart name → NoBlank name
-name_has_no_blank name parts k d within = not_blank _ (parts k d within)
+pub name_has_no_blank : (name : List ℕ) → IsNodeName name → Without 32 name
+name_has_no_blank name is k d within = not_blank _ (is.name.parts k d within)
 
--- the text is no scenario of a name without a blank
-abbrev pub NoScenario : List ℕ → Type 0
-NoScenario text = (name : List ℕ) → (file : List ℕ) → NoBlank name → text ≡ scenario_text name file → ⊥
+-- the name of a file has no line end
+not_line_end : (byte : ℕ) → IsPrintable byte → byte ≢ 10
+not_line_end byte printable same = grind arith
 
--- the text before the node's line
+pub file_has_no_line_end : (file : List ℕ) → IsFileName file → Without 10 file
+file_has_no_line_end file is k d within = not_line_end _ (is.printable k d within)
+
+-- the text before the node's name
 abbrev pub before_node : List ℕ
 before_node = codes "scenario 1" ++ 10 ∷ codes "node "
 
--- the node's line is what stands before the last line end
-pub line_is : (text rest : List ℕ) (found : Option (Bor (List ℕ))) → text ≡ before_node ++ rest →
-    MatchOption found ((front : List ℕ) → rest ≢ front ++ 10 ∷ []) (λ line. rest ≡ line.now ++ 10 ∷ []) →
-    MatchOption found ((line : List ℕ) → text ≡ before_node ++ (line ++ 10 ∷ []) → ⊥) (λ line. text ≡ before_node ++ (line.now ++ 10 ∷ []))
-line_is text rest None is found = λ line same. found line (cc)
-line_is text rest (Some line) is found = is ∙ ap (λ l. before_node ++ l) found
+-- two last lines that are spelled alike are one
+one_until : (digits others : Option (List ℕ)) → until_line digits ≡ until_line others → digits ≡ others
+one_until None None same = refl
+one_until None (Some others) same = cc
+one_until (Some digits) None same = cc
+one_until (Some digits) (Some others) same = ap Some (append_cancel_right digits others (10 ∷ []) (cc))
 
--- a scenario's text has one line of its node
-pub one_line : (a b : List ℕ) → before_node ++ (a ++ 10 ∷ []) ≡ before_node ++ (b ++ 10 ∷ []) → a ≡ b
-one_line a b same = append_cancel_right a b (10 ∷ []) (cc)
+-- the fields of a text are one
+pub one_lines : (text a b x y : List ℕ) (d e : Option (List ℕ)) → AreLinesOf text a x d → AreLinesOf text b y e → (a ≡ b) × (x ≡ y) × (d ≡ e)
+one_lines text a b x y d e is also =
+    let same : before_node ++ (a ++ 32 ∷ (x ++ 10 ∷ until_line d)) ≡ before_node ++ (b ++ 32 ∷ (y ++ 10 ∷ until_line e)) = sym is.spelled ∙ also.spelled in
+    let names = one_split 32 a b (x ++ 10 ∷ until_line d) (y ++ 10 ∷ until_line e) is.no_blank also.no_blank (cc) in
+    let files = one_split 10 x y (until_line d) (until_line e) is.no_line_end also.no_line_end names.1 in
+    (names.0, files.0, one_until d e files.1)
 
--- a scenario's text has one name and one file
-pub one_name_and_file : (a b x y : List ℕ) → NoBlank a → NoBlank b → scenario_text a x ≡ scenario_text b y → (a ≡ b) × (x ≡ y)
-one_name_and_file a b x y first second same = one_split a b x y first second (one_line (a ++ 32 ∷ x) (b ++ 32 ∷ y) same)
+-- a scenario's fields are those of its text
+pub lines_of_scenario : (text : List ℕ) (scenario : Scenario) (is : IsScenario text scenario) → AreLinesOf text scenario.node scenario.file is.digits
+lines_of_scenario text scenario is =
+    record { spelled = is.spelled; no_blank = name_has_no_blank _ is.node; no_line_end = file_has_no_line_end _ is.file }
 
--- a text is a scenario of one node
-pub one_node : (text : List ℕ) (node other : Node) → IsScenario text node → IsScenario text other → node ≡ other
-one_node text node other is also =
-    let same = one_name_and_file node.name other.name node.file other.file (name_has_no_blank _ is.name.name.parts) (name_has_no_blank _ also.name.name.parts) (sym is.spelled ∙ also.spelled) in
-    λ i. record { name = same.0 i; file = same.1 i }
+-- a text is one scenario
+pub one_scenario_of : (text : List ℕ) (scenario other : Scenario) → IsScenario text scenario → IsScenario text other → scenario ≡ other
+one_scenario_of text scenario other is also =
+    let same = one_lines text scenario.node other.node scenario.file other.file is.digits also.digits (lines_of_scenario text scenario is) (lines_of_scenario text other also) in
+    let until : scenario.until ≡ other.until = is.until ∙ ap end_moment same.2 ∙ sym also.until in
+    λ i. record { node = same.0 i; file = same.1 i; until = until i }
 
--- a text with this line has no blank in it, if it is no scenario's
-pub no_scenario : (text line : List ℕ) → text ≡ before_node ++ (line ++ 10 ∷ []) → NoBlank line → NoScenario text
-no_scenario text line is none name file no_blank same =
-    let whole : line ≡ name ++ 32 ∷ file = one_line line (name ++ 32 ∷ file) (sym is ∙ same) in
-    blank_inside name file (subst NoBlank whole none)
+-- a text whose node's line has no blank is no scenario
+pub no_blank_in : (text line : List ℕ) → text ≡ before_node ++ line → Without 32 line → HasNoLines text
+no_blank_in text line is none node file digits lines =
+    let same : before_node ++ line ≡ before_node ++ (node ++ 32 ∷ (file ++ 10 ∷ until_line digits)) = sym is ∙ lines.spelled in
+    let whole : line ≡ node ++ 32 ∷ (file ++ 10 ∷ until_line digits) = cc in
+    separator_inside 32 node (file ++ 10 ∷ until_line digits) (subst (Without 32) whole none)
+
+-- nor is one without a line end behind the name of the source
+pub no_end_in : (text name line : List ℕ) → text ≡ before_node ++ (name ++ 32 ∷ line) → Without 32 name → Without 10 line → HasNoLines text
+no_end_in text name line is no_blank none node file digits lines =
+    let same : before_node ++ (name ++ 32 ∷ line) ≡ before_node ++ (node ++ 32 ∷ (file ++ 10 ∷ until_line digits)) = sym is ∙ lines.spelled in
+    let parts = one_split 32 name node line (file ++ 10 ∷ until_line digits) no_blank lines.no_blank (cc) in
+    separator_inside 10 file (until_line digits) (subst (Without 10) parts.1 none)
+
+-- what stands behind the first two lines is the last line of the fields
+last_line : (text name source rest : List ℕ) → text ≡ before_node ++ (name ++ 32 ∷ (source ++ 10 ∷ rest)) → Without 32 name → Without 10 source →
+    (node file : List ℕ) (digits : Option (List ℕ)) → AreLinesOf text node file digits → until_line digits ≡ rest
+last_line text name source rest is no_blank no_end node file digits lines =
+    let same : before_node ++ (name ++ 32 ∷ (source ++ 10 ∷ rest)) ≡ before_node ++ (node ++ 32 ∷ (file ++ 10 ∷ until_line digits)) = sym is ∙ lines.spelled in
+    let parts = one_split 32 name node (source ++ 10 ∷ rest) (file ++ 10 ∷ until_line digits) no_blank lines.no_blank (cc) in
+    let ends = one_split 10 source file rest (until_line digits) no_end lines.no_line_end parts.1 in
+    sym ends.1
+
+-- a third line that is no end moment
+until_is : (digits : Option (List ℕ)) (rest : List ℕ) → until_line digits ≡ rest → 0 < length rest → ((found : List ℕ) → rest ≡ codes "until " ++ (found ++ 10 ∷ []) → ⊥) → ⊥
+until_is None rest is some none = absurd (omega (arith, ap length is))
+until_is (Some digits) rest is some none = none digits (sym is)
+
+pub no_third_line : (text name source rest : List ℕ) → text ≡ before_node ++ (name ++ 32 ∷ (source ++ 10 ∷ rest)) → Without 32 name → Without 10 source →
+    0 < length rest → ((found : List ℕ) → rest ≡ codes "until " ++ (found ++ 10 ∷ []) → ⊥) → HasNoLines text
+no_third_line text name source rest is no_blank no_end some none node file digits lines =
+    until_is digits rest (last_line text name source rest is no_blank no_end node file digits lines) some none
+
+-- the text from its parts
+pub whole_text : (text line name after source rest : List ℕ) → text ≡ before_node ++ line → line ≡ name ++ 32 ∷ after → after ≡ source ++ 10 ∷ rest →
+    text ≡ before_node ++ (name ++ 32 ∷ (source ++ 10 ∷ rest))
+whole_text text line name after source rest is first second =
+    is ∙ ap (λ l. before_node ++ l) (first ∙ ap (λ l. name ++ 32 ∷ l) second)
+
+-- a list without a first item
+pub empty_is : (xs : List ℕ) → length xs ≡ 0 → xs ≡ []
+empty_is [] none = refl
+empty_is (x ∷ xs) none = absurd (omega arith)

@@ -1,6 +1,11 @@
 pub mod Answer
 pub mod Inputs
+pub mod Lines
+pub mod LogLine
+pub mod Program
+pub mod Run
 pub mod Scenario
 pub mod Source
 pub mod Status
+pub mod Table
 pub mod Window

@@ -1,8 +1,9 @@
 -- What a scenario file says, and where a file that it names is sought.
-use Rattle.std.specs.Prelude.{◌≡◌, ◌≢◌, ◌<◌, ◌≤◌, ◌-◌, ℕ, List, [], ◌∷◌, ◌++◌, length, take, All, not, ◌==◌, if◌then◌else◌, nat_eq, codes}
+use Rattle.std.specs.Prelude.{◌≡◌, ◌≢◌, ◌<◌, ◌≤◌, ◌-◌, ◌*◌, ℕ, List, [], ◌∷◌, ◌++◌, length, take, All, not, ◌==◌, if◌then◌else◌, nat_eq, codes, Option, Some, None, IfSome}
 use Rattle.std.specs.List.{suffix_len, starts_with}
+use Rattle.capl_lexer.specs.Bytes.{IsDigit, number_in}
 use Rattle.capl_lexer.specs.Spelling.{IsName}
-use Rattle.sim_run.specs.declared.scenario.Node.{Node}
+use Rattle.sim_run.specs.declared.scenario.Scenario.{Scenario}
 
 -- a name of the language with at most 32 bytes, other than `replay`
 pub record IsNodeName (bytes : List ℕ) : Type 0 where
@@ -20,15 +21,36 @@ pub record IsFileName (file : List ℕ) : Type 0 where
   pub short : length file ≤ 255
   pub printable : All IsPrintable file
 
--- the two lines `scenario 1` and `node NAME FILE`
-abbrev pub scenario_text : List ℕ → List ℕ → List ℕ
-scenario_text name file = codes "scenario 1" ++ 10 ∷ [] ++ codes "node " ++ name ++ 32 ∷ file ++ 10 ∷ []
+-- 1 to 20 digits that stand for at most a day in milliseconds
+pub record IsEndMoment (digits : List ℕ) : Type 0 where
+  pub some : 0 < length digits
+  pub short : length digits ≤ 20
+  pub decimal : All IsDigit digits
+  pub within_a_day : number_in 10 digits ≤ 86400000
 
--- the text is a scenario with this node
-pub record IsScenario (text : List ℕ) (node : Node) : Type 0 where
-  pub spelled : text ≡ scenario_text node.name node.file
-  pub name : IsNodeName node.name
-  pub file : IsFileName node.file
+-- the line `until MS`, where it stands
+abbrev pub until_line : Option (List ℕ) → List ℕ
+until_line None = []
+until_line (Some digits) = codes "until " ++ digits ++ 10 ∷ []
+
+-- the end moment in microseconds: without the line, 10 seconds
+abbrev pub end_moment : Option (List ℕ) → ℕ
+end_moment None = 10000000
+end_moment (Some digits) = 1000 * number_in 10 digits
+
+-- the lines `scenario 1`, `node NAME FILE` and perhaps `until MS`
+abbrev pub scenario_text : List ℕ → List ℕ → Option (List ℕ) → List ℕ
+scenario_text name file digits =
+    codes "scenario 1" ++ 10 ∷ codes "node " ++ name ++ 32 ∷ (file ++ 10 ∷ until_line digits)
+
+-- the text is this scenario
+pub record IsScenario (text : List ℕ) (scenario : Scenario) : Type 0 where
+  pub digits : Option (List ℕ)
+  pub spelled : text ≡ scenario_text scenario.node scenario.file digits
+  pub node : IsNodeName scenario.node
+  pub file : IsFileName scenario.file
+  pub in_range : IfSome digits IsEndMoment
+  pub until : scenario.until ≡ end_moment digits
 
 -- a name up to and with its last `/`, or nothing where it has none
 abbrev pub folder_of : List ℕ → List ℕ

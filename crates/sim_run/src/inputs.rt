@@ -2,14 +2,14 @@
 
 ghost use Rattle.std.specs.Prelude.{◌≡◌, ◌≤◌, ◌<◌, ◌^◌, List, ℕ, length, IfOk, IfSome, IsErrOf, MatchOption};
 ghost use Rattle.sim_outside.specs.Fault.{HasRisen};
-ghost use Rattle.sim_run.specs.Answer.{Holds, ScenarioAt, SourceAt};
-ghost use Rattle.sim_run.specs.Inputs.{AreInputs};
-ghost use Rattle.capl_parser.specs.declared.tree.FileTree.{FileTree};
-ghost use Rattle.sim_run.specs.declared.scenario.Node.{Node};
+ghost use Rattle.sim_run.specs.Answer.{Holds, ScenarioAt, SourceAt, HasNoSource};
+ghost use Rattle.sim_run.specs.Inputs.{AreInputs, EndsWithinADay};
+ghost use Rattle.sim_run.specs.declared.scenario.Scenario.{Scenario};
 
 use crate::names::name_beside;
-use crate::scenario::{Node, node_of};
-use crate::source::tree_of;
+use crate::scenario::{Scenario, scenario_of};
+use crate::source::{Source, source_of};
+use can_frame::Frame;
 use capl_parser::FileTree;
 use sim_outside::{FileRefusal, Files, NoMemory, Text};
 use std::alloc::Global;
@@ -17,10 +17,16 @@ use std::alloc::Global;
 /// What the inputs of a run are.
 #[derive(Debug, Drop)]
 pub(crate) enum Inputs {
-    /// The node and the tree of its source.
-    Accepted { node: Node, tree: FileTree },
+    /// The scenario, the tree of its source, and the frames that this asks for, in order.
+    Accepted {
+        scenario: Scenario,
+        tree: FileTree,
+        frames: Vec<Frame>,
+    },
     /// The first file that is not of the form that is taken.
-    Broken { file: Text },
+    Broken {
+        file: Text,
+    },
 }
 
 /// Why the inputs were not read.
@@ -46,34 +52,40 @@ impl From<NoMemory> for ReadFailure {
 // The most bytes of a scenario or a source.
 const LIMIT: usize = 1 << 20;
 
-/// Reads the scenario of this name and the source of its node.
+/// Reads the scenario of this name and its source.
 pub(crate) fn read_inputs<F: Files>(
     alloc: Global,
     name: Text,
     files: &mut F,
 ) -> Result<Inputs, ReadFailure>
+    ensures within_a_day { IfOk result EndsWithinADay }
     ensures inputs { IfSome (F.held files.old) (λ contents. IfOk result (AreInputs contents name)) }
     ensures failed { IsErrOf result ReadFailure.Failed → HasRisen (F.faults files.old) (F.faults files.new) }
     ensures faults_stay { F.faults files.old ≤ F.faults files.new }
 {
-    let Some(node) = read_scenario(alloc, &name, files)? else {
+    let Some(scenario) = read_scenario(alloc, &name, files)? else {
         return Ok(Inputs::Broken { file: name });
     };
-    let file = name_beside(alloc, name.bytes(), node.file.bytes())?;
-    let Some(tree) = read_source(alloc, &file, files)? else {
+    let file = name_beside(alloc, name.bytes(), scenario.file.bytes())?;
+    let Some(source) = read_source(alloc, &file, files)? else {
         return Ok(Inputs::Broken { file });
     };
-    Ok(Inputs::Accepted { node, tree })
+    Ok(Inputs::Accepted {
+        scenario,
+        tree: source.tree,
+        frames: source.frames,
+    })
 }
 
-// The node of the scenario of this name, or None where there is no such scenario.
+// The scenario of this name, or None where there is none.
 fn read_scenario<F: Files>(
     alloc: Global,
     name: &Text,
     files: &mut F,
-) -> Result<Option<Node>, ReadFailure>
+) -> Result<Option<Scenario>, ReadFailure>
+    ensures within_a_day { IfOk result (λ found. IfSome found (λ scenario. scenario.until ≤ 86400000000)) }
     ensures found { IfSome (F.held files.old) (λ contents. IfOk result (λ found.
-        MatchOption found ((node : Node) → ScenarioAt contents name.now node → ⊥) (ScenarioAt contents name.now))) }
+        MatchOption found ((scenario : Scenario) → ScenarioAt contents name.now scenario → ⊥) (ScenarioAt contents name.now))) }
     ensures failed { IsErrOf result ReadFailure.Failed → HasRisen (F.faults files.old) (F.faults files.new) }
     ensures faults_stay { F.faults files.old ≤ F.faults files.new }
     ensures contents_stay { F.held files.new ≡ F.held files.old }
@@ -81,17 +93,17 @@ fn read_scenario<F: Files>(
     let Some(text) = read_text(alloc, name, files)? else {
         return Ok(None);
     };
-    Ok(node_of(alloc, &text)?)
+    Ok(scenario_of(alloc, &text)?)
 }
 
-// The tree of the source of this name, or None where there is no such source.
+// The source of this name, or None where there is none.
 fn read_source<F: Files>(
     alloc: Global,
     name: &Text,
     files: &mut F,
-) -> Result<Option<FileTree>, ReadFailure>
+) -> Result<Option<Source>, ReadFailure>
     ensures found { IfSome (F.held files.old) (λ contents. IfOk result (λ found.
-        MatchOption found ((tree : FileTree) → SourceAt contents name.now tree → ⊥) (SourceAt contents name.now))) }
+        MatchOption found (HasNoSource contents name.now) (λ source. SourceAt contents name.now source.tree source.frames.items))) }
     ensures failed { IsErrOf result ReadFailure.Failed → HasRisen (F.faults files.old) (F.faults files.new) }
     ensures faults_stay { F.faults files.old ≤ F.faults files.new }
     ensures contents_stay { F.held files.new ≡ F.held files.old }
@@ -99,7 +111,7 @@ fn read_source<F: Files>(
     let Some(text) = read_text(alloc, name, files)? else {
         return Ok(None);
     };
-    Ok(tree_of(alloc, &text)?)
+    Ok(source_of(alloc, &text)?)
 }
 
 // The bytes of the file of this name, or None where it is missing or too long.

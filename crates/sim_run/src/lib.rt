@@ -8,14 +8,18 @@
 pub use run::simulate;
 pub use status::Status;
 
+mod command;
 mod inputs;
 pub mod laws;
 mod lines;
+mod log;
+mod log_line;
 mod names;
-mod output;
+mod program;
 mod run;
 mod scenario;
 mod source;
 mod status;
 #[cfg(test)]
 mod tests;
+mod window;

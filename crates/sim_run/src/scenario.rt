@@ -1,63 +1,95 @@
 // Scenario files.
 
-ghost use Rattle.std.specs.Prelude.{◌≡◌, ◌≢◌, ◌↔◌, ◌++◌, ◌∷◌, [], ℕ, List, IsTrue, IfOk, IfSome, IfNone, All, MatchOption, codes};
-ghost use Rattle.sim_run.specs.declared.scenario.Node.{Node};
-ghost use Rattle.sim_run.specs.Scenario.{IsScenario, IsNodeName, IsFileName, scenario_text};
+ghost use Rattle.std.specs.Prelude.{◌≡◌, ◌≢◌, ◌≤◌, ◌↔◌, ◌++◌, ◌∷◌, [], ◌*◌, ℕ, List, Option, IsTrue, IfOk, IfSome, IfNone, All, MatchOption, codes};
+ghost use Rattle.capl_lexer.specs.Bytes.{number_in};
+ghost use Rattle.sim_run.specs.declared.scenario.Scenario.{Scenario};
+ghost use Rattle.sim_run.specs.Scenario.{IsScenario, IsNodeName, IsFileName, IsEndMoment, scenario_text};
+ghost use Rattle.sim_run.specs.Lines.{AreLinesOf, HasNoLines, MillisOf, view_of_option};
 
-use capl_lexer::is_name;
+use capl_lexer::{decimal_number, is_name};
 use sim_outside::{NoMemory, Text};
 use std::alloc::Global;
 
-/// A node of a scenario.
+/// What a scenario says.
 #[derive(Debug, Drop)]
-pub(crate) struct Node {
-    /// Its name.
-    pub(crate) name: Text,
-    /// The name of its source, as the scenario has it.
+pub(crate) struct Scenario {
+    /// The name of its node.
+    pub(crate) node: Text,
+    /// The name of the node's source, as the scenario has it.
     pub(crate) file: Text,
+    /// The end moment, in microseconds from the start: at most a day.
+    pub(crate) until: u64,
 }
 
-/// The node of a scenario, or None where the text is none.
-pub(crate) fn node_of(alloc: Global, text: &[u8]) -> Result<Option<Node>, NoMemory>
-    ensures { IfOk result (λ found. MatchOption found ((node : Node) → IsScenario text.now node → ⊥) (IsScenario text.now)) }
+// The fields in the lines of a scenario: the name of the node and of its source, and the digits of
+// the end moment, where they stand.
+#[derive(Clone, Copy)]
+struct Lines<'a> {
+    node: &'a [u8],
+    file: &'a [u8],
+    until: Option<&'a [u8]>,
+}
+
+// The end moment of a scenario that has none, in milliseconds.
+const DEFAULT_MILLIS: u64 = 10_000;
+
+// The greatest end moment, a day in milliseconds.
+const GREATEST_MILLIS: u64 = 86_400_000;
+
+const MICROS_PER_MILLI: u64 = 1_000;
+
+/// The scenario that the text is, or None where it is none.
+pub(crate) fn scenario_of(alloc: Global, text: &[u8]) -> Result<Option<Scenario>, NoMemory>
+    ensures found { IfOk result (λ found. MatchOption found ((scenario : Scenario) → IsScenario text.now scenario → ⊥) (IsScenario text.now)) }
+    ensures within_a_day { IfOk result (λ found. IfSome found (λ scenario. scenario.until ≤ 86400000000)) }
 {
-    let Some((name, file)) = split_lines(text) else {
+    let Some(lines) = split_lines(text) else {
         return Ok(None);
     };
-    if !is_node_name(name) || !is_file_name(file) {
+    if !is_node_name(lines.node) || !is_file_name(lines.file) {
         return Ok(None);
     }
-    Ok(Some(Node {
-        name: Text::make(alloc, name)?,
-        file: Text::make(alloc, file)?,
+    let Some(millis) = end_millis(lines.until) else {
+        return Ok(None);
+    };
+    Ok(Some(Scenario {
+        node: Text::make(alloc, lines.node)?,
+        file: Text::make(alloc, lines.file)?,
+        until: millis * MICROS_PER_MILLI,
     }))
 }
 
-// The node's name and file in the two lines of a scenario. The name has no blank.
-fn split_lines(text: &[u8]) -> Option<(&[u8], &[u8])>
-    ensures found { IfSome result (λ parts. (text.now ≡ scenario_text parts.0.now parts.1.now) × All (λ byte. byte ≢ 32) parts.0.now) }
-    ensures none { IfNone result ((name file : List ℕ) → All (λ byte. byte ≢ 32) name → text.now ≡ scenario_text name file → ⊥) }
+// The fields in the two or three lines of a scenario. The node's name has no blank, and the name of
+// its source no line end.
+fn split_lines(text: &[u8]) -> Option<Lines<'_>>
+    ensures { MatchOption result (HasNoLines text.now) (λ lines. AreLinesOf text.now lines.node.now lines.file.now (view_of_option lines.until)) }
 {
-    split_at_blank(node_line(text)?)
+    let line = text.strip_prefix(b"scenario 1\nnode ")?;
+    let (node, line) = split_at_byte(line, b' ')?;
+    let (file, rest) = split_at_byte(line, b'\n')?;
+    if rest.is_empty() {
+        return Some(Lines {
+            node,
+            file,
+            until: None,
+        });
+    }
+    let digits = rest.strip_prefix(b"until ")?.strip_suffix(b"\n")?;
+    Some(Lines {
+        node,
+        file,
+        until: Some(digits),
+    })
 }
 
-// What stands in the node's line, in the two lines of a scenario.
-fn node_line(text: &[u8]) -> Option<&[u8]>
-    ensures { MatchOption result
-        ((line : List ℕ) → text.now ≡ codes "scenario 1" ++ 10 ∷ [] ++ codes "node " ++ line ++ 10 ∷ [] → ⊥)
-        (λ line. text.now ≡ codes "scenario 1" ++ 10 ∷ [] ++ codes "node " ++ line.now ++ 10 ∷ []) }
+// The bytes before and after the first that is this one.
+fn split_at_byte(bytes: &[u8], separator: u8) -> Option<(&[u8], &[u8])>
+    ensures found { IfSome result (λ parts. (bytes.now ≡ parts.0.now ++ separator ∷ parts.1.now) × All (λ byte. byte ≢ separator) parts.0.now) }
+    ensures none { IfNone result (All (λ byte. byte ≢ separator) bytes.now) }
 {
-    text.strip_prefix(b"scenario 1\nnode ")?.strip_suffix(b"\n")
-}
-
-// The bytes before and after the first blank.
-fn split_at_blank(line: &[u8]) -> Option<(&[u8], &[u8])>
-    ensures found { IfSome result (λ parts. (line.now ≡ parts.0.now ++ 32 ∷ parts.1.now) × All (λ byte. byte ≢ 32) parts.0.now) }
-    ensures none { IfNone result (All (λ byte. byte ≢ 32) line.now) }
-{
-    for (place, byte) in line.iter().enumerate() {
-        if *byte == b' ' {
-            return Some((&line[..place], &line[place + 1..]));
+    for (place, byte) in bytes.iter().enumerate() {
+        if *byte == separator {
+            return Some((&bytes[..place], &bytes[place + 1..]));
         }
     }
     None
@@ -73,4 +105,21 @@ fn is_file_name(file: &[u8]) -> bool
     ensures { IsTrue result ↔ IsFileName file.now }
 {
     !file.is_empty() && file.len() <= 255 && file.iter().all(|byte| (33..=126).contains(byte))
+}
+
+// The end moment in milliseconds, or None where the digits stand for none.
+fn end_millis(digits: Option<&[u8]>) -> Option<u64>
+    ensures { MillisOf (view_of_option digits.entry) result }
+{
+    let Some(digits) = digits else {
+        return Some(DEFAULT_MILLIS);
+    };
+    if digits.is_empty() || digits.len() > 20 {
+        return None;
+    }
+    let millis = decimal_number(digits)?;
+    if millis > GREATEST_MILLIS {
+        return None;
+    }
+    Some(millis)
 }

@@ -1,18 +1,32 @@
 // Sources.
 
-ghost use Rattle.std.specs.Prelude.{◌≡◌, ◌↔◌, ◌<◌, ◌^◌, length, IsTrue, IfOk, MatchOption, All};
+ghost use Rattle.std.specs.Prelude.{◌≡◌, ◌<◌, ◌^◌, List, length, IfOk, MatchOption};
+ghost use Rattle.can_frame.specs.Frame.{FrameFields};
 ghost use Rattle.capl_parser.specs.declared.tree.FileTree.{FileTree};
-ghost use Rattle.sim_run.specs.Source.{IsSource, OnlyWrites, IsPlainWrite};
+ghost use Rattle.sim_run.specs.Source.{IsSource};
 
+use crate::program::requests_of;
+use can_frame::Frame;
 use capl_lexer::{LexRefusal, lex};
-use capl_parser::{FileTree, ParseRefusal, Statement, parse};
+use capl_parser::{FileTree, ParseRefusal, parse};
 use sim_outside::NoMemory;
 use std::alloc::Global;
 
-/// The tree of a source that only writes, or None where the text is none.
-pub(crate) fn tree_of(alloc: Global, text: &[u8]) -> Result<Option<FileTree>, NoMemory>
+/// What a source says.
+#[derive(Debug, Drop)]
+pub(crate) struct Source {
+    /// Its tree.
+    pub(crate) tree: FileTree,
+    /// The frames that it asks for, in order.
+    pub(crate) frames: Vec<Frame>,
+}
+
+/// The source that the text is, or None where it is none.
+pub(crate) fn source_of(alloc: Global, text: &[u8]) -> Result<Option<Source>, NoMemory>
     requires { length text.now < 2 ^ 32 }
-    ensures { IfOk result (λ found. MatchOption found ((tree : FileTree) → IsSource text.now tree → ⊥) (IsSource text.now)) }
+    ensures { IfOk result (λ found. MatchOption found
+        ((tree : FileTree) → (frames : List FrameFields) → IsSource text.now tree frames → ⊥)
+        (λ source. IsSource text.now source.tree source.frames.items)) }
 {
     let tokens = match lex(alloc, text) {
         Ok(tokens) => tokens,
@@ -24,29 +38,8 @@ pub(crate) fn tree_of(alloc: Global, text: &[u8]) -> Result<Option<FileTree>, No
         Err(ParseRefusal::NotSpelled) => return Ok(None),
         Err(ParseRefusal::NoMemory) => return Err(NoMemory),
     };
-    if !only_writes(&tree) {
+    let Some(frames) = requests_of(alloc, &tree)? else {
         return Ok(None);
-    }
-    Ok(Some(tree))
-}
-
-fn only_writes(tree: &FileTree) -> bool
-    ensures { IsTrue result ↔ OnlyWrites tree.now }
-{
-    match tree {
-        FileTree::Empty => true,
-        FileTree::Start {
-            variables,
-            statements,
-        } => variables.is_none() && statements.as_slice().iter().all(is_plain_write),
-    }
-}
-
-fn is_plain_write(statement: &Statement) -> bool
-    ensures { IsTrue result ↔ IsPlainWrite statement.now }
-{
-    match statement {
-        Statement::Write(text) => !text.bytes().contains(&b'%'),
-        Statement::Output(_) => false,
-    }
+    };
+    Ok(Some(Source { tree, frames }))
 }

@@ -3,6 +3,7 @@
 use crate::{Status, laws, simulate};
 use sim_outside::{MemFiles, MemSink, Text};
 use std::alloc::Global;
+use std::process::Abort;
 use std::test::Fail;
 
 // A run, and what it must end with and write.
@@ -29,6 +30,14 @@ fn window<'a>(source: &'a str, status: Status, written: &'a str) -> Run<'a> {
         failing_writes: &[],
         status,
         written,
+    }
+}
+
+// A run of `log s.scn` in which nothing fails.
+fn log<'a>(source: &'a str, written: &'a str) -> Run<'a> {
+    Run {
+        words: &["log", "s.scn"],
+        ..window(source, Status::Done, written)
     }
 }
 
@@ -81,8 +90,49 @@ fn runs_end_and_write_as_they_must(rt: HostRuntime) -> Result<(), Fail> {
             ..window(two, Status::WriteFault, "w 0.000000 N a\nw 0")
         },
     ];
+    check(&rt, &runs)
+}
+
+#[test]
+fn frames_are_logged_as_the_bus_sends_them(rt: HostRuntime) -> Result<(), Fail> {
+    let two =
+        "variables { message 0x1 a = {dlc=0}; message 0x0 b = {dlc=0}; } on start { output(a); output(b); }";
+    let two_lines = "(0000000000.000100) can0 000#\n(0000000000.000200) can0 001#\n";
+    let runs = [
+        // The lower identifier goes first though it was asked for second.
+        log(two, two_lines),
+        // A standard frame goes before an extended one of the same base bits.
+        log(
+            "variables { message 0x0x a = {dlc=0}; message 0x0 b = {dlc=0}; } on start { output(a); output(b); }",
+            "(0000000000.000100) can0 000#\n(0000000000.000248) can0 00000000#\n",
+        ),
+        // Data goes before remote.
+        log(
+            "variables { message 0x0 r = {dlc=0, rtr=1}; message 0x0 d = {dlc=0}; } on start { output(r); output(d); }",
+            "(0000000000.000100) can0 000#\n(0000000000.000200) can0 000#R\n",
+        ),
+        Run {
+            scenario: Some("scenario 1\nnode N n.can\nuntil 0\n"),
+            ..log(two, "")
+        },
+        Run {
+            failing_writes: &[(2, 0)],
+            status: Status::WriteFault,
+            ..log(two, "(0000000000.000100) can0 000#\n")
+        },
+        window(two, Status::Done, ""),
+        Run {
+            status: Status::Refused,
+            ..log("on start { output(a); }", "refused n.can N01\n")
+        },
+    ];
+    check(&rt, &runs)
+}
+
+// Each run ends and writes as it must.
+fn check(rt: &(impl AllocGlobal + Abort), runs: &[Run]) -> Result<(), Fail> {
     let alloc = rt.alloc();
-    for run in &runs {
+    for run in runs {
         let mut files = files(alloc, run)?;
         let mut sink = MemSink::new(alloc, run.failing_writes.to_vec(alloc)?);
         let words = words(alloc, run)?;

@@ -1,0 +1,184 @@
+-- A bus logs one list of frames up to an end moment.
+use Rattle.std.proofs.Common.{◌≡◌, ℕ, zero, suc, ◌+◌, ◌-◌, ◌<◌, ◌≤◌, List, [], ◌∷◌, ◌++◌, Option, Some, None, refl, sym, ap, subst, ◌∙◌, append_assoc, arith, inl, inr}
+use Rattle.std.specs.Prelude.{IfSome, Bool, true, false, if◌then◌else◌, ◌==◌, is_some}
+use Rattle.std.proofs.lemmas.Bool.{cases_lt}
+use Rattle.std.proofs.lemmas.Grind.{flat_map-append}
+use Rattle.std.proofs.lemmas.List.{append-nil}
+use Rattle.std.specs.Option.{option_map_or}
+use Rattle.arbitration.specs.Bus.{BusState, new_bus, requested, next_number, last_number, numbered_anew, begun, ended, finished, arbitrated, next_moment}
+use Rattle.arbitration.specs.BusLaws.Due.{DueLater-bus, DueLaterFromNothing-bus}
+use Rattle.arbitration.specs.Laws.{Follows}
+use Rattle.arbitration.specs.Waiting.{winner, name_cmp}
+use Rattle.std.specs.FinMap.{len, len-empty}
+use Rattle.arbitration.specs.declared.bus.Waiting.{Waiting}
+use Rattle.can_frame.specs.Frame.{FrameFields}
+use Rattle.sim_run.specs.Run.{Logged, Logs, IsOver, bit_time, asked, started, instant, logged_at, log_of}
+use Rattle.sim_run.specs.LogLine.{log_line}
+
+numbered_bit : (bus : BusState) (node : ℕ) → (numbered_anew bus node).bit ≡ bus.bit
+unfolding numbered_anew
+numbered_bit bus node = refl
+
+-- what is due is not later than what is not
+not_over : (until now : ℕ) (bus : BusState) → IsOver until bus → next_moment bus ≡ Some now → now ≤ until → ⊥
+not_over until now bus over next within = let late : until < now = rw next at over in omega arith
+
+-- a bus that is due goes on as one list
+pub one_step : (until now : ℕ) (bus : BusState) (logged : List Logged) → next_moment bus ≡ Some now → now ≤ until → Logs until bus logged →
+    (rest : List Logged) × (logged ≡ logged_at now (ended bus now) ++ rest) × Logs until (instant bus now) rest
+one_step until now _ _ next within (Logs.over bus logged over none) = absurd (not_over until now bus over next within)
+one_step until now _ _ next within (Logs.goes bus logged when rest next' within' is more) =
+    let same : when ≡ now = (let both = sym next' ∙ next in cc) in
+    (rest, subst (λ n. logged ≡ logged_at n (ended bus n) ++ rest) same is, subst (λ n. Logs until (instant bus n) rest) same more)
+
+-- a bus that is not due logs nothing
+pub no_step : (until : ℕ) (bus : BusState) (logged : List Logged) → IsOver until bus → Logs until bus logged → logged ≡ []
+no_step until _ _ none (Logs.over bus logged over is) = is
+no_step until _ _ none (Logs.goes bus logged now rest next within is more) = absurd (not_over until now bus none next within)
+
+-- two lists that are logged are one
+pub one_log : (until : ℕ) (bus : BusState) (logged other : List Logged) → Logs until bus logged → Logs until bus other → logged ≡ other
+one_log until _ _ other (Logs.over bus logged over is) also = is ∙ sym (no_step until bus other over also)
+one_log until _ _ other (Logs.goes bus logged now rest next within is more) also =
+    let step = one_step until now bus other next within also in
+    is ∙ ap (λ l. logged_at now (ended bus now) ++ l) (one_log until (instant bus now) rest step.0 more step.2) ∙ sym step.1
+
+-- a choice of two buses with one bit time has it
+cond_bit : (b : Bool) (one other : BusState) (bit : ℕ) → one.bit ≡ bit → other.bit ≡ bit → (if b then one else other).bit ≡ bit
+cond_bit true one other bit first second = first
+cond_bit false one other bit first second = second
+
+begun_bit : (bus : BusState) (now : ℕ) (found : Option Waiting) → (option_map_or (begun bus now) found bus).bit ≡ bus.bit
+begun_bit bus now None = refl
+begun_bit bus now (Some request) = refl
+
+-- no call changes the time of a bit
+arbitrated_bit : (bus : BusState) (now : ℕ) → (arbitrated bus now).bit ≡ bus.bit
+arbitrated_bit bus now = cond_bit _ (option_map_or (begun bus now) (winner bus.waiting) bus) bus bus.bit (begun_bit bus now (winner bus.waiting)) refl
+
+instant_bit : (bus : BusState) (now : ℕ) → (instant bus now).bit ≡ bus.bit
+instant_bit bus now = arbitrated_bit (finished bus now) now ∙ cond_bit (is_some (ended bus now)) (record bus { wire = None }) bus bus.bit refl refl
+
+requested_bit : (bus : BusState) (node : ℕ) (frame : FrameFields) → (requested bus node frame).bit ≡ bus.bit
+requested_bit bus node frame = cond_bit (next_number bus node == last_number) (numbered_anew bus node) bus bus.bit (numbered_bit bus node) refl
+
+asked_bit : (bus : BusState) (frames : List FrameFields) → (asked bus frames).bit ≡ bus.bit
+asked_bit bus [] = refl
+asked_bit bus (frame ∷ frames) = asked_bit (requested bus 0 frame) frames ∙ requested_bit bus 0 frame
+
+-- a fact of the value, if there is one, from another
+if_some_map : (found : Option ℕ) (P Q : ℕ → Type 0) → ((n : ℕ) → P n → Q n) → IfSome found P → IfSome found Q
+if_some_map None P Q f p = tt
+if_some_map (Some n) P Q f p = f n p
+
+-- the next moment after an instant is later
+later_instant : (bus : BusState) (now : ℕ) → 1 ≤ bus.bit → next_moment bus ≡ Some now → IfSome (next_moment (instant bus now)) (λ due. now < due)
+later_instant bus now takes_time next =
+    DueLater-bus bus (finished bus now) now takes_time (rw next (omega arith)) Follows.nothing
+
+-- a bus goes on, where what comes after an instant is known
+next_log : (until fuel : ℕ) (bus : BusState) (due : Option ℕ) → next_moment bus ≡ due → 1 ≤ bus.bit → IfSome due (λ now. until < now + suc fuel) →
+    ((after : BusState) → 1 ≤ after.bit → IfSome (next_moment after) (λ now. until < now + fuel) → (logged : List Logged) × Logs until after logged) →
+    (logged : List Logged) × Logs until bus logged
+next_log until fuel bus None next takes_time soon again =
+    ([], Logs.over bus [] (subst (λ o. IfSome o (λ due. until < due)) (sym next) tt) refl)
+next_log until fuel bus (Some now) next takes_time soon again =
+    elim (cases_lt until now) [
+      | inl late ↦ ([], Logs.over bus [] (subst (λ o. IfSome o (λ due. until < due)) (sym next) late) refl)
+      | inr within ↦
+          let later = later_instant bus now takes_time next in
+          let rest = again (instant bus now) (subst (λ b. 1 ≤ b) (sym (instant_bit bus now)) takes_time)
+          (if_some_map (next_moment (instant bus now)) (λ due. now < due) (λ due. until < due + fuel) (λ due after. omega arith) later) in
+          (logged_at now (ended bus now) ++ rest.0, Logs.goes bus _ now rest.0 next within refl rest.1)
+    ]
+
+-- a bus whose bits take time logs some list, since each instant is later than the one before
+some_log_from : (until fuel : ℕ) (bus : BusState) → 1 ≤ bus.bit → IfSome (next_moment bus) (λ now. until < now + fuel) → (logged : List Logged) × Logs until bus logged
+some_log_from until zero bus takes_time soon =
+    ([], Logs.over bus [] (if_some_map (next_moment bus) (λ now. until < now + 0) (λ now. until < now) (λ now late. omega arith) soon) refl)
+some_log_from until (suc fuel) bus takes_time soon = next_log until fuel bus (next_moment bus) refl takes_time soon (some_log_from until fuel)
+
+-- requests lead on
+follows_asked : (first bus : BusState) (frames : List FrameFields) → Follows requested finished 0 first bus → Follows requested finished 0 first (asked bus frames)
+follows_asked first bus [] follows = follows
+follows_asked first bus (frame ∷ frames) follows = follows_asked first (requested bus 0 frame) frames (Follows.request bus 0 frame follows)
+
+-- the bits of the started bus take time
+started_takes_time : (frames : List FrameFields) → 1 ≤ (started frames).bit
+started_takes_time frames =
+    let bits : (started frames).bit ≡ bit_time = arbitrated_bit (asked (new_bus bit_time) frames) 0 ∙ asked_bit (new_bus bit_time) frames in
+    subst (λ b. 1 ≤ b) (sym bits) (omega arith)
+
+-- nothing is due on a new bus
+nothing_due : next_moment (new_bus bit_time) ≡ None
+nothing_due = let none : len (new_bus bit_time).waiting ≡ 0 = len-empty name_cmp FrameFields in
+    ap (λ n. if n == 0 then None else Some 0) none
+
+-- a bus logs some list of frames from its start
+pub some_log : (until : ℕ) (frames : List FrameFields) → (logged : List Logged) × Logs until (started frames) logged
+some_log until frames =
+    let later = DueLaterFromNothing-bus (new_bus bit_time) (asked (new_bus bit_time) frames) 0 (omega arith) nothing_due (follows_asked (new_bus bit_time) (new_bus bit_time) frames Follows.nothing) in
+    some_log_from until until (started frames) (started_takes_time frames)
+    (if_some_map (next_moment (started frames)) (λ now. 0 < now) (λ now. until < now + until) (λ now late. omega arith) later)
+
+-- a run goes from one bus to another, and logs these frames on the way
+pub record Reaches (until : ℕ) (first : BusState) (before : List Logged) (bus : BusState) : Type 0 where
+  pub takes_time : 1 ≤ bus.bit
+  pub forward : (rest : List Logged) → Logs until bus rest → Logs until first (before ++ rest)
+  pub backward : (whole : List Logged) → Logs until first whole → (rest : List Logged) × (whole ≡ before ++ rest) × Logs until bus rest
+
+-- nothing was logged yet
+pub reaches_start : (until : ℕ) (frames : List FrameFields) → Reaches until (started frames) [] (started frames)
+reaches_start until frames = record {
+  takes_time = started_takes_time frames;
+  forward = λ rest logs. logs;
+  backward = λ whole logs. (whole, refl, logs);
+}
+
+-- one more instant
+pub reaches_next : (until now : ℕ) (first : BusState) (before : List Logged) (bus : BusState) → Reaches until first before bus →
+    next_moment bus ≡ Some now → now ≤ until → Reaches until first (before ++ logged_at now (ended bus now)) (instant bus now)
+reaches_next until now first before bus reaches next within = record {
+  takes_time = subst (λ b. 1 ≤ b) (sym (instant_bit bus now)) reaches.takes_time;
+  forward = λ rest logs. subst (Logs until first) (sym (append_assoc before (logged_at now (ended bus now)) rest))
+      (reaches.forward (logged_at now (ended bus now) ++ rest) (Logs.goes bus _ now rest next within refl logs));
+  backward = λ whole logs.
+      let part = reaches.backward whole logs in
+      let step = one_step until now bus part.0 next within part.2 in
+      (step.0, part.1 ∙ ap (λ l. before ++ l) step.1 ∙ sym (append_assoc before (logged_at now (ended bus now)) step.0), step.2);
+}
+
+-- a bus on which nothing is due has logged all
+pub reaches_end : (until : ℕ) (first : BusState) (before : List Logged) (bus : BusState) → Reaches until first before bus → IsOver until bus → Logs until first before
+reaches_end until first before bus reaches over = subst (Logs until first) (append-nil before) (reaches.forward [] (Logs.over bus [] over refl))
+
+-- the lines of frames in a row
+pub log_of-append : (before more : List Logged) → log_of (before ++ more) ≡ log_of before ++ log_of more
+log_of-append before more = flat_map-append (λ (entry : Logged). log_line entry.moment entry.frame) before more
+
+-- how far the end moment is from what is due
+abbrev pub time_left : ℕ → BusState → ℕ
+time_left until bus = option_map_or (λ due. until + 1 - due) (next_moment bus) 0
+
+less_time : (until now : ℕ) (due : Option ℕ) → now ≤ until → IfSome due (λ d. now < d) → suc (option_map_or (λ d. until + 1 - d) due 0) ≤ until + 1 - now
+less_time until now None within later = omega arith
+less_time until now (Some d) within later = omega arith
+
+-- after an instant it is nearer
+pub time_falls : (until now : ℕ) (bus : BusState) → 1 ≤ bus.bit → next_moment bus ≡ Some now → now ≤ until → suc (time_left until (instant bus now)) ≤ time_left until bus
+time_falls until now bus takes_time next within =
+    subst (λ o. suc (time_left until (instant bus now)) ≤ option_map_or (λ due. until + 1 - due) o 0) (sym next)
+    (less_time until now (next_moment (instant bus now)) within (later_instant bus now takes_time next))
+
+-- the log of a run that has come to an instant
+pub log_around : (until now : ℕ) (first : BusState) (before : List Logged) (bus : BusState) (logged : List Logged) → Reaches until first before bus →
+    next_moment bus ≡ Some now → now ≤ until → Logs until first logged →
+    (after : List Logged) × (log_of logged ≡ log_of before ++ log_of (logged_at now (ended bus now)) ++ log_of after)
+log_around until now first before bus logged reaches next within logs =
+    let part = reaches.backward logged logs in
+    let step = one_step until now bus part.0 next within part.2 in
+    let lines : log_of part.0 ≡ log_of (logged_at now (ended bus now)) ++ log_of step.0 = ap log_of step.1 ∙ log_of-append (logged_at now (ended bus now)) step.0 in (
+      step.0,
+      ap log_of part.1 ∙ log_of-append before part.0 ∙ ap (λ l. log_of before ++ l) lines
+          ∙ sym (append_assoc (log_of before) (log_of (logged_at now (ended bus now))) (log_of step.0)),
+    )

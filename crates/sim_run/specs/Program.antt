@@ -1,0 +1,71 @@
+-- What a source declares and sends.
+use Rattle.std.specs.Prelude.{◌≡◌, ◌≢◌, ◌≤◌, ◌==◌, ℕ, Bool, true, false, List, [], ◌∷◌, Option, Some, None, replicate, All, Contains, codes}
+use Rattle.std.specs.List.{AllPairs}
+use Rattle.can_frame.specs.Frame.{FrameFields}
+use Rattle.can_frame.specs.declared.Ident.{Ident}
+use Rattle.can_frame.specs.declared.Ident.TheVariants.{Std, Ext}
+use Rattle.capl_parser.specs.declared.tree.Declaration.{Declaration}
+use Rattle.capl_parser.specs.declared.tree.FileTree.{FileTree}
+use Rattle.capl_parser.specs.declared.tree.FileTree.TheVariants.{Empty, Start}
+use Rattle.capl_parser.specs.declared.tree.Number.{Number}
+use Rattle.capl_parser.specs.declared.tree.Statement.{Statement}
+use Rattle.capl_parser.specs.declared.tree.Statement.TheVariants.{Write, Output}
+
+-- the functions of the language, which no variable has the name of
+abbrev pub profile_functions : List (List ℕ)
+profile_functions =
+    codes "output" ∷ codes "write" ∷ codes "setTimer" ∷ codes "setTimerCyclic" ∷ codes "cancelTimer"
+    ∷ codes "stop" ∷ codes "isTimerActive" ∷ codes "timeNow" ∷ codes "elCount" ∷ []
+
+-- the number is this one, has no mark of an identifier, and is not above the limit
+pub record IsPlainNumber (number : Number) (limit n : ℕ) : Type 0 where
+  pub unmarked : number.ext ≡ false
+  pub value : number.value ≡ Some n
+  pub within : n ≤ limit
+
+-- the number stands for this identifier: 11 bits, or 29 bits with the mark
+abbrev pub IsIdentOf : Number → Ident → Type 0
+IsIdentOf number (Std n) = IsPlainNumber number 0x7FF n
+IsIdentOf number (Ext n) = (number.ext ≡ true) × (number.value ≡ Some n) × (n ≤ 0x1FFFFFFF)
+
+-- whether a message is remote: where its field `rtr` is 1
+abbrev pub IsRemoteOf : Option Number → Bool → Type 0
+IsRemoteOf None remote = remote ≡ false
+IsRemoteOf (Some number) remote = (n : ℕ) × IsPlainNumber number 1 n × (remote ≡ (n == 1))
+
+-- the frame that a message variable sends: its bytes are 0
+pub record IsFrameOf (declaration : Declaration) (frame : FrameFields) : Type 0 where
+  pub ident : IsIdentOf declaration.identifier frame.ident
+  pub dlc : IsPlainNumber declaration.dlc 8 frame.dlc
+  pub remote : IsRemoteOf declaration.rtr frame.remote
+  pub payload : frame.payload ≡ replicate 8 0
+  pub can : frame.can ≡ 1
+
+-- a message variable of this name sends this frame
+abbrev pub Sends : List Declaration → List ℕ → FrameFields → Type 0
+Sends declarations name frame =
+    (declaration : Declaration) × Contains declarations declaration × (declaration.name ≡ name) × IsFrameOf declaration frame
+
+-- the numbers of the variables are in range, and their names differ from each other and from those of functions
+pub record AreVariables (declarations : List Declaration) : Type 0 where
+  pub in_range : All (λ declaration. (frame : FrameFields) × IsFrameOf declaration frame) declarations
+  pub differ : AllPairs (λ one other. one.name ≢ other.name) declarations
+  pub no_functions : All (λ declaration. ¬ Contains profile_functions declaration.name) declarations
+
+-- the statements write texts without `%`, and ask for these frames, in order
+abbrev pub AsksFor : List Declaration → List Statement → List FrameFields → Type 0
+AsksFor declarations [] frames = frames ≡ []
+AsksFor declarations (Write text ∷ statements) frames = ¬ Contains text 37 × AsksFor declarations statements frames
+AsksFor declarations (Output name ∷ statements) frames =
+    (frame : FrameFields) × (rest : List FrameFields) × Sends declarations name frame × (frames ≡ frame ∷ rest) × AsksFor declarations statements rest
+
+-- the declarations of a block of variables
+abbrev pub declarations_of : Option (List Declaration) → List Declaration
+declarations_of None = []
+declarations_of (Some declarations) = declarations
+
+-- the tree is a program that asks for these frames, in order
+abbrev pub IsProgram : FileTree → List FrameFields → Type 0
+IsProgram Empty frames = frames ≡ []
+IsProgram (Start variables statements) frames =
+    AreVariables (declarations_of variables) × AsksFor (declarations_of variables) statements frames
