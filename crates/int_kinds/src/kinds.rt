@@ -45,6 +45,7 @@ pub const fn holds(k: Kind, n: i128) -> bool
 
 /// The number of the kind that is congruent to `n` modulo 2 to the kind's width, as a store to a
 /// variable of the kind leaves it.
+#[inline]
 pub const fn wrap(k: Kind, n: i128) -> i128
     requires { IsNumber n }
     ensures { result ≡ wrap k n }
@@ -93,6 +94,7 @@ const fn greatest(k: Kind) -> i128
 }
 
 /// `wrap` of any `i128`.
+#[inline]
 pub(crate) const fn wrap_any(k: Kind, n: i128) -> i128
     ensures { result ≡ wrap k n }
 {
@@ -101,7 +103,26 @@ pub(crate) const fn wrap_any(k: Kind, n: i128) -> i128
 
 /// `wrap` of a word of 128 bits, of which only the lowest, as many as the kind has, make a
 /// difference.
+// In each arm the kind is constant, so that LLVM makes one mask or one sign extension of it.
+#[inline]
 pub(crate) const fn wrap_word(k: Kind, word: u128) -> i128
+    ensures { result ≡ wrap k (pos word) }
+{
+    match k {
+        Kind::Byte => residue_in(Kind::Byte, word),
+        Kind::Word => residue_in(Kind::Word, word),
+        Kind::Dword => residue_in(Kind::Dword, word),
+        Kind::Qword => residue_in(Kind::Qword, word),
+        Kind::Int => residue_in(Kind::Int, word),
+        Kind::Long => residue_in(Kind::Long, word),
+        Kind::Int64 => residue_in(Kind::Int64, word),
+        Kind::Char => residue_in(Kind::Char, word),
+    }
+}
+
+/// The residue of a word that is a number of the kind.
+#[inline(always)]
+const fn residue_in(k: Kind, word: u128) -> i128
     ensures { result ≡ wrap k (pos word) }
 {
     let modulus = 1i128 << bits(k);
