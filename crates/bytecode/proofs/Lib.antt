@@ -1,0 +1,14 @@
+pub mod Covered
+pub mod PlacesInOrder
+pub mod Pairs
+pub mod Standing
+pub mod MessageCells
+pub mod Moving
+pub mod Calling
+pub mod Numbers
+pub mod Stepping
+pub mod Rows
+pub mod Running
+pub mod Apart
+pub mod KindLists
+pub mod Ranks

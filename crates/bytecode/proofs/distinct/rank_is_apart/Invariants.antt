@@ -1,0 +1,11 @@
+use Rattle.std.proofs.Common.{take}
+use Rattle.std.specs.Prelude.{AllPairs}
+use Rattle.bytecode.specs.Tables.{AreApartIn}
+use Rattle.bytecode.proofs.Ranks.{IsHighest}
+use Rattle.bytecode.proofs.distinct.rank_is_apart.Given as goal
+
+abbrev pub invariant-loop-selector : goal.invariant-loop-selector
+invariant-loop-selector l = record {
+  apart : AllPairs (AreApartIn l.rank) (take l.selector-index l.selectors);
+  highest : IsHighest l.rank (take l.selector-index l.selectors) l.reached;
+}

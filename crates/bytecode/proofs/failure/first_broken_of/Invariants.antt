@@ -1,0 +1,6 @@
+use Rattle.std.proofs.Common.{ℕ, ◌≤◌, ◌<◌}
+use Rattle.bytecode.specs.Failure.{KeepsRuleIn}
+use Rattle.bytecode.proofs.failure.first_broken_of.Given as goal
+
+abbrev pub invariant-loop-place : goal.invariant-loop-place
+invariant-loop-place l = (earlier : ℕ) → l.function.start ≤ earlier → earlier < l.place → KeepsRuleIn l.code l.number l.function earlier

@@ -1,0 +1,5 @@
+use Rattle.bytecode.proofs.Running.{runs_to_its_end}
+use Rattle.bytecode.proofs.laws.verified_code_runs_to_its_end.Goals as goal
+
+pub returns : goal.returns
+returns c = runs_to_its_end

@@ -1,0 +1,7 @@
+use Rattle.std.proofs.Common.{take}
+use Rattle.std.specs.Prelude.{All}
+use Rattle.bytecode.specs.Tables.{IsHeldStart}
+use Rattle.bytecode.proofs.tables.starts_are_held.Given as goal
+
+abbrev pub invariant-loop-cell : goal.invariant-loop-cell
+invariant-loop-cell l = All (IsHeldStart l.kinds) (take l.cell-index l.starts)

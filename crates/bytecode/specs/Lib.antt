@@ -1,0 +1,9 @@
+pub mod Failure
+pub mod Machine
+pub mod Message
+pub mod Refusal
+pub mod Rule
+pub mod Runs
+pub mod Step
+pub mod Tables
+pub mod Verified

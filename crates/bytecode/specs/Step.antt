@@ -1,0 +1,161 @@
+-- The instruction table of the stack machine.
+use Rattle.std.specs.Prelude.{ℕ, zero, suc, ◌+◌, ◌-◌, ◌*◌, ◌/◌, Bool, true, false, if◌then◌else◌, nat_lt, nat_le, ◌&&◌, List, [], ◌∷◌, ◌++◌, map, reverse, length, take, drop, ℤ, pos, negsuc, Option, Some, None, slice_get, slice_set, int_le, unsigned_abs}
+use Rattle.std.specs.List.{splice, list_all}
+use Rattle.std.specs.Ordering.{int_eq}
+use Rattle.int_kinds.specs.declared.kinds.Kind.{Kind}
+use Rattle.int_kinds.specs.declared.kinds.Kind.TheVariants.{Dword, Long}
+use Rattle.int_kinds.specs.declared.operators.BinOp.{BinOp}
+use Rattle.int_kinds.specs.declared.operators.BinOp.TheVariants.{OrElse, AndAlso}
+use Rattle.int_kinds.specs.Kind.{wrap}
+use Rattle.int_kinds.specs.Arithmetic.{inverted, negated, truth, value}
+use Rattle.signal_codec.specs.Signal.{payload_with, signal_value}
+use Rattle.write_format.specs.Format.{FormatText, char_arrays, numbers_taken, rendered}
+use Rattle.vm_host.specs.Effect.{Effect}
+use Rattle.vm_host.specs.Effect as effect
+use Rattle.vm_host.specs.declared.outcome.Outcome.TheVariants.{Done, Trapped, Cut}
+use Rattle.vm_host.specs.declared.outcome.TrapKind.TheVariants.{ZeroDivisor, Index}
+use Rattle.bytecode.specs.declared.code.Code.{Code}
+use Rattle.bytecode.specs.declared.instr.Instr.{Instr}
+use Rattle.bytecode.specs.declared.instr.Instr.TheVariants.{Push, Load, Store, Check, Elem, SetElem, Bytes, SetBytes, Sig, SetSig, SetField, Bin, Neg, Inv, Conv, Not, Dup, Drop, Jump, Zero, Case, Back, Turn, Call, Ret, Write, Send, Copy, Stop, Set, Cancel, Active, Now}
+use Rattle.bytecode.specs.Machine.{Machine, Next, Goes, Ends, Stuck}
+use Rattle.bytecode.specs.Message.{bytes_of, frame_of, message_at, number_at, payload_of, size, write_rules}
+
+-- what the row does with something that it asks for, and stuck if that is not there
+abbrev pub needing : {A : Type 0} → Option A → (A → Next) → Next
+needing None row = Stuck
+needing (Some x) row = row x
+
+-- goes on to the next place, with this stack
+abbrev pub goes_on : Machine → List ℤ → Next
+goes_on m stack = Goes (record m { place = m.place + 1; stack = stack })
+
+-- goes to a place, with this stack
+abbrev pub goes_to : ℕ → Machine → List ℤ → Next
+goes_to target m stack = Goes (record m { place = target; stack = stack })
+
+-- gives the number in a cell
+abbrev pub reads : ℕ → Machine → List ℤ → Next
+reads cell m stack = needing (slice_get m.cells cell) (λ n. goes_on m (n ∷ stack))
+
+-- stores a number in a cell, wrapped to the cell's kind, and gives what is stored
+abbrev pub stores : List Kind → ℕ → ℤ → Machine → List ℤ → Next
+stores kinds cell n m stack = needing (slice_get m.cells cell) (λ _. needing (slice_get kinds cell) (λ k.
+    goes_on (record m { cells = slice_set m.cells cell (wrap k n) }) (wrap k n ∷ stack)))
+
+-- traps if a number is no index below a length
+abbrev pub indexing : ℤ → ℕ → Machine → (ℕ → Next) → Next
+indexing (pos i) len m row = if nat_lt i len then row i else Ends (Trapped Index) m
+indexing (negsuc i) len m row = Ends (Trapped Index) m
+
+-- puts bytes in the payload of the message that begins at a cell, from one of its bytes on, and gives a number
+abbrev pub stores_bytes : ℕ → ℕ → List ℕ → ℤ → Machine → List ℤ → Next
+stores_bytes at i bytes given m stack =
+    goes_on (record m { cells = splice m.cells (at + 6 + i) (at + 6 + i + length bytes) (map pos bytes) }) (given ∷ stack)
+
+-- gives a number, or traps where the divisor was zero
+abbrev pub gives_or_traps : Option ℤ → Machine → List ℤ → Next
+gives_or_traps None m stack = Ends (Trapped ZeroDivisor) m
+gives_or_traps (Some n) m stack = goes_on m (n ∷ stack)
+
+-- gives the value of an operator; `||` and `&&` are no instructions
+abbrev pub operates : BinOp → Kind → ℤ → ℤ → Machine → List ℤ → Next
+operates OrElse k a b m stack = Stuck
+operates AndAlso k a b m stack = Stuck
+operates op k a b m stack = gives_or_traps (value op k a b) m stack
+
+-- what the row does with one turn less, and the end of the run if none is left
+abbrev pub taking_turn : ℕ → Machine → (Machine → Next) → Next
+taking_turn zero m row = Ends Cut m
+taking_turn (suc turns) m row = row (record m { turns = turns })
+
+-- ends the function: goes to where its call returns to, or ends the run
+abbrev pub returns_to : List ℕ → Machine → Next
+returns_to [] m = Ends Done m
+returns_to (place ∷ calls) m = Goes (record m { place = place; calls = calls })
+
+-- the machine after an effect
+abbrev pub after_effect : Effect → Machine → Machine
+after_effect e m = record m { effects = m.effects ++ e ∷ [] }
+
+-- what changes in the machine, if the measurement has not ended
+abbrev pub unless : Bool → (Machine → Machine) → Machine → Machine
+unless closed change m = if closed then m else change m
+
+-- writes the line of a format, whose numbers are the top of the stack, the last one first
+abbrev pub writes : FormatText → Machine → List ℤ → Next
+writes format m stack =
+    if nat_le (numbers_taken format) (length stack) && list_all (λ array. nat_le (array.0 + array.1) (length m.cells)) (char_arrays format)
+    then goes_on (after_effect (effect.Line (rendered format (reverse (take (numbers_taken format) stack)) m.cells)) m) (drop (numbers_taken format) stack)
+    else Stuck
+
+-- how many microseconds a duration in a unit is: wrapped to long, and below 1 it is 1
+abbrev pub micros : ℕ → ℤ → ℕ
+micros unit n = (if int_le (pos 1) (wrap Long n) then unsigned_abs (wrap Long n) else 1) * unit
+
+-- the machine after a timer was set, or cancelled
+abbrev pub after_set : ℕ → ℕ → Bool → Machine → Machine
+after_set timer duration cyclic m = after_effect (effect.Set timer duration cyclic) (record m { active = slice_set m.active timer true })
+
+abbrev pub after_cancel : ℕ → Machine → Machine
+after_cancel timer m = after_effect (effect.Cancel timer) (record m { active = slice_set m.active timer false })
+
+-- One row of the table for each instruction: what it does to a machine that stands at it, with this stack. Where the
+-- stack has fewer numbers than the instruction takes, it is stuck.
+abbrev pub row : Code → Bool → ℕ → Machine → Instr → List ℤ → Next
+row code closed moment m (Push n) stack = goes_on m (n ∷ stack)
+row code closed moment m (Load cell) stack = reads cell m stack
+row code closed moment m (Store cell) (n ∷ stack) = stores code.cells.items cell n m stack
+row code closed moment m (Check len) (i ∷ stack) = indexing i len m (λ _. goes_on m (i ∷ stack))
+row code closed moment m (Elem base len) (i ∷ stack) = indexing i len m (λ k. reads (base + k) m stack)
+row code closed moment m (SetElem base len) (n ∷ i ∷ stack) = indexing i len m (λ k. stores code.cells.items (base + k) n m stack)
+row code closed moment m (Bytes k at) (i ∷ stack) = needing (message_at at m.cells) (λ message.
+    indexing i (9 - size k) m (λ byte. goes_on m (number_at k byte (payload_of message) ∷ stack)))
+row code closed moment m (SetBytes k at) (n ∷ i ∷ stack) = needing (message_at at m.cells) (λ _.
+    indexing i (9 - size k) m (λ byte. stores_bytes at byte (bytes_of k n) (wrap k n) m stack))
+row code closed moment m (Sig l at) stack = needing (message_at at m.cells) (λ message. goes_on m (signal_value l (payload_of message) ∷ stack))
+row code closed moment m (SetSig l at) (n ∷ stack) = needing (message_at at m.cells) (λ message.
+    let after = payload_with l (payload_of message) n in stores_bytes at 0 after (signal_value l after) m stack)
+row code closed moment m (SetField f at) (n ∷ stack) = needing (message_at at m.cells) (λ _. needing (slice_get write_rules f) (λ rule.
+    goes_on (record m { cells = slice_set m.cells (at + f) (pos (rule n)) }) (pos (rule n) ∷ stack)))
+row code closed moment m (Bin op k) (b ∷ a ∷ stack) = operates op k a b m stack
+row code closed moment m (Neg k) (n ∷ stack) = goes_on m (negated k n ∷ stack)
+row code closed moment m (Inv k) (n ∷ stack) = goes_on m (inverted k n ∷ stack)
+row code closed moment m (Conv k) (n ∷ stack) = goes_on m (wrap k n ∷ stack)
+row code closed moment m Not (n ∷ stack) = goes_on m (truth (int_eq n (pos 0)) ∷ stack)
+row code closed moment m Dup (n ∷ stack) = goes_on m (n ∷ n ∷ stack)
+row code closed moment m Drop (n ∷ stack) = goes_on m stack
+row code closed moment m (Jump target) stack = goes_to target m stack
+row code closed moment m (Zero target) (n ∷ stack) = if int_eq n (pos 0) then goes_to target m stack else goes_on m stack
+row code closed moment m (Case label target) (n ∷ stack) = if int_eq n label then goes_to target m stack else goes_on m (n ∷ stack)
+row code closed moment m (Back target) (n ∷ stack) = if int_eq n (pos 0) then goes_on m stack else taking_turn m.turns m (λ after. goes_to target after stack)
+row code closed moment m Turn stack = taking_turn m.turns m (λ after. goes_on after stack)
+row code closed moment m (Call f) stack = needing (slice_get code.functions.items f) (λ function.
+    taking_turn m.turns m (λ after. Goes (record after { place = function.start; calls = (m.place + 1) ∷ m.calls })))
+row code closed moment m Ret stack = returns_to m.calls m
+row code closed moment m (Write f) stack = needing (slice_get code.formats.items f) (λ format. writes format m stack)
+row code closed moment m (Send at) stack = needing (message_at at m.cells) (λ message.
+    goes_on (unless closed (after_effect (effect.Send (frame_of message))) m) stack)
+row code closed moment m (Copy to from) stack = needing (message_at to m.cells) (λ _. needing (message_at from m.cells) (λ message.
+    goes_on (record m { cells = splice m.cells to (to + 14) message }) stack))
+row code closed moment m Stop stack = goes_on (unless closed (after_effect effect.Stop) m) stack
+row code closed moment m (Set timer cyclic) (n ∷ stack) = needing (slice_get code.timers.items timer) (λ unit. needing (slice_get m.active timer) (λ _.
+    goes_on (unless closed (after_set timer (micros unit n) cyclic) m) stack))
+row code closed moment m (Cancel timer) stack = needing (slice_get m.active timer) (λ _. goes_on (unless closed (after_cancel timer) m) stack)
+row code closed moment m (Active timer) stack = needing (slice_get m.active timer) (λ active. goes_on m (truth active ∷ stack))
+row code closed moment m Now stack = goes_on m (wrap Dword (pos (moment / 10)) ∷ stack)
+row code closed moment m _ _ = Stuck
+
+-- one step, where the measurement has ended or not, at a moment in microseconds: the row of the instruction at the place
+abbrev pub step : Code → Bool → ℕ → Machine → Next
+step code closed moment m = needing (slice_get code.instrs.items m.place) (λ instr. row code closed moment m instr m.stack)
+
+-- what comes after a step, if the machine goes on
+abbrev pub continuing : Next → (Machine → Next) → Next
+continuing (Goes m) further = further m
+continuing (Ends outcome m) further = Ends outcome m
+continuing Stuck further = Stuck
+
+-- the state after so many steps, or the ended one
+abbrev pub go : Code → Bool → ℕ → ℕ → Machine → Next
+go code closed moment zero m = Goes m
+go code closed moment (suc n) m = continuing (step code closed moment m) (λ after. go code closed moment n after)

@@ -1,0 +1,193 @@
+// The rules of the tables.
+
+ghost use Rattle.std.specs.Prelude.{◌≡◌, ◌≢◌, ◌⊎◌, ◌↔◌, ◌<◌, ◌≤◌, All, AllPairs, IfOk, IsSomeAnd, IsTrue, length, slice_get, take, false};
+ghost use Rattle.int_kinds.specs.Kind.{Holds};
+ghost use Rattle.write_format.specs.Arrays.{IsCharArray};
+ghost use Rattle.write_format.specs.Format.{char_arrays};
+ghost use Rattle.bytecode.specs.Failure.{KeepsEvents, KeepsLists};
+ghost use Rattle.bytecode.specs.Tables.{AreApart, IsHeldStart, KeepsTables, all_keys, all_selectors, all_timers, event_kinds, key_of, selectors_of, timer_of};
+
+use crate::code::{Code, Fun, Handler};
+use crate::distinct::{keys_differ, selectors_are_apart, timers_differ};
+use crate::rule::is_number;
+use int_kinds::{Kind, holds};
+use sim_outside::NoMemory;
+use std::alloc::Global;
+use vm_host::Event;
+use write_format::Format;
+
+/// The kinds of the event's cells.
+const EVENT_KINDS: [Kind; 15] = [
+    Kind::Dword,
+    Kind::Byte,
+    Kind::Byte,
+    Kind::Word,
+    Kind::Byte,
+    Kind::Dword,
+    Kind::Byte,
+    Kind::Byte,
+    Kind::Byte,
+    Kind::Byte,
+    Kind::Byte,
+    Kind::Byte,
+    Kind::Byte,
+    Kind::Byte,
+    Kind::Char,
+];
+
+/// Whether the tables keep their rules.
+pub(crate) fn keeps_tables(alloc: Global, code: &Code) -> Result<bool, NoMemory>
+    ensures { IfOk result (λ keeps. IsTrue keeps ↔ KeepsTables code.now) }
+{
+    if !keeps_lists(code) {
+        return Ok(false);
+    }
+    let selectors = selectors_of(alloc, &code.handlers)?;
+    let timers = timers_of(alloc, &code.handlers)?;
+    let keys = keys_of(alloc, &code.handlers)?;
+    Ok(keeps_events(selectors, timers, &keys, code.timers.len()))
+}
+
+/// Whether the lists keep their rules, those on the handlers' events aside.
+fn keeps_lists(code: &Code) -> bool
+    ensures { IsTrue result ↔ KeepsLists code.now }
+{
+    let kinds = code.cells.as_slice();
+    begins_with_event(kinds)
+        && starts_are_held(kinds, &code.starts)
+        && handlers_give_nothing(&code.functions, &code.handlers)
+        && units_are_known(&code.timers)
+        && arrays_exist(kinds, &code.formats)
+}
+
+/// Whether the selectors, timers and keys of the handlers keep their rules, with so many timers.
+fn keeps_events(
+    selectors: Vec<(u8, u32, u32)>,
+    timers: Vec<u32>,
+    keys: &[Option<u8>],
+    count: usize,
+) -> bool
+    ensures { IsTrue result ↔ KeepsEvents selectors.items timers.items keys.now count }
+{
+    if !ranks_are_known(&selectors) || !timers_exist(&timers, count) {
+        return false;
+    }
+    let selectors_apart = selectors_are_apart(selectors);
+    let timers_apart = timers_differ(timers);
+    selectors_apart && timers_apart && keys_differ(keys)
+}
+
+/// Whether the first cells have the event's kinds.
+fn begins_with_event(kinds: &[Kind]) -> bool
+    ensures { IsTrue result ↔ (take 15 kinds.now ≡ event_kinds) }
+{
+    EVENT_KINDS.len() <= kinds.len() && &kinds[..EVENT_KINDS.len()] == EVENT_KINDS.as_slice()
+}
+
+/// Whether each initial value is held by its cell's kind.
+fn starts_are_held(kinds: &[Kind], starts: &[(u32, i128)]) -> bool
+    ensures { IsTrue result ↔ All (IsHeldStart kinds.now) starts.now }
+{
+    for &(cell, n) in starts {
+        if !is_held(kinds, cell, n) {
+            return false;
+        }
+    }
+    true
+}
+
+/// Whether the kind of a cell has a number.
+fn is_held(kinds: &[Kind], cell: u32, n: i128) -> bool
+    ensures { IsTrue result ↔ IsSomeAnd (slice_get kinds.now cell) (λ k. Holds k n) }
+{
+    match kinds.get(cell as usize) {
+        Some(k) => is_number(n) && holds(*k, n),
+        None => false,
+    }
+}
+
+/// Whether each handler runs a function that gives nothing.
+fn handlers_give_nothing(functions: &[Fun], handlers: &[Handler]) -> bool
+    ensures { IsTrue result ↔ All (λ handler. IsSomeAnd (slice_get functions.now handler.function) (λ function. function.gives ≡ false)) handlers.now }
+{
+    handlers
+        .iter()
+        .all(|handler| gives_nothing(functions, handler.function))
+}
+
+/// Whether there is such a function, and it gives nothing.
+fn gives_nothing(functions: &[Fun], number: u32) -> bool
+    ensures { IsTrue result ↔ IsSomeAnd (slice_get functions.now number) (λ function. function.gives ≡ false) }
+{
+    match functions.get(number as usize) {
+        Some(function) => !function.gives,
+        None => false,
+    }
+}
+
+/// Whether each unit is a millisecond or a second.
+fn units_are_known(units: &[u64]) -> bool
+    ensures { IsTrue result ↔ All (λ unit. (unit ≡ 1000) ⊎ (unit ≡ 1000000)) units.now }
+{
+    units.iter().all(|unit| *unit == 1000 || *unit == 1_000_000)
+}
+
+/// Whether the arrays of characters of each format are there.
+fn arrays_exist(kinds: &[Kind], formats: &[Format]) -> bool
+    ensures { IsTrue result ↔ All (λ format. All (IsCharArray kinds.now) (char_arrays format)) formats.now }
+{
+    formats.iter().all(|format| format.has_arrays_in(kinds))
+}
+
+/// All selectors of the handlers.
+fn selectors_of(alloc: Global, handlers: &[Handler]) -> Result<Vec<(u8, u32, u32)>, NoMemory>
+    ensures { IfOk result (λ selectors. selectors.items ≡ all_selectors handlers.now) }
+{
+    let mut selectors = Vec::new(alloc);
+    for handler in handlers {
+        if let Event::Message(own) = &handler.event {
+            selectors.extend_from_slice(own.list())?;
+        }
+    }
+    Ok(selectors)
+}
+
+/// All timers of the handlers.
+fn timers_of(alloc: Global, handlers: &[Handler]) -> Result<Vec<u32>, NoMemory>
+    ensures { IfOk result (λ timers. timers.items ≡ all_timers handlers.now) }
+{
+    let mut timers = Vec::new(alloc);
+    for handler in handlers {
+        if let Event::Timer(timer) = handler.event {
+            timers.push(timer)?;
+        }
+    }
+    Ok(timers)
+}
+
+/// All keys of the handlers.
+fn keys_of(alloc: Global, handlers: &[Handler]) -> Result<Vec<Option<u8>>, NoMemory>
+    ensures { IfOk result (λ keys. keys.items ≡ all_keys handlers.now) }
+{
+    let mut keys = Vec::new(alloc);
+    for handler in handlers {
+        if let Event::Key(key) = handler.event {
+            keys.push(key)?;
+        }
+    }
+    Ok(keys)
+}
+
+/// Whether each rank is 0 to 2.
+fn ranks_are_known(selectors: &[(u8, u32, u32)]) -> bool
+    ensures { IsTrue result ↔ All (λ selector. selector.0 ≤ 2) selectors.now }
+{
+    selectors.iter().all(|selector| selector.0 <= 2)
+}
+
+/// Whether each timer is below the number of timers.
+fn timers_exist(timers: &[u32], count: usize) -> bool
+    ensures { IsTrue result ↔ All (λ timer. timer < count) timers.now }
+{
+    timers.iter().all(|timer| (*timer as usize) < count)
+}

@@ -1,0 +1,84 @@
+// Verified code, and the verifier.
+
+ghost use Rattle.std.specs.Prelude.{◌≡◌, IfErr, IfOk};
+ghost use Rattle.bytecode.specs.Refusal.{IsRightly};
+ghost use Rattle.bytecode.specs.Verified.{IsShortCode, IsVerified};
+
+use crate::code::Code;
+use crate::failure::first_failure;
+use sim_outside::NoMemory;
+use std::alloc::Global;
+use std::marker::Model;
+
+/// Code that keeps every rule of the verifier. Only [`verify`] makes it.
+///
+/// Contracts see it as its code.
+#[derive(Debug, Drop)]
+pub struct Verified {
+    code: Code,
+}
+
+impl Model for Verified {
+    ghost use Rattle.bytecode.specs.declared.code.Code.{Code};
+
+    ghost Value = { Code };
+
+    ghost use Rattle.bytecode.specs.Verified.{IsVerified};
+
+    ghost view = { λ verified. verified.code };
+
+    ghost invariant = { λ verified. IsVerified verified.code };
+}
+
+impl Verified {
+    /// The code.
+    pub fn code(&self) -> &Code
+        ensures same { result.now ≡ self.now }
+        ensures verified { IsVerified result.now }
+    {
+        &self.code
+    }
+}
+
+/// Why code is not verified.
+#[derive(Debug, Drop)]
+pub enum VerifyRefusal {
+    /// A rule of the verifier fails.
+    Unverified {
+        /// The first place whose rule fails, which is the number of instructions where it is a rule
+        /// of the functions' places, of the number of depths or of the tables.
+        place: u32,
+        /// The code, unchanged.
+        code: Code,
+    },
+    /// There was no memory.
+    NoMemory,
+}
+
+impl From<NoMemory> for VerifyRefusal {
+    ghost use Rattle.std.specs.Prelude.{◌≡◌};
+    ghost use Rattle.bytecode.specs.declared.verified.VerifyRefusal.TheVariants.{NoMemory};
+
+    ghost from_gives = { λ _ refusal. refusal ≡ NoMemory };
+
+    fn from(_: NoMemory) -> VerifyRefusal {
+        VerifyRefusal::NoMemory
+    }
+}
+
+/// Takes code that keeps every rule of the verifier, and gives any other back with the first place
+/// whose rule fails.
+///
+/// Takes time linear in the code, but for sorting the selectors and the timers of its handlers, and
+/// memory linear in these.
+pub fn verify(alloc: Global, code: Code) -> Result<Verified, VerifyRefusal>
+    requires { IsShortCode code }
+    ensures same { IfOk result (λ verified. verified ≡ code) }
+    ensures verified { IfOk result IsVerified }
+    ensures unverified { IfErr result (IsRightly code) }
+{
+    match first_failure(alloc, &code)? {
+        Some(place) => Err(VerifyRefusal::Unverified { place, code }),
+        None => Ok(Verified { code }),
+    }
+}
