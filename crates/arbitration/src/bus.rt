@@ -74,7 +74,7 @@ pub trait Bus {
         ensures takes_time { 1 ≤ bit self.new };
 
     /// Where the wire is empty, the bus is free and a request waits, the winner begins at this
-    /// moment.
+    /// moment, which is at most 2^63 microseconds.
     fn arbitrate(&mut self, now: u64)
         requires { now ≤ 2 ^ 63 }
         ensures state { self.new ≡ arbitrated self.old now }

@@ -8,3 +8,11 @@ ghost use Rattle.capl_parser.specs.declared.tree.FileTree.{FileTree};
 pub fn one_tree()
     ensures { (one other : FileTree) → spelling one ≡ spelling other → one ≡ other }
 {}
+
+#[cfg(test)]
+mod tests {
+    #[test]
+    fn laws_can_be_called() {
+        super::one_tree();
+    }
+}

@@ -8,8 +8,17 @@ use crate::kinds::Kind;
 
 /// `wrap` gives the one number of the kind that is congruent to `n` modulo 2 to the kind's width.
 pub const fn wrapped_is_unique(k: Kind)
-    ghost n: { ℤ }
-    ensures held { Holds k (wrap k n) }
-    ensures congruent { Congruent (2 ^ width k) (wrap k n) n }
-    ensures only { (m : ℤ) → Holds k m → Congruent (2 ^ width k) m n → m ≡ wrap k n }
+    ensures held { (n : ℤ) → Holds k (wrap k n) }
+    ensures congruent { (n : ℤ) → Congruent (2 ^ width k) (wrap k n) n }
+    ensures only { (m n : ℤ) → Holds k m → Congruent (2 ^ width k) m n → m ≡ wrap k n }
 {}
+
+#[cfg(test)]
+mod tests {
+    use crate::Kind;
+
+    #[test]
+    fn laws_can_be_called() {
+        super::wrapped_is_unique(Kind::Byte);
+    }
+}
