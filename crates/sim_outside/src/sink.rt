@@ -4,6 +4,7 @@ ghost use Rattle.std.specs.Prelude.{◌≡◌, ℕ, ◌≤◌, Option, List, OnO
 ghost use Rattle.sim_outside.specs.Fault.{HasRisen};
 ghost use Rattle.sim_outside.specs.Sink.{GrowsBy, GrowsByPrefix};
 
+use crate::memory::NoMemory;
 use thiserror::Error;
 
 /// Why a piece was not written whole.
@@ -15,6 +16,17 @@ pub enum SinkRefusal {
     /// There was no memory for the piece, and nothing of it was written.
     #[error("no memory")]
     NoMemory,
+}
+
+impl From<NoMemory> for SinkRefusal {
+    ghost use Rattle.std.specs.Prelude.{◌≡◌};
+    ghost use Rattle.sim_outside.specs.declared.sink.SinkRefusal.TheVariants.{NoMemory};
+
+    ghost from_gives = { λ _ refusal. refusal ≡ NoMemory };
+
+    fn from(_: NoMemory) -> SinkRefusal {
+        SinkRefusal::NoMemory
+    }
 }
 
 /// A sink for pieces of bytes.

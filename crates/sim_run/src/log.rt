@@ -31,9 +31,7 @@ pub(crate) fn write_log<S: Sink>(
     ensures err { OnErr result ((logged : List Logged) → Logs until (started frames.now) logged → GrowsByPrefix (S.written out.old) (S.written out.new) (log_of logged)) }
     ensures failed { IsErrOf result SinkRefusal.Failed → HasRisen (S.faults out.old) (S.faults out.new) }
 {
-    let Ok(mut bus) = start(alloc, frames) else {
-        return Err(SinkRefusal::NoMemory);
-    };
+    let mut bus = start(alloc, frames)?;
     while let Some(now) = bus.next_time() {
         if now > until {
             break;
@@ -74,6 +72,6 @@ fn write_instant<S: Sink>(
     let Some(ended) = ended else {
         return Ok(());
     };
-    let line = make_log_line(alloc, now, &ended.frame).map_err(|_| SinkRefusal::NoMemory)?;
+    let line = make_log_line(alloc, now, &ended.frame)?;
     out.write(line.bytes())
 }

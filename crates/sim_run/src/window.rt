@@ -8,7 +8,7 @@ ghost use Rattle.sim_run.specs.Window.{statement_line, window_of, refusal_line};
 
 use crate::lines::{make_refusal_line, make_window_line};
 use capl_parser::{FileTree, Statement};
-use sim_outside::{NoMemory, Sink, SinkRefusal, Text};
+use sim_outside::{Sink, SinkRefusal, Text};
 use std::alloc::Global;
 
 /// Writes the window of a node, line by line.
@@ -61,9 +61,7 @@ fn write_statement<S: Sink>(
 {
     match statement {
         Statement::Write(text) => {
-            let line = make_window_line(alloc, node, text.bytes()).map_err(
-                |_| SinkRefusal::NoMemory,
-            )?;
+            let line = make_window_line(alloc, node, text.bytes())?;
             out.write(line.bytes())
         }
         Statement::Output(_) => Ok(()),
@@ -80,6 +78,6 @@ pub(crate) fn write_refusal<S: Sink>(
     ensures err { OnErr result (GrowsByPrefix (S.written out.old) (S.written out.new) (refusal_line file.now)) }
     ensures failed { IsErrOf result SinkRefusal.Failed → HasRisen (S.faults out.old) (S.faults out.new) }
 {
-    let line = make_refusal_line(alloc, file.bytes()).map_err(|_| SinkRefusal::NoMemory)?;
+    let line = make_refusal_line(alloc, file.bytes())?;
     out.write(line.bytes())
 }

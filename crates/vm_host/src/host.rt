@@ -17,6 +17,17 @@ pub enum RecordFault {
     NoMemory,
 }
 
+impl From<NoMemory> for RecordFault {
+    ghost use Rattle.std.specs.Prelude.{◌≡◌};
+    ghost use Rattle.vm_host.specs.declared.host.RecordFault.TheVariants.{NoMemory};
+
+    ghost from_gives = { λ _ fault. fault ≡ NoMemory };
+
+    fn from(_: NoMemory) -> RecordFault {
+        RecordFault::NoMemory
+    }
+}
+
 /// What takes the effects of a run, and tells it the moment and its timers.
 ///
 /// A host that is closed, since the measurement has ended, takes lines alone.

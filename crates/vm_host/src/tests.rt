@@ -92,7 +92,7 @@ fn call_all<H: Host>(host: &mut H, frame: &Frame) -> Result<bool, RecordFault>
     host.set_timer(1, 1000, false);
     let was_active = host.active(1);
     host.cancel(1);
-    host.send(frame).map_err(|_| RecordFault::NoMemory)?;
+    host.send(frame)?;
     host.stop();
     Ok(was_active && host.now() > 0)
 }

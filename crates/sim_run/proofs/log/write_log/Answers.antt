@@ -7,12 +7,12 @@ use Rattle.sim_run.proofs.Growth.{grows_by_none, grows_twice, grows_then_prefix}
 use Rattle.sim_run.proofs.Runs.{Reaches, time_left, reaches_start, reaches_next, reaches_end, time_falls, log_around, log_of-append}
 use Rattle.sim_run.proofs.Words.{on_err_from}
 use Rattle.sim_run.proofs.log.write_log.Goals as goal
-use Rattle.sim_run.proofs.log.write_log.Goals.{in-Some+then-now-until, in_default-next_time}
+use Rattle.sim_run.proofs.log.write_log.Goals.{in-Some+then-now-until, in_default}
 
 pub loop-now-init : goal.loop-now-init
 loop-now-init g c = (
   [],
-  subst (λ b. Reaches c.args.until (started c.args.frames.now) [] b) (sym c.in-Ok.ensures) (reaches_start c.args.until c.args.frames.now),
+  subst (λ b. Reaches c.args.until (started c.args.frames.now) [] b) (sym c.in_ok-bus.ensures) (reaches_start c.args.until c.args.frames.now),
   grows_by_none (g.S.Sink.written c.args.out.now),
   omega arith,
 )
@@ -51,6 +51,6 @@ returns-clause-ok g c =
     let over : IsOver c.args.until c.loop-now.bus =
     elim c.match-next_time.branch [
       | in-Some+then-now-until w ↦ subst (λ o. IfSome o (λ due. c.args.until < due)) w.in-Some.ensures.moment w.if-now-until.true
-      | in_default-next_time w ↦ subst (λ o. IfSome o (λ due. c.args.until < due)) (sym w.in_default-next_time.is ∙ c.next_time.ensures.moment) tt
+      | in_default w ↦ subst (λ o. IfSome o (λ due. c.args.until < due)) (sym w.in_default.is ∙ c.next_time.ensures.moment) tt
     ] in
     (before.0, reaches_end c.args.until (started c.args.frames.now) before.0 c.loop-now.bus before.1 over, before.2)
