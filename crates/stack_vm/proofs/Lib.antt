@@ -1,0 +1,16 @@
+pub mod Cells
+pub mod Rooms
+pub mod Starts
+pub mod Numbers
+pub mod Frames
+pub mod Stack
+pub mod Ready
+pub mod Operators
+pub mod Begun
+pub mod CellRows
+pub mod Hosts
+pub mod MessageRows
+pub mod Loop
+pub mod Sending
+pub mod Writing
+pub mod Steps

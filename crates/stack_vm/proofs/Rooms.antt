@@ -1,0 +1,90 @@
+-- The room that runs of verified code need.
+use Rattle.std.proofs.Common.{◌≡◌, ◌≤◌, ◌<◌, ◌+◌, ◌-◌, ℕ, zero, suc, List, [], ◌∷◌, length, take, drop, slice_get, get_or, Some, sym, ap, ◌∙◌, subst, arith}
+use Rattle.std.specs.List.{sum_by}
+use Rattle.std.proofs.lemmas.List.Sums.{sum_by-drop_more, sum_by-take-drop}
+use Rattle.std.proofs.lemmas.Option.{get_or_from_slice_get, slice_get_within}
+use Rattle.bytecode.specs.declared.code.Code.{Code}
+use Rattle.bytecode.specs.declared.code.Fun.{Fun}
+use Rattle.bytecode.specs.Machine.{Machine, Goes}
+use Rattle.bytecode.specs.Rule.{IsIn}
+use Rattle.bytecode.specs.Runs.{IsStartOf}
+use Rattle.bytecode.specs.Step.{go}
+use Rattle.bytecode.specs.Verified.{IsVerified}
+use Rattle.bytecode.proofs.Calling.{item_below}
+use Rattle.bytecode.proofs.MessageCells.{drop-drop, slice_get-drop, slice_get-take}
+use Rattle.bytecode.proofs.PlacesInOrder.{lies_in_code}
+use Rattle.bytecode.proofs.Running.{GoesWell, go_well, start_stands}
+use Rattle.bytecode.proofs.Standing.{Below, Stands}
+use Rattle.stack_vm.specs.Memory.{HasRoomFor}
+use Rattle.stack_vm.specs.Room.{deepest, greatest, numbers_room}
+
+-- ---- where functions lie
+
+pub record Lies (code : Code) (function : Fun) : Type 0 where
+  pub order : function.start ≤ function.end
+  pub inside : function.end ≤ length code.depths.items
+
+pub lies_at : (code : Code) → IsVerified code → (i : ℕ) (d : Fun) → i < length code.functions.items → Lies code (get_or code.functions.items i d)
+lies_at code verified i d h =
+    let f = item_below code.functions.items i h in
+    let lies = lies_in_code code i f.item verified.laid_out f.is_there in
+    subst (Lies code) (sym (get_or_from_slice_get code.functions.items i f.item d f.is_there))
+    (record { order = omega (arith, lies.nonempty); inside = omega (arith, lies.ends, verified.laid_out.depths) })
+
+-- ---- the depths of a function
+
+greatest_at : (xs : List ℕ) (i x : ℕ) → slice_get xs i ≡ Some x → x ≤ greatest xs
+greatest_at [] i x e = absurd (cc)
+greatest_at (y ∷ xs) zero x e = let same : y ≡ x = cc in omega arith
+greatest_at (y ∷ xs) (suc i) x e = let h = greatest_at xs i x e in omega (arith, h)
+
+deepest_at : (depths : List ℕ) (function : Fun) (place depth : ℕ) → IsIn function place → slice_get depths place ≡ Some depth → depth ≤ deepest depths function
+deepest_at depths function place depth inside e =
+    let moved : slice_get depths place ≡ slice_get (drop function.start depths) (place - function.start) =
+    slice_get-drop function.start (place - function.start) place depths (omega (arith, inside.from)) in
+    let taken = slice_get-take (function.end - function.start) (place - function.start) (drop function.start depths) (omega (arith, inside.from, inside.below)) in
+    greatest_at (take (function.end - function.start) (drop function.start depths)) (place - function.start) depth (taken ∙ sym moved ∙ e)
+
+-- ---- sums over the functions from one on
+
+sum_from : {A : Type 0} (f : A → ℕ) (xs : List A) (i : ℕ) (x : A) → slice_get xs i ≡ Some x → sum_by f (drop i xs) ≡ f x + sum_by f (drop (i + 1) xs)
+sum_from f xs i x e = sum_by-drop_more f xs i x (slice_get_within xs i x e) ∙ ap (λ y. f y + sum_by f (drop (i + 1) xs)) (get_or_from_slice_get xs i x x e)
+
+sum_later : {A : Type 0} (f : A → ℕ) (xs : List A) (i j : ℕ) → i ≤ j → sum_by f (drop j xs) ≤ sum_by f (drop i xs)
+sum_later f xs i j h =
+    let e : sum_by f (drop j xs) ≡ sum_by f (drop (j - i) (drop i xs)) = ap (sum_by f) (drop-drop i (j - i) j xs (omega arith)) in
+    omega (arith, e, sum_by-take-drop f (drop i xs) (j - i))
+
+-- ---- what the callers of a function have on the stack
+
+below_room : (code : Code) (number : ℕ) (function : Fun) (calls : List ℕ) (below : ℕ) → Below code number function calls below →
+    below ≤ sum_by (deepest code.depths.items) (drop (number + 1) code.functions.items)
+below_room code number function [] below h = omega arith
+below_room code number function (place ∷ calls) below (caller, calling, depth, under, returns, rest) =
+    let r = below_room code caller calling calls under rest in
+    let d = deepest_at code.depths.items calling place depth returns.at.inside returns.at.has_depth in
+    let s = sum_from (deepest code.depths.items) code.functions.items caller calling returns.at.is_there in
+    let m = sum_later (deepest code.depths.items) code.functions.items (number + 1) caller (omega (arith, returns.greater)) in
+    omega (arith, r, d, s, m, returns.height)
+
+calls_room : (code : Code) (number : ℕ) (function : Fun) (calls : List ℕ) (below : ℕ) → slice_get code.functions.items number ≡ Some function →
+    Below code number function calls below → length calls + number < length code.functions.items
+calls_room code number function [] below there h = let w = slice_get_within code.functions.items number function there in omega (arith, w)
+calls_room code number function (place ∷ calls) below there (caller, calling, depth, under, returns, rest) =
+    let r = calls_room code caller calling calls under returns.at.is_there rest in
+    omega (arith, r, returns.greater)
+
+room_standing : (code : Code) (m : Machine) → Stands code m → HasRoomFor (numbers_room code) (length code.functions.items) m
+room_standing code m s =
+    let st = s.standing in
+    let b = below_room code s.number s.function m.calls s.below st.callers in
+    let d = deepest_at code.depths.items s.function m.place s.depth st.at.inside st.at.has_depth in
+    let f = sum_from (deepest code.depths.items) code.functions.items s.number s.function st.at.is_there in
+    let l = sum_later (deepest code.depths.items) code.functions.items 0 s.number (omega arith) in
+    let c = calls_room code s.number s.function m.calls s.below st.at.is_there st.callers in
+    record { numbers = omega (arith, b, d, f, l, st.height); calls = omega (arith, c) }
+
+pub room_enough : (code : Code) → IsVerified code → (handler : ℕ) (start reached : Machine) (closed : _) (moment steps : ℕ) → IsStartOf code handler start →
+    go code closed moment steps start ≡ Goes reached → HasRoomFor (numbers_room code) (length code.functions.items) reached
+room_enough code verified handler start reached closed moment steps is e =
+    room_standing code reached (subst (GoesWell code) e (go_well code verified closed moment steps start (start_stands code verified handler start is)))

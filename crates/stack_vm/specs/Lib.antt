@@ -1,0 +1,9 @@
+pub mod State
+pub mod Frame
+pub mod Host
+pub mod Index
+pub mod Memory
+pub mod Meter
+pub mod Room
+pub mod Run
+pub mod Whole

@@ -1,0 +1,28 @@
+-- The memory of a node's runs.
+use Rattle.std.specs.Prelude.{◌≡◌, ℕ, ◌≤◌, Bool, List, [], ◌∷◌, length, ℤ, slice_set}
+use Rattle.bytecode.specs.declared.code.Code.{Code}
+use Rattle.bytecode.specs.Machine.{Machine, Goes}
+use Rattle.bytecode.specs.Runs.{HoldKinds, IsStartOf}
+use Rattle.bytecode.specs.Step.{go}
+
+-- the cells, and how many numbers and how many calls there is room for
+pub record MemoryState : Type 0 where
+  pub cells : List ℤ
+  pub numbers_room : ℕ
+  pub calls_room : ℕ
+
+-- cells after initial values were put in, in order: each is a cell and its value
+abbrev pub with_starts : List ℤ → List (ℕ × ℤ) → List ℤ
+with_starts cells [] = cells
+with_starts cells (start ∷ starts) = with_starts (slice_set cells start.0 start.1) starts
+
+-- there is room for the numbers and the calls of a state
+pub record HasRoomFor (numbers_room calls_room : ℕ) (m : Machine) : Type 0 where
+  pub numbers : length m.stack ≤ numbers_room
+  pub calls : length m.calls ≤ calls_room
+
+-- a memory of this code: its cells hold numbers of their kinds, and there is room for every state that a run reaches
+pub record IsMemoryOf (code : Code) (memory : MemoryState) : Type 0 where
+  pub cells_held : HoldKinds code.cells.items memory.cells
+  pub room : (handler : ℕ) (start reached : Machine) (closed : Bool) (moment steps : ℕ) → IsStartOf code handler start →
+      go code closed moment steps start ≡ Goes reached → HasRoomFor memory.numbers_room memory.calls_room reached
