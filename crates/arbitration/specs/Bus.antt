@@ -1,4 +1,4 @@
--- The bus of ISO 11898-1 with requests that wait: its state, and what each call does.
+-- The bus of ISO 11898-1 (arbitration, interframe space) with requests that wait: its state, and what each call does.
 use Rattle.std.specs.Prelude.{ℕ, ◌+◌, ◌-◌, ◌*◌, ◌^◌, ◌==◌, nat_lt, nat_le, ◌&&◌, if◌then◌else◌, map, Option, None, Some, is_none, is_some, unwrap_or}
 use Rattle.std.specs.Option.{option_map, option_map_or}
 use Rattle.std.specs.Ordering.{nat_cmp}

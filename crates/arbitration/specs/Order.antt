@@ -1,4 +1,4 @@
--- Which of two requests goes first.
+-- Which of two requests goes first (ISO 11898-1, arbitration).
 use Rattle.std.specs.Prelude.{◌≡◌, ◌<◌, ◌⊎◌, Bool, true, false, ◌&&◌, ◌||◌, ◌==◌, nat_lt, if◌then◌else◌, List, [], ◌∷◌}
 use Rattle.can_frame.specs.Arbitration.{Wins, arbitration_field}
 use Rattle.arbitration.specs.declared.bus.Waiting.{Waiting}

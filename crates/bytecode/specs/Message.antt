@@ -1,4 +1,4 @@
--- A message variable: 14 cells, and the rules by which its fields are written.
+-- A message variable (CAPL manual, message): 14 cells, and the rules by which its fields are written.
 use Rattle.std.specs.Prelude.{ℕ, zero, suc, ◌+◌, ◌-◌, ◌*◌, ◌/◌, ◌%◌, ◌^◌, if◌then◌else◌, nat_le, ◌==◌, not, List, [], ◌∷◌, map, length, take, drop, min, ℤ, pos, Option, Some, None}
 use Rattle.std.specs.Prelude.{slice_index_or}
 use Rattle.int_kinds.specs.declared.kinds.Kind.{Kind}

@@ -92,10 +92,11 @@ writes format m stack =
 abbrev pub micros : ℕ → ℤ → ℕ
 micros unit n = (if int_le (pos 1) (wrap Long n) then unsigned_abs (wrap Long n) else 1) * unit
 
--- the machine after a timer was set, or cancelled
+-- the machine after a timer was set
 abbrev pub after_set : ℕ → ℕ → Bool → Machine → Machine
 after_set timer duration cyclic m = after_effect (effect.Set timer duration cyclic) (record m { active = slice_set m.active timer true })
 
+-- the machine after a timer was cancelled
 abbrev pub after_cancel : ℕ → Machine → Machine
 after_cancel timer m = after_effect (effect.Cancel timer) (record m { active = slice_set m.active timer false })
 

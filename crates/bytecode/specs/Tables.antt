@@ -34,13 +34,15 @@ abbrev pub key_of : Event → Option (Option ℕ)
 key_of (Key key) = Some key
 key_of _ = None
 
--- all selectors, timers and keys of the handlers
+-- all selectors of the handlers
 abbrev pub all_selectors : List Handler → List (ℕ × ℕ × ℕ)
 all_selectors handlers = flat_map (λ handler. selectors_of handler.event) handlers
 
+-- all timers of the handlers
 abbrev pub all_timers : List Handler → List ℕ
 all_timers handlers = filter_map (λ handler. timer_of handler.event) handlers
 
+-- all keys of the handlers
 abbrev pub all_keys : List Handler → List (Option ℕ)
 all_keys handlers = filter_map (λ handler. key_of handler.event) handlers
 

@@ -1,3 +1,4 @@
+-- Fields of bits, and the numbers that they hold.
 use Rattle.std.specs.Prelude.{ℕ, ◌+◌, ◌/◌, ◌%◌, ◌^◌, ◌==◌, Bool, if◌then◌else◌, List, [], ◌∷◌, length}
 use Rattle.std.proofs.Common.{zero, suc}
 

@@ -1,3 +1,4 @@
+-- What contracts see of a frame.
 use Rattle.can_frame.specs.Frame.{FrameFields}
 use Rattle.can_frame.specs.declared.Frame.TheInside.{Inside}
 

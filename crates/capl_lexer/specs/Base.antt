@@ -16,6 +16,7 @@ abbrev pub IsBaseOf : List ℕ → Base → Type 0
 IsBaseOf text Ten = IsHexadecimalFront text → ⊥
 IsBaseOf text Sixteen = IsHexadecimalFront text
 
+-- the base as a number
 abbrev pub radix_of : Base → ℕ
 radix_of Ten = 10
 radix_of Sixteen = 16

@@ -1,4 +1,4 @@
--- How each token is spelled.
+-- How each token is spelled (CAPL manual, keywords and constants).
 use Rattle.std.specs.Prelude.{◌≡◌, ◌≢◌, ◌^◌, ℕ, Bool, true, false, List, [], ◌∷◌, ◌++◌, All, Option, Some, None, ◌⊎◌, nat_lt, if◌then◌else◌, codes}
 use Rattle.capl_lexer.specs.Bytes.{IsDigit, IsHexDigit, IsNameFront, IsNamePart, IsMark, number_in}
 use Rattle.capl_lexer.specs.declared.token.Word.{Word}
@@ -8,6 +8,7 @@ use Rattle.capl_lexer.specs.declared.token.Sign.TheVariants as sign
 use Rattle.capl_lexer.specs.declared.token.Tok.{Tok}
 use Rattle.capl_lexer.specs.declared.token.Tok.TheVariants as tok
 
+-- the bytes of a reserved word
 abbrev pub word_spelling : Word → List ℕ
 word_spelling word.Includes = codes "includes"
 word_spelling word.Variables = codes "variables"
@@ -50,6 +51,7 @@ word_spelling word.LinFrame = codes "linFrame"
 word_spelling word.FrFrame = codes "frFrame"
 word_spelling word.EthernetPacket = codes "ethernetPacket"
 
+-- the bytes of a sign
 abbrev pub sign_spelling : Sign → List ℕ
 sign_spelling sign.OpenBrace = codes "{"
 sign_spelling sign.CloseBrace = codes "}"

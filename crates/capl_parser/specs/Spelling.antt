@@ -1,4 +1,4 @@
--- The spelling of a tree, the list of its tokens.
+-- The spelling of a tree, the list of its tokens (CAPL manual, variables and event procedures).
 use Rattle.std.specs.Prelude.{List, [], ◌∷◌, ◌++◌, Option, Some, None, map, codes}
 use Rattle.std.specs.List.{flat_map}
 use Rattle.capl_lexer.specs.declared.token.Tok.{Tok}

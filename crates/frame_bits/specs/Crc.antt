@@ -1,3 +1,4 @@
+-- The CRC sequence of a frame (ISO 11898-1, CRC field).
 use Rattle.std.specs.Prelude.{ℕ, Bool, true, false, not, List, [], ◌∷◌, ◌++◌, length, replicate}
 use Rattle.std.proofs.Common.{zero, suc}
 

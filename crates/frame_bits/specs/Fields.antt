@@ -1,3 +1,4 @@
+-- The fields of a frame from SOF to its data (ISO 11898-1, data frame and remote frame).
 use Rattle.std.specs.Prelude.{ℕ, ◌/◌, ◌^◌, Bool, true, false, List, ◌∷◌, ◌++◌, take}
 use Rattle.std.specs.List.{flat_map}
 use Rattle.can_frame.specs.declared.Ident.{Ident}

@@ -1,3 +1,4 @@
+-- How many bits a frame has on the bus (ISO 11898-1, data frame, remote frame and bit stuffing).
 use Rattle.std.specs.Prelude.{◌≡◌, ℕ, ◌+◌, ◌-◌, ◌*◌, ◌/◌, ◌≤◌, Bool, true, false, if◌then◌else◌, List, ◌++◌, length}
 use Rattle.can_frame.specs.declared.Ident.{Ident}
 use Rattle.can_frame.specs.declared.Ident.TheVariants.{Std, Ext}

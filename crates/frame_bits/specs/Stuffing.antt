@@ -1,3 +1,4 @@
+-- Bit stuffing (ISO 11898-1, frame coding).
 use Rattle.std.specs.Prelude.{◌≡◌, ◌≢◌, Bool, true, false, not, if◌then◌else◌, ◌||◌, List, [], ◌∷◌, ◌++◌, replicate}
 use Rattle.std.specs.Bool.{beq}
 use Rattle.std.specs.List.{starts_with}

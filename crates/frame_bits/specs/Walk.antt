@@ -1,10 +1,9 @@
+-- What a walk over bits keeps of them.
 use Rattle.std.specs.Prelude.{◌≡◌, ℕ, ◌+◌, ◌≤◌, ◌==◌, Bool, not, if◌then◌else◌, List, [], ◌∷◌, ◌++◌, length}
 use Rattle.std.specs.Bool.{beq}
 use Rattle.can_frame.specs.Bits.{field_bits}
 use Rattle.frame_bits.specs.Crc.{added, divided}
 use Rattle.frame_bits.specs.Stuffing.{stuffed}
-
--- what a walk over bits keeps of them
 
 -- the register holds what the division of the bits so far adds to the bits that follow
 abbrev pub IsRegister : ℕ → List Bool → Type 0

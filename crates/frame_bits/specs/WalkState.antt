@@ -1,3 +1,4 @@
+-- A walk over the bits of a frame.
 use Rattle.std.specs.Prelude.{Bool, List, ◌++◌}
 use Rattle.frame_bits.specs.declared.walk.Walk.{Walk}
 use Rattle.frame_bits.specs.Walk.{IsRegister, CountsStuffing}

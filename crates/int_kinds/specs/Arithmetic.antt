@@ -1,4 +1,4 @@
--- What CAPL's operators give on integers of one kind.
+-- What CAPL's operators give on integers of one kind (CAPL manual, operators).
 use Rattle.std.specs.Prelude.{ℕ, zero, ◌-◌, ◌^◌, Bool, not, if◌then◌else◌, option_map, Option, Some, None, ℤ, pos, ◌+ℤ◌, ◌-ℤ◌, ◌*ℤ◌, neg_ℤ, bit_and, bit_or, bit_xor, unsigned_abs, int_lt, int_le, int_div, int_rem}
 use Rattle.std.specs.Int.{int_div_euclid, int_rem_euclid}
 use Rattle.std.specs.Ordering.{int_eq}

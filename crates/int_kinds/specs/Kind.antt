@@ -1,4 +1,4 @@
--- CAPL's kinds of integers: which numbers each has, how a number is wrapped to one, and the kind that two are joined in.
+-- CAPL's kinds of integers (CAPL manual, data types): which numbers each has, how a number is wrapped to one, and the kind that two are joined in.
 use Rattle.std.specs.Prelude.{ℕ, ◌-◌, ◌^◌, Bool, true, false, if◌then◌else◌, ℤ, pos, ◌+ℤ◌, ◌-ℤ◌, neg_ℤ, ◌≤ℤ◌, ◌<ℤ◌}
 use Rattle.std.specs.Int.{int_rem_euclid}
 use Rattle.int_kinds.specs.declared.kinds.Kind.{Kind}

@@ -1,4 +1,4 @@
--- Signals of a CAN frame, laid out as the DBC format says: which bits of the payload a signal has, and the number that they are.
+-- Signals of a CAN frame, laid out as the DBC format says (signal definition, SG_): which bits of the payload a signal has, and the number that they are.
 use Rattle.std.specs.Prelude.{ℕ, zero, suc, ◌+◌, ◌-◌, ◌*◌, ◌/◌, ◌%◌, ◌^◌, ◌<◌, ◌≤◌, if◌then◌else◌, ◌==◌, List, [], ◌∷◌, length, slice_index, slice_set, unsigned_abs, All, Contains, ◌≡◌, ℤ, pos, ◌+ℤ◌, neg_ℤ, ◌≤ℤ◌}
 use Rattle.std.specs.Int.{bit_at, int_rem_euclid}
 use Rattle.signal_codec.specs.declared.layout.Layout.{Layout}
@@ -45,10 +45,11 @@ integer_of payload (number ∷ rest) = neg_ℤ (pos (payload_bit payload number 
 abbrev pub signal_value : Layout → List ℕ → ℤ
 signal_value l payload = if l.signed then integer_of payload (bit_numbers l) else pos (natural_of payload (bit_numbers l))
 
--- the least and the greatest number that a signal can have
+-- the least number that a signal can have
 abbrev pub least_value : Layout → ℤ
 least_value l = if l.signed then neg_ℤ (pos (2 ^ (l.len - 1))) else pos 0
 
+-- the greatest one
 abbrev pub greatest_value : Layout → ℤ
 greatest_value l = if l.signed then pos (2 ^ (l.len - 1) - 1) else pos (2 ^ l.len - 1)
 

@@ -1,4 +1,4 @@
--- What a run of a program's code does to the world around it.
+-- What a run of a program's code does to the world around it (CAPL manual: write, output, stop, setTimer, cancelTimer).
 use Rattle.std.specs.Prelude.{ℕ, Bool, List}
 use Rattle.can_frame.specs.Frame.{FrameFields}
 

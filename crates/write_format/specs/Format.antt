@@ -1,4 +1,4 @@
--- Formats of `write`.
+-- Formats of `write` (CAPL manual, write).
 use Rattle.std.specs.Prelude.{◌≡◌, ◌≢◌, ℕ, ◌<◌, ◌^◌, List, [], length, All, ℤ}
 use Rattle.write_format.specs.declared.ArgKind.{ArgKind}
 

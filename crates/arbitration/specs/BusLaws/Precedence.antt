@@ -13,6 +13,7 @@ use Rattle.arbitration.specs.declared.bus.Waiting.{Waiting}
 use Rattle.arbitration.specs.Waiting.{name_of}
 use Rattle.arbitration.specs.Order.{field_of, ComesFirst, GoesBefore, wins, comes_first, goes_before}
 
+-- the arbitration key of a request's frame
 abbrev pub key_of : Waiting → ℕ
 key_of r = arbitration_key r.frame
 
