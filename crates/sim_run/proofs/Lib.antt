@@ -1,4 +1,5 @@
 pub mod Digits
+pub mod Folders
 pub mod Growth
 pub mod OneAnswer
 pub mod Programs

@@ -1,4 +1,4 @@
--- What a source declares and sends.
+-- What a source declares and sends (CAPL manual, message and output).
 use Rattle.std.specs.Prelude.{◌≡◌, ◌≢◌, ◌≤◌, ◌==◌, ℕ, Bool, true, false, List, [], ◌∷◌, Option, Some, None, replicate, All, Contains, codes}
 use Rattle.std.specs.List.{AllPairs}
 use Rattle.can_frame.specs.Frame.{FrameFields}

@@ -1,4 +1,4 @@
--- The lines that are printed.
+-- The lines that are printed (CAPL manual, write).
 use Rattle.std.specs.Prelude.{ℕ, List, [], ◌∷◌, ◌++◌, ◌==◌, if◌then◌else◌, codes}
 use Rattle.std.specs.List.{flat_map}
 use Rattle.capl_parser.specs.declared.tree.FileTree.{FileTree}

@@ -1,8 +1,9 @@
 //! The simulation as a whole: from the words of the command line to the bytes that are written.
 //!
 //! [`simulate`] reads the scenario that the words name and the source of its node, and writes the
-//! window: one line for each text that the node writes. Where a file is not of the form that is
-//! taken, it writes the one line that says so. Everything is read before the first byte is written.
+//! window, one line for each text that the node writes, or the log, one line for each frame on the
+//! bus. Where a file is not of the form that is taken, it writes the one line that says so.
+//! Everything is read before the first byte is written.
 #![tactic(auto)]
 
 pub use run::simulate;

@@ -3,6 +3,7 @@
 ghost use Rattle.std.specs.Prelude.{◌≡◌, IfOk, ◌++◌};
 ghost use Rattle.sim_run.specs.Scenario.{beside, folder_of};
 
+use memchr::memrchr;
 use sim_outside::{NoMemory, Text};
 use std::alloc::Global;
 
@@ -23,11 +24,8 @@ pub(crate) fn name_beside(alloc: Global, naming: &[u8], name: &[u8]) -> Result<T
 fn folder(name: &[u8]) -> &[u8]
     ensures { result.now ≡ folder_of name.now }
 {
-    let mut end = 0;
-    for (place, byte) in name.iter().enumerate() {
-        if *byte == b'/' {
-            end = place + 1;
-        }
+    match memrchr(b'/', name) {
+        Some(place) => &name[..place + 1],
+        None => &[],
     }
-    &name[..end]
 }

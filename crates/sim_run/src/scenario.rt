@@ -7,6 +7,7 @@ ghost use Rattle.sim_run.specs.Scenario.{IsScenario, IsNodeName, IsFileName, IsE
 ghost use Rattle.sim_run.specs.Lines.{AreLinesOf, HasNoLines, MillisOf, view_of_option};
 
 use capl_lexer::{decimal_number, is_name};
+use memchr::memchr;
 use sim_outside::{NoMemory, Text};
 use std::alloc::Global;
 
@@ -87,12 +88,8 @@ fn split_at_byte(bytes: &[u8], separator: u8) -> Option<(&[u8], &[u8])>
     ensures found { IfSome result (λ parts. (bytes.now ≡ parts.0.now ++ separator ∷ parts.1.now) × All (λ byte. byte ≢ separator) parts.0.now) }
     ensures none { IfNone result (All (λ byte. byte ≢ separator) bytes.now) }
 {
-    for (place, byte) in bytes.iter().enumerate() {
-        if *byte == separator {
-            return Some((&bytes[..place], &bytes[place + 1..]));
-        }
-    }
-    None
+    let place = memchr(separator, bytes)?;
+    Some((&bytes[..place], &bytes[place + 1..]))
 }
 
 fn is_node_name(name: &[u8]) -> bool
