@@ -161,3 +161,18 @@ fn long_sources_are_refused(rt: HostRuntime) -> Result<(), Fail> {
     laws::one_answer();
     Ok(())
 }
+
+#[test]
+fn statuses_are_numbered_in_order(rt: HostRuntime) {
+    let statuses = [
+        Status::Done,
+        Status::Refused,
+        Status::Usage,
+        Status::ReadFault,
+        Status::WriteFault,
+        Status::OutOfMemory,
+    ];
+    for (number, status) in statuses.iter().enumerate() {
+        assert_eq!(rt; usize::from(status.number()), number);
+    }
+}
