@@ -15,7 +15,7 @@ use Rattle.stack_vm.specs.Memory.{HasRoomFor, IsMemoryOf, MemoryState}
 use Rattle.stack_vm.specs.Run.{HasSameRoom, machine}
 use Rattle.stack_vm.specs.State.{RunState}
 use Rattle.stack_vm.specs.Whole.{Begins, IsRunRefused}
-use Rattle.stack_vm.proofs.Steps.{item_read}
+use Rattle.stack_vm.proofs.Items.{item_read}
 
 -- the memory that a state belongs to
 abbrev pub memory_of : RunState → MemoryState

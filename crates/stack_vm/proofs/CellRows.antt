@@ -22,9 +22,6 @@ cell_there kinds cells cell held h = omega (arith, h, AllZip-same_length Holds k
 pub reads_is : (cell : ℕ) (m : Machine) (stack : List ℤ) → cell < length m.cells → reads cell m stack ≡ goes_on m (get_or m.cells cell (pos 0) ∷ stack)
 reads_is cell m stack h = ap (λ (o : Option ℤ). needing o (λ n. goes_on m (n ∷ stack))) (slice_get-get_or m.cells cell (pos 0) h)
 
-pub kind_at : (kinds : List Kind) (cell : ℕ) (k : Kind) → cell < length kinds → k ≡ get_or kinds cell k → slice_get kinds cell ≡ Some k
-kind_at kinds cell k h e = slice_get-get_or kinds cell k h ∙ ap Some (sym e)
-
 pub stores_is : (kinds : List Kind) (cell : ℕ) (k : Kind) (n : ℤ) (m : Machine) (stack : List ℤ) → cell < length m.cells → slice_get kinds cell ≡ Some k →
     stores kinds cell n m stack ≡ goes_on (record m { cells = slice_set m.cells cell (wrap k n) }) (wrap k n ∷ stack)
 stores_is kinds cell k n m stack h e =
@@ -78,6 +75,3 @@ module _ (code : Code) (closed : Bool) (moment : ℕ) (m : Machine) where
   call_row f function turns stack there e =
       ap (λ (o : Option Fun). needing o (λ g. taking_turn m.turns m (λ after. Goes (record after { place = g.start; calls = (m.place + 1) ∷ m.calls })))) there
       ∙ ap (λ (t : ℕ). taking_turn t m (λ after. Goes (record after { place = function.start; calls = (m.place + 1) ∷ m.calls }))) e
-
-pub fun_at : (functions : List Fun) (f : ℕ) (g : Fun) → f < length functions → g ≡ get_or functions f g → slice_get functions f ≡ Some g
-fun_at functions f g h e = slice_get-get_or functions f g h ∙ ap Some (sym e)

@@ -9,6 +9,7 @@ pub mod Operators
 pub mod Begun
 pub mod CellRows
 pub mod Hosts
+pub mod Items
 pub mod MessageRows
 pub mod Loop
 pub mod Sending

@@ -1,6 +1,6 @@
 -- The loop of a run.
-use Rattle.std.proofs.Common.{◌≡◌, ◌≤◌, ◌<◌, ◌+◌, ◌^◌, ℕ, zero, suc, Bool, false, List, [], ◌∷◌, ◌++◌, length, get_or, slice_get, Option, Some, None, Result, Ok, Err, OnErr, ◌⊎◌, refl, sym, ap, ◌∙◌, subst, arith}
-use Rattle.std.proofs.lemmas.Option.{slice_get-get_or}
+use Rattle.std.proofs.Common.{◌≡◌, ◌≤◌, ◌<◌, ◌+◌, ◌^◌, ℕ, suc, Bool, false, List, [], ◌∷◌, ◌++◌, length, slice_get, Option, Some, None, Result, Ok, Err, OnErr, ◌⊎◌, refl, sym, ap, ◌∙◌, subst, arith}
+use Rattle.std.proofs.lemmas.Option.{slice_get-get_or, slice_get_within}
 use Rattle.vm_host.specs.Effect.{Effect}
 use Rattle.vm_host.specs.declared.outcome.Outcome.{Outcome}
 use Rattle.int_kinds.specs.Arithmetic.{truth}
@@ -21,15 +21,6 @@ use Rattle.stack_vm.specs.Memory.{HasRoomFor}
 use Rattle.stack_vm.specs.Run.{CallsWhatExists, HasSameRoom, IsReady, answered, machine}
 use Rattle.stack_vm.specs.State.{RunState}
 use Rattle.stack_vm.proofs.Loop.{go_one_more, ready_at, step_is_row, takes_further}
-
--- the item at a place that was read
-pub item_read : {A : Type 0} (xs : List A) {place read : ℕ} {x : A} → read ≡ place → place < length xs → x ≡ get_or xs read x → slice_get xs place ≡ Some x
-item_read xs {place} {read} {x} same h e = slice_get-get_or xs place x h ∙ ap Some (ap (λ (i : ℕ). get_or xs i x) (sym same) ∙ sym e)
-
-there_below : {A : Type 0} (xs : List A) (i : ℕ) (x : A) → slice_get xs i ≡ Some x → i ≤ length xs
-there_below [] i x e = absurd (cc)
-there_below (y ∷ xs) zero x e = omega arith
-there_below (y ∷ xs) (suc i) x e = omega (arith, there_below xs i x e)
 
 calls_exist : (code : Code) (number : ℕ) (instr : Instr) → number ≤ length code.functions.items → CallsEarlier instr number → CallsWhatExists code instr
 calls_exist code number (Push n) h e = tt
@@ -153,7 +144,7 @@ module _ {S : Type 0} {takes : S → Effect → S → Type 0} {timers : S → Li
         let rule = rule_at code verified stands.number stands.function s.place at.is_there at.inside in
         let same : rule.instr ≡ instr = (let e : Some rule.instr ≡ Some instr = sym rule.is_instr ∙ there in cc) in
         let keeps = subst (λ (i : Instr). CallsEarlier i stands.number) same rule.keeps.calls_earlier in
-        calls_exist code stands.number instr (there_below code.functions.items stands.number stands.function at.is_there) keeps
+        calls_exist code stands.number instr (let below = slice_get_within code.functions.items stands.number stands.function at.is_there in omega (arith, below)) keeps
 
     pub answer_room : s.place + 1 < 2 ^ 64 → HasRoomForAnswer instr s
     answer_room next = answer_fits code closed moment s (timers h) comes.effects instr timers_there (ready next)

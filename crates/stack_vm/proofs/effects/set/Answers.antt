@@ -1,11 +1,11 @@
-use Rattle.std.proofs.Common.{◌≡◌, ◌+◌, ℕ, Bool, true, false, List, get_or, drop, slice_get, Some, sym, ap, ◌∙◌, subst, refl}
+use Rattle.std.proofs.Common.{◌≡◌, ◌+◌, ℕ, Bool, true, false, List, get_or, drop, slice_get, Some, ap, ◌∙◌, subst, refl}
 use Rattle.std.specs.Prelude.{ℤ, pos, slice_set}
-use Rattle.std.proofs.lemmas.Option.{slice_get-get_or}
 use Rattle.vm_host.specs.Effect as effect
 use Rattle.bytecode.specs.declared.instr.Instr.TheVariants.{Set}
 use Rattle.bytecode.specs.Step.{micros}
 use Rattle.stack_vm.specs.Run.{machine}
 use Rattle.stack_vm.specs.State.{RunState}
+use Rattle.stack_vm.proofs.Items.{item_read}
 use Rattle.stack_vm.proofs.Hosts.{does_either, does_open, does_quietly, set_row}
 use Rattle.stack_vm.proofs.Numbers.{got}
 use Rattle.stack_vm.proofs.effects.set.Goals as goal
@@ -20,7 +20,7 @@ returns-clause-does g c =
     let unit : ℕ = c.index-unit.result.now in
     let n : ℤ = get_or s.stack 0 (pos 0) in
     let there : RunState = record s { place = s.place + 1; stack = drop 1 s.stack } in
-    let is : slice_get code.timers.items timer ≡ Some unit = slice_get-get_or code.timers.items timer unit c.requires.ready.exist ∙ ap Some (sym c.index-unit.ensures) in
+    let is : slice_get code.timers.items timer ≡ Some unit = item_read code.timers.items refl c.requires.ready.exist c.index-unit.ensures in
     let top = got c.top.result n (record { sfits = c.top.type_inv }) c.top.ensures in
     let after = c.forget.new.self in
     let host_after = c.set_timer.new.self in

@@ -8,7 +8,8 @@ use Rattle.bytecode.specs.declared.instr.Instr.TheVariants.{SetElem}
 use Rattle.stack_vm.specs.Index.{index_of}
 use Rattle.stack_vm.specs.Run.{machine}
 use Rattle.stack_vm.specs.State.{RunState}
-use Rattle.stack_vm.proofs.CellRows.{cell_there, index_is, kind_at, set_element_row}
+use Rattle.stack_vm.proofs.Items.{item_read}
+use Rattle.stack_vm.proofs.CellRows.{cell_there, index_is, set_element_row}
 use Rattle.stack_vm.proofs.Numbers.{got, passed}
 use Rattle.stack_vm.proofs.Ready.{does}
 use Rattle.bytecode.specs.Machine.{Stuck}
@@ -39,5 +40,5 @@ returns-in-Some c =
     let there : ℤ → RunState = λ z. record s { place = s.place + 1; stack = z ∷ drop 2 s.stack; cells = slice_set s.cells cell z } in
     let raw : ℤ = cast_signed w128 (cast_unsigned w128 c.wrap-n.result) in
     does c.args.code.now (SetElem c.args.base c.args.len) s None c.replace_two.new.self (there v) refl refl
-    (λ closed moment active effects. set_element_row c.args.code.now closed moment (machine s active effects) c.args.base c.args.len c.in-Some.i k s.stack c.requires.taken is there' (kind_at kinds cell k within c.index-kind.ensures))
+    (λ closed moment active effects. set_element_row c.args.code.now closed moment (machine s active effects) c.args.base c.args.len c.in-Some.i k s.stack c.requires.taken is there' (item_read kinds refl within c.index-kind.ensures))
     (c.replace_two.ensures ∙ ap (λ (z : RunState). record z { place = z.place + 1; stack = raw ∷ drop 2 z.stack }) c.set_cell.ensures ∙ ap there n)

@@ -7,7 +7,8 @@ use Rattle.int_kinds.proofs.Values.{IsNumber-wrap}
 use Rattle.bytecode.specs.declared.instr.Instr.TheVariants.{Store}
 use Rattle.stack_vm.specs.Run.{machine}
 use Rattle.stack_vm.specs.State.{RunState}
-use Rattle.stack_vm.proofs.CellRows.{cell_there, kind_at, store_row}
+use Rattle.stack_vm.proofs.Items.{item_read}
+use Rattle.stack_vm.proofs.CellRows.{cell_there, store_row}
 use Rattle.stack_vm.proofs.Numbers.{got, passed}
 use Rattle.stack_vm.proofs.Ready.{does}
 use Rattle.stack_vm.proofs.places.store.Goals as goal
@@ -27,5 +28,5 @@ returns c =
     let there : ℤ → RunState = λ z. record s { place = s.place + 1; stack = z ∷ drop 1 s.stack; cells = slice_set s.cells c.args.cell z } in
     let raw : ℤ = cast_signed w128 (cast_unsigned w128 c.wrap-n.result) in
     does c.args.code.now (Store c.args.cell) s None c.replace.new.self (there v) refl refl
-    (λ closed moment active effects. store_row c.args.code.now closed moment (machine s active effects) c.args.cell k s.stack c.requires.taken there' (kind_at kinds c.args.cell k c.requires.exist c.index-kind.ensures))
+    (λ closed moment active effects. store_row c.args.code.now closed moment (machine s active effects) c.args.cell k s.stack c.requires.taken there' (item_read kinds refl c.requires.exist c.index-kind.ensures))
     (c.replace.ensures ∙ ap (λ (z : RunState). record z { place = z.place + 1; stack = raw ∷ drop 1 z.stack }) c.set_cell.ensures ∙ ap there n)

@@ -1,5 +1,6 @@
 use Rattle.std.proofs.Common.{◌+◌, ◌<◌, ◌^◌, refl, sym, ◌∙◌, arith, [], subst}
-use Rattle.stack_vm.proofs.Steps.{answer_room, refused_there, called, cells_then, room_then, stands, does_then, ends_here, fewer_left, goes_further, item_read, place_there, ready, timers_there}
+use Rattle.stack_vm.proofs.Items.{item_read}
+use Rattle.stack_vm.proofs.Steps.{answer_room, refused_there, called, cells_then, room_then, stands, does_then, ends_here, fewer_left, goes_further, place_there, ready, timers_there}
 use Rattle.bytecode.specs.Runs.{HoldKinds}
 use Rattle.stack_vm.specs.State.{RunState}
 use Rattle.stack_vm.proofs.running.run_on.Goals as goal
