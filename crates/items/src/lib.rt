@@ -1,0 +1,106 @@
+//! Lists that contracts see as the lists of their items, and what a search answers.
+//!
+//! A `Vec` is seen with its capacity and its place in memory, so two of them with equal items are two
+//! values. [`Items`] is seen as the list alone: a type that contracts compare, such as the code of a
+//! program or a tree of its source, holds its lists in it. Everything else in this workspace may
+//! stand on this crate.
+#![tactic(auto)]
+
+ghost use Rattle.std.specs.Prelude.{◌≡◌, ◌==◌, [], length, IfOk};
+
+use std::alloc::{AllocError, Global};
+use std::marker::Model;
+
+/// Items in order. Contracts see the list of them.
+#[derive(Debug, Drop)]
+pub struct Items<T> {
+    list: Vec<T>,
+}
+
+impl<T> Model for Items<T> {
+    ghost use Rattle.std.specs.Prelude.{List};
+
+    ghost Value = { List T };
+
+    ghost view = { λ items. items.list.items };
+}
+
+impl<T> Items<T> {
+    /// No items. Takes no memory.
+    pub fn new(alloc: Global) -> Items<T>
+        ensures { result ≡ [] }
+    {
+        Items {
+            list: Vec::new(alloc),
+        }
+    }
+
+    /// The items of this list.
+    pub fn from_list(list: Vec<T>) -> Items<T>
+        ensures { result ≡ list.items }
+    {
+        Items { list }
+    }
+
+    /// The items, in order.
+    #[inline]
+    pub fn as_slice(&self) -> &[T]
+        ensures { result.now ≡ self.now }
+    {
+        self.list.as_slice()
+    }
+
+    /// How many there are.
+    #[inline]
+    pub fn len(&self) -> usize
+        ensures { result ≡ length self.now }
+    {
+        self.list.len()
+    }
+
+    /// Whether there are none.
+    #[inline]
+    pub fn is_empty(&self) -> bool
+        ensures { result ≡ (length self.now == 0) }
+    {
+        self.list.is_empty()
+    }
+
+    /// The list, to change it.
+    pub fn into_list(self) -> Vec<T>
+        ensures { result.items ≡ self }
+    {
+        let Items { list } = self;
+        list
+    }
+}
+
+impl<T: Copy> Items<T> {
+    /// The same items once more. Takes time and memory linear in their number.
+    pub fn copy(&self) -> Result<Items<T>, AllocError>
+        ensures { IfOk result (λ items. items ≡ self.now) }
+    {
+        let list = Vec::from_slice(*self.list.allocator(), self.as_slice())?;
+        Ok(Items { list })
+    }
+}
+
+#[cfg(test)]
+mod tests {
+    use super::*;
+    use std::test::Fail;
+
+    #[test]
+    fn items_are_those_of_the_list(rt: HostRuntime) -> Result<(), Fail> {
+        let alloc = rt.alloc();
+        let none: Items<u8> = Items::new(alloc);
+        assert!(rt; none.is_empty());
+        let items = Items::from_list(vec![in alloc; 4u8, 5]?);
+        assert_eq!(rt; items.len(), 2);
+        assert!(rt; !items.is_empty());
+        let copy = items.copy()?;
+        assert_eq!(rt; items.as_slice(), [4, 5].as_slice());
+        assert_eq!(rt; copy.into_list().as_slice(), [4, 5].as_slice());
+        Ok(())
+    }
+}
