@@ -1,0 +1,143 @@
+#!/usr/bin/env python3
+"""Checks the house rules that a machine can check.
+
+    house.py [CRATE ..]
+
+Of each crate, or of those that are named:
+
+- a line of src/ or specs/ has at most 110 columns, unless it imports names;
+- each file begins with a comment that says what it is about;
+- each function of src/ has a `///` line, but for tests and for methods of a trait's
+  impl, which have their trait's;
+- each definition of specs/, and each lemma of proofs/ that other files may use, has a
+  comment line directly above it;
+- no file has more than 800 lines.
+
+Prints a line for each fault. The last line is 'N files, M faults'.
+"""
+import pathlib
+import re
+import sys
+
+ROOT = pathlib.Path(__file__).resolve().parent.parent
+COLUMNS = 110
+LINES = 800
+
+IMPORT = re.compile(r"\s*(ghost |pub )*use ")
+FUNCTION = re.compile(r"\s*(pub(\([a-z]+\))? )?(final )?(const )?(unsafe )?fn [a-z_0-9]+")
+TRAIT_IMPL = re.compile(r"(unsafe )?impl\b[^{]*\bfor\b", re.S)
+DEFINITION = re.compile(r"(abbrev |unfoldable )?(pub )?(data |record |[^\s:(){}\[\]-][^\s:]* :( |$))")
+# Words that begin a line of an .antt file which is no definition.
+OTHER = ("use ", "pub use ", "pub mod ", "mod ", "module ", "where", "ruleset ", "pub ruleset ",
+         "infix", "unfolding ", "pub package ", "package ", "--")
+
+
+def doc_above(lines, i, marker, between):
+    """Whether the line above i, past the lines that may stand between, begins with the marker."""
+    i -= 1
+    while i >= 0 and lines[i].strip().startswith(between):
+        i -= 1
+    return i >= 0 and lines[i].strip().startswith(marker)
+
+
+def attributes_start(lines, i):
+    """The first line of the attributes and comments that stand above line i."""
+    while i > 0 and (lines[i - 1].strip().startswith(("#[", "///", "//")) or lines[i - 1].strip() == ")]"):
+        i -= 1
+    return i
+
+
+def is_test(lines, i):
+    """Whether the function at line i is a test."""
+    return any(line.strip().startswith("#[test]") for line in lines[attributes_start(lines, i):i])
+
+
+def trait_impls(lines):
+    """The numbers of the lines inside the impls of traits."""
+    inside = set()
+    i = 0
+    while i < len(lines):
+        if re.match(r"(unsafe )?impl\b", lines[i]):
+            head = i
+            while head < len(lines) and not lines[head].rstrip().endswith(("{", "{}")):
+                head += 1
+            text = "\n".join(lines[i:head + 1])
+            end = head
+            if not lines[head].rstrip().endswith("{}"):
+                while end < len(lines) and not lines[end].startswith("}"):
+                    end += 1
+            if TRAIT_IMPL.match(text):
+                inside.update(range(i, end + 1))
+            i = end
+        i += 1
+    return inside
+
+
+def faults_of_rust(lines):
+    """The faults of a file of src/ but for its width: (line, what)."""
+    inside = trait_impls(lines)
+    for i, line in enumerate(lines):
+        if not FUNCTION.match(line) or i in inside or is_test(lines, i):
+            continue
+        if not doc_above(lines, i, "///", ("#[", ")]", "using(", "crate::", "std::")):
+            yield i + 1, "a function without a `///` line"
+
+
+def faults_of_definitions(lines, public_only):
+    """The definitions without a comment: (line, what)."""
+    in_mutual = False
+    for i, line in enumerate(lines):
+        if line and not line[0].isspace():
+            in_mutual = bool(re.match(r"(abbrev |unfoldable )?(pub )?mutual\b", line))
+            if in_mutual:
+                continue
+            text = line
+        elif in_mutual and re.match(r"  \S", line):
+            text = line[2:]
+        else:
+            continue
+        if text.startswith(OTHER) or not DEFINITION.match(text):
+            continue
+        if public_only and not re.match(r"(abbrev |unfoldable )?pub ", text):
+            continue
+        if not doc_above(lines, i, "--", ()):
+            yield i + 1, "no comment line above " + text.split(" :")[0].split("(")[0].strip()
+
+
+def faults_of(path, part):
+    """The faults of a file of src/, specs/ or proofs/: (line, what)."""
+    lines = path.read_text(encoding="utf-8").split("\n")
+    if lines and lines[-1] == "":
+        lines.pop()
+    if len(lines) > LINES:
+        yield LINES + 1, f"a file of {len(lines)} lines"
+    marker = "--" if path.suffix == ".antt" else "//!" if path.name in ("lib.rt", "main.rt") else "//"
+    if not lines or not lines[0].startswith(marker):
+        yield 1, f"a file without a head comment, `{marker} ..`"
+    if part in ("src", "specs"):
+        for i, line in enumerate(lines):
+            if len(line) > COLUMNS and not IMPORT.match(line):
+                yield i + 1, f"a line of {len(line)} columns"
+    if part == "src":
+        yield from faults_of_rust(lines)
+    elif path.name not in ("Answers.antt", "Invariants.antt", "Proof.antt", "Lib.antt"):
+        yield from faults_of_definitions(lines, public_only=part == "proofs")
+
+
+def main():
+    names = sys.argv[1:] or sorted(path.name for path in (ROOT / "crates").iterdir() if path.is_dir())
+    files = faults = 0
+    for name in names:
+        for part in ("src", "specs", "proofs"):
+            folder = ROOT / "crates" / name / part
+            for path in sorted(list(folder.rglob("*.rt")) + list(folder.rglob("*.antt"))):
+                files += 1
+                for line, what in sorted(faults_of(path, part)):
+                    faults += 1
+                    print(f"{path.relative_to(ROOT)}:{line}: {what}")
+    print(f"{files} files, {faults} faults")
+    return 0 if files and not faults else 1
+
+
+if __name__ == "__main__":
+    sys.exit(main())
