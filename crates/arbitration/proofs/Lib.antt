@@ -1,6 +1,5 @@
-pub mod Edits
-pub mod Numbering
-pub mod NextNumbers
-pub mod Asked
-pub mod States
-pub mod FrameTime
+-- Lemmas on the list of a `PlainBus` and on its calls.
+pub mod ListEdits
+pub mod RankLemmas
+pub mod RequestLemmas
+pub mod ArbitrationLemmas

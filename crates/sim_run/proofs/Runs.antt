@@ -5,19 +5,15 @@ use Rattle.std.proofs.lemmas.Bool.{cases_lt}
 use Rattle.std.proofs.lemmas.Grind.{flat_map-append}
 use Rattle.std.proofs.lemmas.List.{append-nil}
 use Rattle.std.specs.Option.{option_map_or}
-use Rattle.arbitration.specs.Bus.{BusState, new_bus, requested, next_number, last_number, numbered_anew, begun, ended, finished, arbitrated, next_moment}
-use Rattle.arbitration.specs.BusLaws.Due.{DueLater-bus, DueLaterFromNothing-bus}
-use Rattle.arbitration.specs.Laws.{Follows}
-use Rattle.arbitration.specs.Waiting.{winner, name_cmp}
+use Rattle.can_bus.specs.Bus.{BusState, new_bus, after_request, ended, after_finish, after_arbitration, next_moment}
+use Rattle.can_bus.specs.Laws.{Follows}
+use Rattle.can_bus.specs.Waiting.{name_cmp}
+use Rattle.can_bus.proofs.SoundStays.{SoundStays-bus}
+use Rattle.can_bus.proofs.DueLater.{DueLater-bus, DueLaterFromNothing-bus}
 use Rattle.std.specs.FinMap.{len, len-empty}
-use Rattle.arbitration.specs.declared.bus.Waiting.{Waiting}
 use Rattle.can_frame.specs.Frame.{FrameFields}
 use Rattle.sim_run.specs.Run.{Logged, Logs, IsOver, bit_time, asked, started, instant, logged_at, log_of}
 use Rattle.sim_run.specs.LogLine.{log_line}
-
-numbered_bit : (bus : BusState) (node : ℕ) → (numbered_anew bus node).bit ≡ bus.bit
-unfolding numbered_anew
-numbered_bit bus node = refl
 
 -- what is due is not later than what is not
 not_over : (until now : ℕ) (bus : BusState) → IsOver until bus → next_moment bus ≡ Some now → now ≤ until → ⊥
@@ -43,28 +39,14 @@ one_log until _ _ other (Logs.goes bus logged now rest next within is more) also
     let step = one_step until now bus other next within also in
     is ∙ ap (λ l. logged_at now (ended bus now) ++ l) (one_log until (instant bus now) rest step.0 more step.2) ∙ sym step.1
 
--- a choice of two buses with one bit time has it
-cond_bit : (b : Bool) (one other : BusState) (bit : ℕ) → one.bit ≡ bit → other.bit ≡ bit → (if b then one else other).bit ≡ bit
-cond_bit true one other bit first second = first
-cond_bit false one other bit first second = second
+-- the bits of a bus take time after an instant too
+takes_time-instant : (bus : BusState) (now : ℕ) → 1 ≤ bus.bit → 1 ≤ (instant bus now).bit
+takes_time-instant bus now takes_time = SoundStays-bus.arbitrate (after_finish bus now) now (SoundStays-bus.finish bus now takes_time)
 
-begun_bit : (bus : BusState) (now : ℕ) (found : Option Waiting) → (option_map_or (begun bus now) found bus).bit ≡ bus.bit
-begun_bit bus now None = refl
-begun_bit bus now (Some request) = refl
-
--- no call changes the time of a bit
-arbitrated_bit : (bus : BusState) (now : ℕ) → (arbitrated bus now).bit ≡ bus.bit
-arbitrated_bit bus now = cond_bit _ (option_map_or (begun bus now) (winner bus.waiting) bus) bus bus.bit (begun_bit bus now (winner bus.waiting)) refl
-
-instant_bit : (bus : BusState) (now : ℕ) → (instant bus now).bit ≡ bus.bit
-instant_bit bus now = arbitrated_bit (finished bus now) now ∙ cond_bit (is_some (ended bus now)) (record bus { wire = None }) bus bus.bit refl refl
-
-requested_bit : (bus : BusState) (node : ℕ) (frame : FrameFields) → (requested bus node frame).bit ≡ bus.bit
-requested_bit bus node frame = cond_bit (next_number bus node == last_number) (numbered_anew bus node) bus bus.bit (numbered_bit bus node) refl
-
-asked_bit : (bus : BusState) (frames : List FrameFields) → (asked bus frames).bit ≡ bus.bit
-asked_bit bus [] = refl
-asked_bit bus (frame ∷ frames) = asked_bit (requested bus 0 frame) frames ∙ requested_bit bus 0 frame
+-- and after requests
+takes_time-asked : (bus : BusState) (frames : List FrameFields) → 1 ≤ bus.bit → 1 ≤ (asked bus frames).bit
+takes_time-asked bus [] takes_time = takes_time
+takes_time-asked bus (frame ∷ frames) takes_time = takes_time-asked (after_request bus 0 frame) frames (SoundStays-bus.request bus 0 frame takes_time)
 
 -- a fact of the value, if there is one, from another
 if_some_map : (found : Option ℕ) (P Q : ℕ → Type 0) → ((n : ℕ) → P n → Q n) → IfSome found P → IfSome found Q
@@ -74,7 +56,7 @@ if_some_map (Some n) P Q f p = f n p
 -- the next moment after an instant is later
 later_instant : (bus : BusState) (now : ℕ) → 1 ≤ bus.bit → next_moment bus ≡ Some now → IfSome (next_moment (instant bus now)) (λ due. now < due)
 later_instant bus now takes_time next =
-    DueLater-bus bus (finished bus now) now takes_time (rw next (omega arith)) Follows.nothing
+    DueLater-bus bus (after_finish bus now) now takes_time (rw next (omega arith)) Follows.nothing
 
 -- a bus goes on, where what comes after an instant is known
 next_log : (until fuel : ℕ) (bus : BusState) (due : Option ℕ) → next_moment bus ≡ due → 1 ≤ bus.bit → IfSome due (λ now. until < now + suc fuel) →
@@ -87,7 +69,7 @@ next_log until fuel bus (Some now) next takes_time soon again =
       | inl late ↦ ([], Logs.over bus [] (subst (λ o. IfSome o (λ due. until < due)) (sym next) late) refl)
       | inr within ↦
           let later = later_instant bus now takes_time next in
-          let rest = again (instant bus now) (subst (λ b. 1 ≤ b) (sym (instant_bit bus now)) takes_time)
+          let rest = again (instant bus now) (takes_time-instant bus now takes_time)
           (if_some_map (next_moment (instant bus now)) (λ due. now < due) (λ due. until < due + fuel) (λ due after. omega arith) later) in
           (logged_at now (ended bus now) ++ rest.0, Logs.goes bus _ now rest.0 next within refl rest.1)
     ]
@@ -99,15 +81,14 @@ some_log_from until zero bus takes_time soon =
 some_log_from until (suc fuel) bus takes_time soon = next_log until fuel bus (next_moment bus) refl takes_time soon (some_log_from until fuel)
 
 -- requests lead on
-follows_asked : (first bus : BusState) (frames : List FrameFields) → Follows requested finished 0 first bus → Follows requested finished 0 first (asked bus frames)
+follows_asked : (first bus : BusState) (frames : List FrameFields) → Follows after_request after_finish 0 first bus → Follows after_request after_finish 0 first (asked bus frames)
 follows_asked first bus [] follows = follows
-follows_asked first bus (frame ∷ frames) follows = follows_asked first (requested bus 0 frame) frames (Follows.request bus 0 frame follows)
+follows_asked first bus (frame ∷ frames) follows = follows_asked first (after_request bus 0 frame) frames (Follows.request bus 0 frame follows)
 
 -- the bits of the started bus take time
 started_takes_time : (frames : List FrameFields) → 1 ≤ (started frames).bit
 started_takes_time frames =
-    let bits : (started frames).bit ≡ bit_time = arbitrated_bit (asked (new_bus bit_time) frames) 0 ∙ asked_bit (new_bus bit_time) frames in
-    subst (λ b. 1 ≤ b) (sym bits) (omega arith)
+    SoundStays-bus.arbitrate (asked (new_bus bit_time) frames) 0 (takes_time-asked (new_bus bit_time) frames (omega arith))
 
 -- nothing is due on a new bus
 nothing_due : next_moment (new_bus bit_time) ≡ None
@@ -139,7 +120,7 @@ reaches_start until frames = record {
 pub reaches_next : (until now : ℕ) (first : BusState) (before : List Logged) (bus : BusState) → Reaches until first before bus →
     next_moment bus ≡ Some now → now ≤ until → Reaches until first (before ++ logged_at now (ended bus now)) (instant bus now)
 reaches_next until now first before bus reaches next within = record {
-  takes_time = subst (λ b. 1 ≤ b) (sym (instant_bit bus now)) reaches.takes_time;
+  takes_time = takes_time-instant bus now reaches.takes_time;
   forward = λ rest logs. subst (Logs until first) (sym (append_assoc before (logged_at now (ended bus now)) rest))
       (reaches.forward (logged_at now (ended bus now) ++ rest) (Logs.goes bus _ now rest next within refl logs));
   backward = λ whole logs.

@@ -2,8 +2,8 @@
 use Rattle.std.specs.Prelude.{◌≡◌, ◌<◌, ◌≤◌, ℕ, List, [], ◌∷◌, ◌++◌, Option, Some, None, IfSome}
 use Rattle.std.specs.List.{flat_map}
 use Rattle.can_frame.specs.Frame.{FrameFields}
-use Rattle.arbitration.specs.Bus.{BusState, new_bus, requested, ended, finished, arbitrated, next_moment}
-use Rattle.arbitration.specs.declared.bus.Ended.{Ended}
+use Rattle.can_bus.specs.Bus.{BusState, new_bus, after_request, ended, after_finish, after_arbitration, next_moment}
+use Rattle.can_bus.specs.declared.bus.Ended.{Ended}
 use Rattle.sim_run.specs.LogLine.{log_line}
 
 -- a frame that left the wire, and the moment of its end
@@ -18,15 +18,15 @@ bit_time = 2
 -- the bus after the node's requests, in order
 abbrev pub asked : BusState → List FrameFields → BusState
 asked bus [] = bus
-asked bus (frame ∷ frames) = asked (requested bus 0 frame) frames
+asked bus (frame ∷ frames) = asked (after_request bus 0 frame) frames
 
 -- the bus after moment 0: the requests of `on start`, and then arbitration
 abbrev pub started : List FrameFields → BusState
-started frames = arbitrated (asked (new_bus bit_time) frames) 0
+started frames = after_arbitration (asked (new_bus bit_time) frames) 0
 
 -- an instant: the frame that ends now leaves the wire, and then the winner of those that wait begins
 abbrev pub instant : BusState → ℕ → BusState
-instant bus now = arbitrated (finished bus now) now
+instant bus now = after_arbitration (after_finish bus now) now
 
 -- the frame that ends, as it is logged
 abbrev pub logged_at : ℕ → Option Ended → List Logged

@@ -1,13 +1,14 @@
 // Running the bus and writing its log.
 
 ghost use Rattle.std.specs.Prelude.{◌≡◌, ◌≤◌, ◌^◌, IfOk, OnOk, OnErr, IsErrOf, List};
-ghost use Rattle.arbitration.specs.Bus.{ended};
+ghost use Rattle.can_bus.specs.Bus.{ended};
 ghost use Rattle.sim_outside.specs.Fault.{HasRisen};
 ghost use Rattle.sim_outside.specs.Sink.{GrowsBy, GrowsByPrefix};
 ghost use Rattle.sim_run.specs.Run.{Logged, Logs, started, instant, logged_at, log_of};
 
 use crate::log_line::make_log_line;
-use arbitration::{Bus, PlainBus};
+use arbitration::PlainBus;
+use can_bus::Bus;
 use can_frame::Frame;
 use sim_outside::{NoMemory, Sink, SinkRefusal};
 use std::alloc::Global;

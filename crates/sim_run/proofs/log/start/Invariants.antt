@@ -1,5 +1,5 @@
 use Rattle.std.proofs.Common.{◌≡◌, drop}
-use Rattle.arbitration.specs.Bus.{new_bus}
+use Rattle.can_bus.specs.Bus.{new_bus}
 use Rattle.sim_run.specs.Run.{asked, bit_time}
 use Rattle.sim_run.proofs.log.start.Given as goal
 

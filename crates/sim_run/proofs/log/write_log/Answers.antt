@@ -1,6 +1,6 @@
 use Rattle.std.proofs.Common.{suc, ◌≤◌, ◌++◌, List, [], sym, subst, ◌∙◌, arith}
 use Rattle.std.specs.Prelude.{IfSome, ◌<◌}
-use Rattle.arbitration.specs.Bus.{ended}
+use Rattle.can_bus.specs.Bus.{ended}
 use Rattle.sim_outside.specs.Sink.{GrowsBy, GrowsByPrefix}
 use Rattle.sim_run.specs.Run.{Logged, Logs, IsOver, started, logged_at, log_of}
 use Rattle.sim_run.proofs.Growth.{grows_by_none, grows_twice, grows_then_prefix}

@@ -1,17 +1,15 @@
 use Rattle.std.proofs.Common.{ap, sym, ◌∙◌, arith}
-use Rattle.std.specs.Option.{option_map}
 use Rattle.std.proofs.lemmas.Bool.Decides.{nat_tests}
-use Rattle.arbitration.specs.Bus.{next_moment}
-use Rattle.arbitration.specs.PlainBus.{transmission_of}
-use Rattle.arbitration.proofs.States.{due-nothing, due-free}
+use Rattle.can_bus.specs.Bus.{next_moment}
+use Rattle.arbitration.proofs.ArbitrationLemmas.{due-nothing, due-free}
 use Rattle.arbitration.proofs.plain_bus.PlainBusBus.next_time.Goals as goal
 
 pub returns-then-is_empty-clause-moment : goal.returns-then-is_empty-clause-moment
 returns-then-is_empty-clause-moment c =
-    sym (due-nothing _ c.self.inside.waiting.items c.self.inside.free (ap (option_map transmission_of) c.in_default.is) c.self.invariant.in_order (grind (arith, nat_tests)))
+    sym (due-nothing _ c.self.inside.waiting.items c.self.inside.free c.in_default.is c.self.invariant.in_order (grind (arith, nat_tests)))
     ∙ ap next_moment c.self.view_is
 
 pub returns-clause-moment : goal.returns-clause-moment
 returns-clause-moment c =
-    sym (due-free _ c.self.inside.waiting.items c.self.inside.free (ap (option_map transmission_of) c.in_default.is) c.self.invariant.in_order (grind (arith, nat_tests)))
+    sym (due-free _ c.self.inside.waiting.items c.self.inside.free c.in_default.is c.self.invariant.in_order (grind (arith, nat_tests)))
     ∙ ap next_moment c.self.view_is

@@ -1,24 +1,21 @@
 use Rattle.std.proofs.Common.{◌≡◌, ℕ, ◌+◌, List, map, refl, sym, ap, subst, ◌∙◌, arith}
-use Rattle.std.specs.Prelude.{IsTrue}
 use Rattle.std.specs.List.{All}
 use Rattle.std.specs.Option.{option_map}
 use Rattle.std.specs.Ordering.{nat_cmp}
 use Rattle.std.specs.Vec.{with_items}
 use Rattle.std.proofs.lemmas.List.{with_items_is}
-use Rattle.std.specs.FinMap.{is_sorted, from_entries}
+use Rattle.std.specs.FinMap.{from_entries}
 use Rattle.can_frame.specs.Frame.{FrameFields}
-use Rattle.arbitration.specs.declared.bus.Waiting.{Waiting}
-use Rattle.arbitration.specs.Waiting.{name_cmp, entry_of, requests_of}
-use Rattle.arbitration.specs.Bus.{BusState, next_number, requested}
-use Rattle.arbitration.specs.PlainBus.{state_of, transmission_of, IsBelowNext}
-use Rattle.arbitration.specs.Places.{place_behind, anew_at, carried_at}
-use Rattle.arbitration.proofs.Edits.{in_order-insert}
-use Rattle.arbitration.proofs.Numbering.{in_order-anew}
-use Rattle.arbitration.proofs.Asked.{asking, asked_list, asked, asked-last, below-asked, below-last, IsLast-request, place_behind-le, asked_number, longer, noted-early, noted-last}
+use Rattle.can_bus.specs.declared.waiting.Waiting.{Waiting}
+use Rattle.can_bus.specs.Waiting.{requests_of}
+use Rattle.can_bus.specs.Bus.{BusState, next_number, after_request}
+use Rattle.arbitration.specs.Inside.PlainBus.{state_of, IsBelowNext}
+use Rattle.arbitration.specs.Inside.Places.{InOrder, place_behind}
+use Rattle.arbitration.specs.Inside.Ranks.{with_rank_in, transmission_with_rank_in}
+use Rattle.arbitration.proofs.ListEdits.{in_order-insert}
+use Rattle.arbitration.proofs.RankLemmas.{in_order-ranks}
+use Rattle.arbitration.proofs.RequestLemmas.{asking, asked_list, asked, asked-last, below-asked, below-last, IsLast-request, place_behind-le, asked_number, longer, noted-early, noted-last}
 use Rattle.arbitration.proofs.plain_bus.PlainBusBus.request.Goals as goal
-
-abbrev InOrder : List Waiting → Type 0
-InOrder rs = IsTrue (is_sorted name_cmp (map entry_of rs))
 
 -- the list with the request is in order
 in_order : (s : BusState) (rs after : List Waiting) (node n : ℕ) (f : FrameFields) → InOrder rs → All (IsBelowNext s) rs → n ≡ next_number s node → after ≡ asked_list rs node n f → InOrder after
@@ -31,8 +28,8 @@ add-requires c =
     let within = place_behind-le rs c.args.node in
     omega arith
 
-pub number_anew-requires : goal.number_anew-requires
-number_anew-requires c =
+pub set_ranks-requires : goal.set_ranks-requires
+set_ranks-requires c =
     let b = c.self.inside in
     let n = c.unwrap_or-number.result in
     let is = asked_number b.next c.args.node n c.copied.result _ c.unwrap_or-number.ensures c.copied.ensures c.get.ensures.value in
@@ -70,7 +67,7 @@ returns-else-number-clause-ok c =
     let next = noted-early c.deref-2.result.now b.wire b.next c.add.new.next node n c.following_number-following.result c.if-number.false c.following_number-following.ensures c.in_ok-add.ensures.next in
     ap (λ us. record s { waiting = requests_of us; next = from_entries c.add.new.next.entries }) list
     ∙ asked s rs node n f _ refl c.self.invariant.below_next is c.if-number.false next
-    ∙ ap (λ t. requested t node f) c.self.view_is
+    ∙ ap (λ t. after_request t node f) c.self.view_is
 
 pub invariant_of-self-then-number : goal.invariant_of-self-then-number
 invariant_of-self-then-number c =
@@ -82,16 +79,16 @@ invariant_of-self-then-number c =
     let f = c.args.f.now in
     let is = asked_number b.next node n c.copied.result _ c.unwrap_or-number.ensures c.copied.ensures c.get.ensures.value in
     let list = longer rs c.deref.result.now c.add.new.waiting.items node n c.place_behind-place.result f c.deref.ensures.value c.place_behind-place.ensures c.in_ok-add.ensures.waiting in
-    let anew : (with_items c.add.new.waiting c.number_anew.new.waiting).items ≡ map (anew_at (asked_list rs node n f) b.wire node) (asked_list rs node n f) =
-    with_items_is c.add.new.waiting c.number_anew.new.waiting (omega arith)
-    ∙ c.number_anew.ensures
-    ∙ ap (λ us. map (anew_at us b.wire node) us) (c.deref_mut.ensures.value ∙ list) in
+    let ranked : (with_items c.add.new.waiting c.set_ranks.new.waiting).items ≡ map (with_rank_in (asked_list rs node n f) b.wire node) (asked_list rs node n f) =
+    with_items_is c.add.new.waiting c.set_ranks.new.waiting (omega arith)
+    ∙ c.set_ranks.ensures
+    ∙ ap (λ us. map (with_rank_in us b.wire node) us) (c.deref_mut.ensures.value ∙ list) in
     let next = noted-last rs c.deref-2.result.now b.wire b.next c.add.new.next node n c.following_number-following.result c.deref-2.ensures.value c.if-number.true c.following_number-following.ensures c.in_ok-add.ensures.next in
     let Below : List Waiting → Type 0 = All (IsBelowNext (record s { next = from_entries {R = nat_cmp} c.add.new.next.entries })) in
     record {
       takes_time = c.self.invariant.takes_time;
-      in_order = subst InOrder (sym anew) (in_order-anew (asked_list rs node n f) b.wire node (in_order s rs (asked_list rs node n f) node n f c.self.invariant.in_order c.self.invariant.below_next is refl));
-      below_next = subst Below (sym anew) (below-last s rs b.wire node n f _ c.self.invariant.below_next is next);
+      in_order = subst InOrder (sym ranked) (in_order-ranks (asked_list rs node n f) b.wire node (in_order s rs (asked_list rs node n f) node n f c.self.invariant.in_order c.self.invariant.below_next is refl));
+      below_next = subst Below (sym ranked) (below-last s rs b.wire node n f _ c.self.invariant.below_next is next);
     }
 
 pub returns-then-number-clause-ok : goal.returns-then-number-clause-ok
@@ -104,13 +101,13 @@ returns-then-number-clause-ok c =
     let f = c.args.f.now in
     let is = asked_number b.next node n c.copied.result _ c.unwrap_or-number.ensures c.copied.ensures c.get.ensures.value in
     let list = longer rs c.deref.result.now c.add.new.waiting.items node n c.place_behind-place.result f c.deref.ensures.value c.place_behind-place.ensures c.in_ok-add.ensures.waiting in
-    let anew : (with_items c.add.new.waiting c.number_anew.new.waiting).items ≡ map (anew_at (asked_list rs node n f) b.wire node) (asked_list rs node n f) =
-    with_items_is c.add.new.waiting c.number_anew.new.waiting (omega arith)
-    ∙ c.number_anew.ensures
-    ∙ ap (λ us. map (anew_at us b.wire node) us) (c.deref_mut.ensures.value ∙ list) in
-    let carried : c.carried_anew-wire.result ≡ option_map (carried_at (asked_list rs node n f) b.wire node) b.wire =
-    c.carried_anew-wire.ensures.value ∙ ap (λ us. option_map (carried_at us b.wire node) b.wire) (c.deref-then-number.ensures.value ∙ list) in
+    let ranked : (with_items c.add.new.waiting c.set_ranks.new.waiting).items ≡ map (with_rank_in (asked_list rs node n f) b.wire node) (asked_list rs node n f) =
+    with_items_is c.add.new.waiting c.set_ranks.new.waiting (omega arith)
+    ∙ c.set_ranks.ensures
+    ∙ ap (λ us. map (with_rank_in us b.wire node) us) (c.deref_mut.ensures.value ∙ list) in
+    let carried : c.transmission_with_rank-wire.result ≡ option_map (transmission_with_rank_in (asked_list rs node n f) b.wire node) b.wire =
+    c.transmission_with_rank-wire.ensures.value ∙ ap (λ us. option_map (transmission_with_rank_in us b.wire node) b.wire) (c.deref-then-number.ensures.value ∙ list) in
     let next = noted-last rs c.deref-2.result.now b.wire b.next c.add.new.next node n c.following_number-following.result c.deref-2.ensures.value c.if-number.true c.following_number-following.ensures c.in_ok-add.ensures.next in
-    (λ i. record s { waiting = requests_of (anew i); wire = option_map transmission_of (carried i); next = from_entries c.add.new.next.entries })
-    ∙ asked-last s rs b.wire node n f _ refl refl c.self.invariant.in_order c.self.invariant.below_next is c.if-number.true c.carried_anew-wire.ensures.ranged next
-    ∙ ap (λ t. requested t node f) c.self.view_is
+    (λ i. record s { waiting = requests_of (ranked i); wire = carried i; next = from_entries c.add.new.next.entries })
+    ∙ asked-last s rs node n f _ refl c.self.invariant.in_order c.self.invariant.below_next is c.if-number.true c.transmission_with_rank-wire.ensures.in_range next
+    ∙ ap (λ t. after_request t node f) c.self.view_is

@@ -1,9 +1,0 @@
-use Rattle.std.proofs.Common.{◌≡◌, ◌++◌, eqb, map, take, drop}
-use Rattle.std.specs.Prelude.{count_by}
-use Rattle.arbitration.specs.Places.{anew_at}
-use Rattle.arbitration.proofs.plain_bus.number_anew.Given as goal
-
-abbrev pub invariant-loop-request : goal.invariant-loop-request
-invariant-loop-request l =
-    (l.waiting ≡ map (anew_at l.initial.waiting l.wire l.node) (take l.request-index l.initial.waiting) ++ drop l.request-index l.initial.waiting)
-    × (l.count ≡ count_by (λ r. eqb r.node l.node) (take l.request-index l.initial.waiting))

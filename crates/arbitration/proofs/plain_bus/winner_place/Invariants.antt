@@ -1,6 +1,0 @@
-use Rattle.std.proofs.Common.{◌<◌, length}
-use Rattle.arbitration.specs.BusLaws.Winner.{IsFirstAt}
-use Rattle.arbitration.proofs.plain_bus.winner_place.Given as goal
-
-abbrev pub invariant-loop-place : goal.invariant-loop-place
-invariant-loop-place l = (l.best < length l.waiting) × IsFirstAt l.waiting l.place l.best

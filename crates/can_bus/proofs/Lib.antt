@@ -1,0 +1,10 @@
+-- The order of requests, sets of requests, and the laws of the bus.
+pub mod Precedence
+pub mod Requests
+pub mod Winner
+pub mod NextNumbers
+pub mod Ranks
+pub mod RequestsCommute
+pub mod SoundStays
+pub mod DueLater
+pub mod Arbitration

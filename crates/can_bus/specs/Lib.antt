@@ -1,0 +1,7 @@
+-- The definitions of this crate.
+pub mod Order
+pub mod Waiting
+pub mod Transmission
+pub mod Bus
+pub mod Codes
+pub mod Laws

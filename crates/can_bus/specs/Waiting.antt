@@ -1,0 +1,54 @@
+-- The set of waiting requests.
+use Rattle.std.specs.Prelude.{◌≡◌, ℕ, ◌⊎◌, not, List, map, find, Option, Some}
+use Rattle.std.specs.List.{list_all}
+use Rattle.std.specs.Ordering.{nat_cmp, ordering_then}
+use Rattle.std.specs.declared.cmp.Ordering.{Ordering}
+use Rattle.std.specs.FinMap.{FinMap, get, entries, from_entries}
+use Rattle.can_frame.specs.Frame.{FrameFields}
+use Rattle.can_bus.specs.declared.waiting.Waiting.{Waiting}
+use Rattle.can_bus.specs.Order.{GoesBefore, goes_before}
+
+-- a request is named by its node and the node's own number for it
+abbrev pub RequestName : Type 0
+RequestName = ℕ × ℕ
+
+-- by node and then by number
+abbrev pub name_cmp : RequestName → RequestName → Ordering
+name_cmp a b = ordering_then (nat_cmp a.0 b.0) (nat_cmp a.1 b.1)
+
+-- a set of requests: each name has one frame at most
+abbrev pub Requests : Type 0
+Requests = FinMap name_cmp FrameFields
+
+-- the name of a request
+abbrev pub name_of : Waiting → RequestName
+name_of r = (r.node, r.number)
+
+-- the request is a member
+abbrev pub Waits : Requests → Waiting → Type 0
+Waits requests r = get requests (name_of r) ≡ Some r.frame
+
+-- the request is a member and goes before each other one
+pub record IsWinner (requests : Requests) (r : Waiting) : Type 0 where
+  pub waits : Waits requests r
+  pub before : (other : Waiting) → Waits requests other → (name_of other ≡ name_of r) ⊎ GoesBefore r other
+
+-- a request as an entry of the set
+abbrev pub entry_of : Waiting → RequestName × FrameFields
+entry_of r = (name_of r, r.frame)
+
+-- the request that an entry stands for
+abbrev pub request_at : RequestName × FrameFields → Waiting
+request_at e = record { node = e.0.0; number = e.0.1; frame = e.1 }
+
+-- the set of a list's requests
+abbrev pub requests_of : List Waiting → Requests
+requests_of rs = from_entries (map entry_of rs)
+
+-- the members by name
+abbrev pub members : Requests → List Waiting
+members requests = map request_at (entries requests)
+
+-- the member that no member goes before, if there is a member
+unfoldable pub winner : Requests → Option Waiting
+winner requests = find (λ r. list_all (λ other. not (goes_before other r)) (members requests)) (members requests)

@@ -1,0 +1,90 @@
+// What any bus is asked, and what it keeps.
+
+ghost use Rattle.std.specs.Prelude.{◌≡◌, ℕ, ◌<◌, ◌≤◌, ◌^◌, Option, OnOk, OnErr};
+ghost use Rattle.can_frame.specs.Frame.{FrameFields};
+ghost use Rattle.can_bus.specs.declared.bus.Ended.{Ended};
+ghost use Rattle.can_bus.specs.Laws.{RequestsCommute, SoundStays, DueLater, DueLaterFromNothing};
+
+use can_frame::Frame;
+use sim_outside::NoMemory;
+
+/// A frame that left the wire, and the node that sent it.
+#[derive(Clone, Copy, Debug, PartialEq, Eq)]
+pub struct Ended {
+    pub node: u32,
+    pub frame: Frame,
+}
+
+/// A bus to which nodes give frames. Moments are microseconds from the start.
+///
+/// At each moment a bus is asked to `finish` until no further frame ends, then it takes the requests
+/// of the moment, and last it is asked to `arbitrate`; the moments never fall. An implementation
+/// says what its calls mean, and proves the laws below of these meanings. The laws speak of sound
+/// buses, and each bus that calls make is sound.
+pub trait Bus {
+    /// How many nodes it serves: their numbers are below this. No call changes it.
+    ghost nodes: { Self → ℕ };
+
+    /// What holds of each bus that calls make.
+    ghost sound: { Self → Type 0 };
+
+    /// The bus after a request of this node.
+    ghost after_request: { Self → ℕ → FrameFields → Self };
+
+    /// The next moment at which the bus has to be asked, if there is one.
+    ghost next_moment: { Self → Option ℕ };
+
+    /// The frame that a call of `finish` at this moment gives, if it gives one.
+    ghost ended: { Self → ℕ → Option Ended };
+
+    /// The bus after a call of `finish` at this moment.
+    ghost after_finish: { Self → ℕ → Self };
+
+    /// The bus after arbitration at this moment.
+    ghost after_arbitration: { Self → ℕ → Self };
+
+    /// The node asks that the frame be sent. Where there is no memory for it, nothing changes.
+    fn request(&mut self, node: u32, f: &Frame) -> Result<(), NoMemory>
+        requires { node < nodes self.old }
+        ensures ok { OnOk result (self.new ≡ after_request self.old node f.now) }
+        ensures err { OnErr result (self.new ≡ self.old) }
+        ensures nodes { nodes self.new ≡ nodes self.old }
+        ensures sound { sound self.new };
+
+    /// The next moment at which the bus has to be asked, or `None` where nothing waits and the wire
+    /// is empty.
+    fn next_time(&self) -> Option<u64>
+        ensures moment { result ≡ next_moment self.now }
+        ensures sound { sound self.now };
+
+    /// Takes a frame that ends at this moment off the wire, or `None` where no further one does.
+    ///
+    /// It may be called again at one moment: a bus may hold back a second frame that ends at it.
+    fn finish(&mut self, now: u64) -> Option<Ended>
+        ensures frame { result ≡ ended self.old now }
+        ensures state { self.new ≡ after_finish self.old now }
+        ensures nodes { nodes self.new ≡ nodes self.old }
+        ensures sound { sound self.new };
+
+    /// Where the wire is empty, the bus is free and a request waits, the winner begins at this
+    /// moment, which is at most 2^63 microseconds.
+    fn arbitrate(&mut self, now: u64)
+        requires { now ≤ 2 ^ 63 }
+        ensures state { self.new ≡ after_arbitration self.old now }
+        ensures nodes { nodes self.new ≡ nodes self.old }
+        ensures sound { sound self.new };
+
+    /// Requests of two different nodes give one bus in either order.
+    ghost requests_commute: { RequestsCommute after_request };
+
+    /// What each call makes of a sound bus is sound.
+    ghost sound_stays: { SoundStays sound after_request after_finish after_arbitration };
+
+    /// Where nothing was due before a moment, and a sound bus is asked to `finish` at it, then takes
+    /// any requests and further calls of `finish`, and last is asked to `arbitrate`, what is due next
+    /// is later than the moment.
+    ghost due_later: { DueLater sound next_moment after_request after_finish after_arbitration };
+
+    /// The same where nothing is due, with no call of `finish` before the requests.
+    ghost due_later_from_nothing: { DueLaterFromNothing sound next_moment after_request after_finish after_arbitration };
+}
