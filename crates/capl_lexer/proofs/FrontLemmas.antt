@@ -5,10 +5,10 @@ use Rattle.std.proofs.lemmas.Bool.{cases_lt}
 use Rattle.std.proofs.lemmas.List.{append_assoc, take_more, drop_at, get_or_append_left, length-take-le}
 use Rattle.capl_lexer.specs.Bytes.{IsDigit, IsHexDigit, IsNameStart, IsNamePart, IsMark, number_in}
 use Rattle.capl_lexer.specs.Spelling.{word_spelling, sign_spelling, IsMarked, IsDecimal, IsHexadecimal, number_of_64_bits, IsPlain, Spells}
-use Rattle.capl_lexer.specs.Run.{IsInClass, IsFirstInClass, IsRun}
+use Rattle.capl_lexer.specs.Inside.ByteClass.{IsInClass, IsFirstInClass, IsRun}
 use Rattle.capl_lexer.specs.Reading.{IsLongest}
-use Rattle.capl_lexer.specs.Base.{IsBaseOf, IsHexadecimalFront, radix_of, prefix_of, digits_of}
-use Rattle.capl_lexer.specs.Front.{IsTokenFront, HasNoToken}
+use Rattle.capl_lexer.specs.Inside.Base.{IsBaseOf, IsHexadecimalFront, radix_of, prefix_of, digits_of}
+use Rattle.capl_lexer.specs.Inside.Front.{IsTokenFront, HasNoToken}
 use Rattle.capl_lexer.specs.declared.byte_class.ByteClass.{ByteClass}
 use Rattle.capl_lexer.specs.declared.byte_class.ByteClass.TheVariants as class
 use Rattle.capl_lexer.specs.declared.base.Base.{Base}
@@ -17,8 +17,8 @@ use Rattle.capl_lexer.specs.declared.token.Word.{Word}
 use Rattle.capl_lexer.specs.declared.token.Sign.{Sign}
 use Rattle.capl_lexer.specs.declared.token.Tok.{Tok}
 use Rattle.capl_lexer.specs.declared.token.Tok.TheVariants as tok
-use Rattle.capl_lexer.proofs.Runs.{run-le, run-exact}
-use Rattle.capl_lexer.proofs.Spellings.{Begins, HasNameForm, word-name_form, spelling-front, class_of, class_of_token, begins-class, name_class, digit_class, digit-mark, hex_digit-mark, marked_rest, marked-length, marked_at, mark-le-one}
+use Rattle.capl_lexer.proofs.ByteClassLemmas.{run-le, run-exact}
+use Rattle.capl_lexer.proofs.SpellingLemmas.{Begins, HasNameForm, word-name_form, spelling-front, class_of, class_of_token, begins-class, name_class, digit_class, digit-mark, hex_digit-mark, marked_rest, marked-length, marked_at, mark-le-one}
 
 -- the first byte of a text begins each token at its front
 pub front-begins : (text : List ℕ) (byte : ℕ) (others bytes after : List ℕ) (token : Tok)

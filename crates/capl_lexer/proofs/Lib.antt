@@ -1,8 +1,9 @@
+-- The lemmas of this crate.
 mod WordLemmas
-mod Runs
-pub mod Spellings
-pub mod Readings
-mod Numbers
+mod ByteClassLemmas
+pub mod SpellingLemmas
+pub mod ReadingLemmas
+mod NumberLemmas
 mod FrontLemmas
-mod Steps
-mod NameTests
+mod PartialReadingLemmas
+mod NameLemmas

@@ -1,9 +1,10 @@
 -- The reserved words, found by their bytes.
-use Rattle.std.proofs.Common.{◌≡◌, ◌≢◌, ℕ, Bool, true, false, cond, List, [], ◌∷◌, MatchOption, Option, Some, None, refl, sym, ◌∙◌, ap}
+use Rattle.std.proofs.Common.{◌≡◌, ℕ, Bool, true, false, cond, List, [], ◌∷◌, MatchOption, Option, Some, None, refl, sym, ◌∙◌, ap}
 use Rattle.std.specs.Bool.{⊤}
 use Rattle.std.specs.List.{find}
 use Rattle.std.specs.Str.{bytes_eq}
 use Rattle.std.proofs.lemmas.Slice.Eq.{bytes_eq-Decides}
+use Rattle.items.specs.Search.{Finds}
 use Rattle.capl_lexer.specs.Spelling.{word_spelling}
 use Rattle.capl_lexer.specs.declared.token.Word.{Word}
 use Rattle.capl_lexer.specs.declared.token.Word.TheVariants as word
@@ -31,14 +32,14 @@ word_of-spelling _ = refl
 
 found_case : (bytes : List ℕ) (found : Option Word) → word_of bytes ≡ found
     → MatchOption found ⊤ (λ word. bytes_eq (word_spelling word) bytes ≡ true)
-    → MatchOption found ((word : Word) → bytes ≢ word_spelling word) (λ word. bytes ≡ word_spelling word)
+    → Finds (λ (word : Word). bytes ≡ word_spelling word) found
 found_case bytes None e passes = λ word same.
     let other : word_of bytes ≡ Some word = ap word_of same ∙ word_of-spelling word in cc
 found_case bytes (Some word) e passes = sym ((bytes_eq-Decides (word_spelling word) bytes).0 passes)
 
 -- what is found is spelled so, and where nothing is found no word is
 pub word_of-sound : (bytes : List ℕ)
-    → MatchOption (word_of bytes) ((word : Word) → bytes ≢ word_spelling word) (λ word. bytes ≡ word_spelling word)
+    → Finds (λ (word : Word). bytes ≡ word_spelling word) (word_of bytes)
 word_of-sound bytes =
     found_case bytes (word_of bytes) refl (find-passes (λ word. bytes_eq (word_spelling word) bytes) ALL)
 

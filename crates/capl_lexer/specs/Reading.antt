@@ -13,17 +13,20 @@ pub data Piece : Type 0 where
 
 -- no token that stands at the front of the text has more bytes
 abbrev pub IsLongest : List ℕ → ℕ → Type 0
-IsLongest text count = (bytes after : List ℕ) (tok : Tok) → text ≡ bytes ++ after → Spells bytes tok → length bytes ≤ count
+IsLongest text count =
+    (bytes after : List ℕ) (tok : Tok) → text ≡ bytes ++ after → Spells bytes tok → length bytes ≤ count
 
 -- the piece stands at the front of a text, before this rest
 abbrev pub IsFront : Piece → List ℕ → List ℕ → Type 0
 IsFront (Blank byte) text rest = IsBlank byte × (text ≡ byte ∷ rest)
-IsFront (Lexeme bytes tok) text rest = Spells bytes tok × (text ≡ bytes ++ rest) × IsLongest text (length bytes)
+IsFront (Lexeme bytes tok) text rest =
+    Spells bytes tok × (text ≡ bytes ++ rest) × IsLongest text (length bytes)
 
 -- the pieces stand one after another at the front of a text, before this rest
 abbrev pub AreFront : List Piece → List ℕ → List ℕ → Type 0
 AreFront [] text rest = text ≡ rest
-AreFront (piece ∷ pieces) text rest = (between : List ℕ) × IsFront piece text between × AreFront pieces between rest
+AreFront (piece ∷ pieces) text rest =
+    (between : List ℕ) × IsFront piece text between × AreFront pieces between rest
 
 -- the bytes that may stand before a text and are passed over
 abbrev pub byte_order_mark : List ℕ
@@ -57,7 +60,8 @@ tokens_at text place (Lexeme bytes tok ∷ pieces) =
 -- the tokens are those of a reading of the whole text
 abbrev pub IsReading : List ℕ → List Token → Type 0
 IsReading text tokens =
-    (pieces : List Piece) × AreFront pieces (drop (start_of text) text) [] × (tokens ≡ tokens_at text (start_of text) pieces)
+    (pieces : List Piece) × AreFront pieces (drop (start_of text) text) []
+    × (tokens ≡ tokens_at text (start_of text) pieces)
 
 -- pieces lead to the place, and none begins there
 pub record IsBadPlace (text : List ℕ) (place : ℕ) : Type 0 where

@@ -2,8 +2,8 @@
 use Rattle.std.specs.Prelude.{◌≡◌, ℕ, List, ⊤}
 use Rattle.capl_lexer.specs.Reading.{IsReading, IsBadPlace, line_at, column_at}
 use Rattle.capl_lexer.specs.declared.token.Token.{Token}
-use Rattle.capl_lexer.specs.declared.lexer.LexRefusal.{LexRefusal}
-use Rattle.capl_lexer.specs.declared.lexer.LexRefusal.TheVariants.{Bad, NoMemory}
+use Rattle.capl_lexer.specs.declared.refusal.LexRefusal.{LexRefusal}
+use Rattle.capl_lexer.specs.declared.refusal.LexRefusal.TheVariants.{Bad, NoMemory}
 
 -- it names the line and the column of the bad place, if it names any
 abbrev pub IsRefusalOf : List ℕ → LexRefusal → Type 0

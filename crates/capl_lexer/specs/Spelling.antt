@@ -1,5 +1,5 @@
 -- How each token is spelled (CAPL manual, keywords and constants).
-use Rattle.std.specs.Prelude.{◌≡◌, ◌≢◌, ◌^◌, ℕ, Bool, true, false, List, [], ◌∷◌, ◌++◌, All, Option, Some, None, ◌⊎◌, nat_lt, if◌then◌else◌, codes}
+use Rattle.std.specs.Prelude.{◌≡◌, ◌≢◌, ◌<◌, ◌^◌, ℕ, Bool, true, false, List, [], ◌∷◌, ◌++◌, All, Option, Some, None, ◌⊎◌, nat_lt, if◌then◌else◌, codes}
 use Rattle.capl_lexer.specs.Bytes.{IsDigit, IsHexDigit, IsNameFront, IsNamePart, IsMark, number_in}
 use Rattle.capl_lexer.specs.declared.token.Word.{Word}
 use Rattle.capl_lexer.specs.declared.token.Word.TheVariants as word
@@ -75,17 +75,24 @@ IsMarked bytes front false = bytes ≡ front
 -- decimal digits
 abbrev pub IsDecimal : List ℕ → ℕ → Bool → Type 0
 IsDecimal bytes number ext =
-    (digits : List ℕ) × (digits ≢ []) × All IsDigit digits × (number ≡ number_in 10 digits) × IsMarked bytes digits ext
+    (digits : List ℕ) × (digits ≢ []) × All IsDigit digits × (number ≡ number_in 10 digits)
+    × IsMarked bytes digits ext
 
 -- `0x` or `0X` and hexadecimal digits
 abbrev pub IsHexadecimal : List ℕ → ℕ → Bool → Type 0
 IsHexadecimal bytes number ext =
-    (digits : List ℕ) × (x : ℕ) × (digits ≢ []) × All IsHexDigit digits × IsMark x × (number ≡ number_in 16 digits)
-    × IsMarked bytes (48 ∷ x ∷ digits) ext
+    (digits : List ℕ) × (x : ℕ) × (digits ≢ []) × All IsHexDigit digits × IsMark x
+    × (number ≡ number_in 16 digits) × IsMarked bytes (48 ∷ x ∷ digits) ext
 
 -- a number of 64 bits, or none
 abbrev pub number_of_64_bits : ℕ → Option ℕ
 number_of_64_bits number = if nat_lt number (2 ^ 64) then Some number else None
+
+-- decimal digits, perhaps none, that stand for this number of 64 bits
+pub record IsDecimalNumber (bytes : List ℕ) (number : ℕ) : Type 0 where
+  pub digits : All IsDigit bytes
+  pub is : number ≡ number_in 10 bytes
+  pub fits : number < 2 ^ 64
 
 -- a byte of a string that stands for itself: neither the quote nor `\` nor a line end
 abbrev pub IsPlain : ℕ → Type 0
@@ -96,5 +103,7 @@ abbrev pub Spells : List ℕ → Tok → Type 0
 Spells bytes (tok.Name text) = (bytes ≡ text) × IsName bytes
 Spells bytes (tok.Word word) = bytes ≡ word_spelling word
 Spells bytes (tok.Sign sign) = bytes ≡ sign_spelling sign
-Spells bytes (tok.Num value ext) = (number : ℕ) × (value ≡ number_of_64_bits number) × (IsDecimal bytes number ext ⊎ IsHexadecimal bytes number ext)
+Spells bytes (tok.Num value ext) =
+    (number : ℕ) × (value ≡ number_of_64_bits number)
+    × (IsDecimal bytes number ext ⊎ IsHexadecimal bytes number ext)
 Spells bytes (tok.Str text) = (bytes ≡ 34 ∷ text ++ 34 ∷ []) × All IsPlain text

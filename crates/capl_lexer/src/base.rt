@@ -3,8 +3,8 @@
 ghost use Rattle.std.specs.Prelude.{◌≡◌, All};
 ghost use Rattle.capl_lexer.specs.Bytes.{digit_value, number_in};
 ghost use Rattle.capl_lexer.specs.Spelling.{number_of_64_bits};
-ghost use Rattle.capl_lexer.specs.Run.{IsInClass};
-ghost use Rattle.capl_lexer.specs.Base.{IsBaseOf, radix_of, prefix_of, digits_of};
+ghost use Rattle.capl_lexer.specs.Inside.ByteClass.{IsInClass};
+ghost use Rattle.capl_lexer.specs.Inside.Base.{IsBaseOf, radix_of, prefix_of, digits_of};
 
 use crate::byte_class::ByteClass;
 
@@ -48,6 +48,7 @@ impl Base {
         }
     }
 
+    /// The base as a number.
     fn radix(self) -> u64
         ensures { result ≡ radix_of self }
     {
@@ -72,7 +73,7 @@ impl Base {
     }
 }
 
-// What a hexadecimal digit stands for.
+/// What a hexadecimal digit stands for.
 fn value_of(digit: u8) -> u64
     requires { IsInClass ByteClass.HexDigit digit }
     ensures { result ≡ digit_value digit }

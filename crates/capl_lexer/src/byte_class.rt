@@ -1,7 +1,7 @@
 // The classes of bytes that tokens are made of.
 
 ghost use Rattle.std.specs.Prelude.{◌↔◌, IsTrue};
-ghost use Rattle.capl_lexer.specs.Run.{IsInClass, IsFirstInClass, IsRun};
+ghost use Rattle.capl_lexer.specs.Inside.ByteClass.{IsInClass, IsFirstInClass, IsRun};
 
 /// A class of bytes.
 #[derive(Clone, Copy, Debug, PartialEq, Eq)]

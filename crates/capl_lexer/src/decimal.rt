@@ -1,7 +1,7 @@
 // Decimal numbers.
 
-ghost use Rattle.std.specs.Prelude.{◌≡◌, ◌≤◌, ◌^◌, All, IfSome, IfNone};
-ghost use Rattle.capl_lexer.specs.Bytes.{IsDigit, number_in};
+ghost use Rattle.items.specs.Search.{Finds};
+ghost use Rattle.capl_lexer.specs.Spelling.{IsDecimalNumber};
 
 use crate::base::Base;
 use crate::byte_class::ByteClass;
@@ -10,8 +10,7 @@ use crate::byte_class::ByteClass;
 /// decimal digit or the number is above 2^64 - 1. No digits stand for 0. Takes time linear in the
 /// bytes.
 pub fn decimal_number(bytes: &[u8]) -> Option<u64>
-    ensures found { IfSome result (λ number. All IsDigit bytes.now × (number ≡ number_in 10 bytes.now)) }
-    ensures none { IfNone result (All IsDigit bytes.now → 2 ^ 64 ≤ number_in 10 bytes.now) }
+    ensures { Finds (IsDecimalNumber bytes.now) result }
 {
     if ByteClass::Digit.run(bytes) < bytes.len() {
         return None;

@@ -1,8 +1,8 @@
 // The token at the front of a text.
 
 ghost use Rattle.std.specs.Prelude.{IfOk, MatchOption};
-ghost use Rattle.capl_lexer.specs.Run.{IsFirstInClass};
-ghost use Rattle.capl_lexer.specs.Front.{IsTokenFront, HasNoToken};
+ghost use Rattle.capl_lexer.specs.Inside.ByteClass.{IsFirstInClass};
+ghost use Rattle.capl_lexer.specs.Inside.Front.{IsTokenFront, HasNoToken};
 
 use crate::base::Base;
 use crate::byte_class::ByteClass;
@@ -43,7 +43,7 @@ pub(crate) fn token_front(alloc: Global, text: &[u8]) -> Result<Option<Front>, N
     }
 }
 
-// The name or the reserved word at the front of a text that begins as one.
+/// The name or the reserved word at the front of a text that begins as one.
 fn name_or_word(alloc: Global, text: &[u8]) -> Result<Front, NoMemory>
     requires { IsFirstInClass ByteClass.NameStart text.now }
     ensures { IfOk result (IsTokenFront text.now) }
@@ -57,36 +57,36 @@ fn name_or_word(alloc: Global, text: &[u8]) -> Result<Front, NoMemory>
     Ok(Front { tok, length })
 }
 
-// The number at the front of a text that begins with a digit.
+/// The number at the front of a text that begins with a digit.
 fn number(text: &[u8]) -> Front
     requires { IsFirstInClass ByteClass.Digit text.now }
     ensures { IsTokenFront text.now result }
 {
     let base = Base::at_front(text);
-    let from = base.prefix();
-    let behind = &text[from..];
-    let count = base.digits().run(behind);
-    let value = base.number(&behind[..count]);
-    let ext = ByteClass::Mark.begins(&behind[count..]);
+    let prefix = base.prefix();
+    let rest = &text[prefix..];
+    let count = base.digits().run(rest);
+    let value = base.number(&rest[..count]);
+    let ext = ByteClass::Mark.begins(&rest[count..]);
     Front {
         tok: Tok::Num { value, ext },
-        length: from + count + usize::from(ext),
+        length: prefix + count + usize::from(ext),
     }
 }
 
-// The string at the front of a text that begins with a quote, or None where it is not closed.
+/// The string at the front of a text that begins with a quote, or None where it is not closed.
 fn string(alloc: Global, text: &[u8]) -> Result<Option<Front>, NoMemory>
     requires { IsFirstInClass ByteClass.Quote text.now }
     ensures { IfOk result (λ found.
         MatchOption found (HasNoToken text.now) (IsTokenFront text.now)) }
 {
-    let inside = &text[1..];
-    let length = ByteClass::Plain.run(inside);
-    if !ByteClass::Quote.begins(&inside[length..]) {
+    let rest = &text[1..];
+    let length = ByteClass::Plain.run(rest);
+    if !ByteClass::Quote.begins(&rest[length..]) {
         return Ok(None);
     }
     Ok(Some(Front {
-        tok: Tok::Str(Text::make(alloc, &inside[..length])?),
+        tok: Tok::Str(Text::make(alloc, &rest[..length])?),
         length: length + 2,
     }))
 }

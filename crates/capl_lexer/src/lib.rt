@@ -6,16 +6,18 @@
 #![tactic(auto)]
 
 pub use decimal::decimal_number;
-pub use lexer::{LexRefusal, lex};
 pub use names::is_name;
+pub use reading::lex;
+pub use refusal::LexRefusal;
 pub use token::{Sign, Tok, Token, Word};
 
 mod base;
 mod byte_class;
 mod decimal;
 mod front;
-mod lexer;
 mod names;
 mod position;
+mod reading;
+mod refusal;
 mod token;
 mod words;

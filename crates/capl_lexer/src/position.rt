@@ -2,7 +2,7 @@
 
 ghost use Rattle.std.specs.Prelude.{◌≡◌, ◌+◌, ◌<◌, ◌≤◌, length};
 ghost use Rattle.capl_lexer.specs.Reading.{start_of};
-ghost use Rattle.capl_lexer.specs.Position.{IsPositionIn};
+ghost use Rattle.capl_lexer.specs.Inside.Position.{IsPositionIn};
 
 /// A place in a text, with its line and its column.
 #[derive(Clone, Copy, Debug)]
@@ -48,7 +48,7 @@ impl Position {
         position
     }
 
-    // The position one byte on.
+    /// The position one byte on.
     fn next(self, text: &[u8]) -> Position
         requires at { IsPositionIn text.now self }
         requires within { self.place < length text.now }

@@ -1,16 +1,14 @@
 // How reserved words and signs are written.
 
-ghost use Rattle.std.specs.Prelude.{◌≡◌, ◌≢◌, ◌∷◌, [], MatchOption};
+ghost use Rattle.std.specs.Prelude.{◌≡◌, ◌∷◌, []};
+ghost use Rattle.items.specs.Search.{Finds};
 ghost use Rattle.capl_lexer.specs.Spelling.{word_spelling, sign_spelling};
-ghost use Rattle.capl_lexer.specs.declared.token.Word.{Word};
-ghost use Rattle.capl_lexer.specs.declared.token.Sign.{Sign};
 
 use crate::token::{Sign, Word};
 
-// The reserved word that the bytes spell.
+/// The reserved word that the bytes spell, or None where they spell none.
 pub(crate) fn reserved_word(bytes: &[u8]) -> Option<Word>
-    ensures { MatchOption result
-        ((word : Word) → bytes.now ≢ word_spelling word) (λ word. bytes.now ≡ word_spelling word) }
+    ensures { Finds (λ word. bytes.now ≡ word_spelling word) result }
 {
     Word::ALL
         .iter()
@@ -18,10 +16,9 @@ pub(crate) fn reserved_word(bytes: &[u8]) -> Option<Word>
         .find(|word| word.spelling() == bytes)
 }
 
-// The sign that the byte spells.
+/// The sign that the byte spells, or None where it spells none.
 pub(crate) fn sign_of(byte: u8) -> Option<Sign>
-    ensures { MatchOption result
-        ((sign : Sign) → byte ∷ [] ≢ sign_spelling sign) (λ sign. byte ∷ [] ≡ sign_spelling sign) }
+    ensures { Finds (λ sign. byte ∷ [] ≡ sign_spelling sign) result }
 {
     match byte {
         b'{' => Some(Sign::OpenBrace),

@@ -1,5 +1,6 @@
+-- The run of name bytes is a reserved word or a name.
 use Rattle.std.proofs.Common.{sym, subst}
-use Rattle.capl_lexer.specs.Front.{IsTokenFront}
+use Rattle.capl_lexer.specs.Inside.Front.{IsTokenFront}
 use Rattle.capl_lexer.specs.declared.token.Tok.{Tok}
 use Rattle.capl_lexer.proofs.FrontLemmas.{word_front, name_front}
 use Rattle.capl_lexer.proofs.front.name_or_word.Goals as goal

@@ -1,7 +1,8 @@
+-- The run of plain bytes is a string where a quote follows it.
 use Rattle.std.proofs.Common.{◌≡◌, ℕ, ◌-◌, List, [], ◌∷◌, drop, take, length, ap, ◌∙◌, sym, subst}
 use Rattle.std.proofs.lemmas.List.{take_rest}
 use Rattle.std.proofs.lemmas.Bool.{iff_false}
-use Rattle.capl_lexer.specs.Run.{IsFirstInClass, IsRun}
+use Rattle.capl_lexer.specs.Inside.ByteClass.{IsFirstInClass, IsRun}
 use Rattle.capl_lexer.specs.declared.byte_class.ByteClass.TheVariants as class
 use Rattle.capl_lexer.proofs.FrontLemmas.{string_none, string_front}
 use Rattle.capl_lexer.proofs.front.string.Goals as goal

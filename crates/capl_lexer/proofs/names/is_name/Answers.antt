@@ -1,10 +1,11 @@
+-- Bytes are a name where they are one run of name bytes and no reserved word.
 use Rattle.std.proofs.Common.{rules, arith, subst}
 use Rattle.std.proofs.lemmas.Bool.{false≢true}
 use Rattle.std.specs.Prelude.{IsTrue}
-use Rattle.capl_lexer.specs.Run.{IsFirstInClass}
+use Rattle.capl_lexer.specs.Inside.ByteClass.{IsFirstInClass}
 use Rattle.capl_lexer.specs.Spelling.{IsName}
 use Rattle.capl_lexer.specs.declared.byte_class.ByteClass.TheVariants as class
-use Rattle.capl_lexer.proofs.NameTests.{name_is_run, name_by_words, is_none_is}
+use Rattle.capl_lexer.proofs.NameLemmas.{name_is_run, name_by_words, is_none_is}
 use Rattle.capl_lexer.proofs.names.is_name.Goals as goal
 
 pub returns : goal.returns

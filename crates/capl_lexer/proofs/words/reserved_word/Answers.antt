@@ -1,3 +1,4 @@
+-- The word that is found has these bytes, and where none is found no word has.
 use Rattle.std.proofs.Common.{rules, tests, ◌≡◌, option_map, Option, Some, None, refl, sym, ◌∙◌}
 use Rattle.std.specs.Str.{bytes_eq}
 use Rattle.std.proofs.lemmas.Iterator.{YieldsList-from_slice}

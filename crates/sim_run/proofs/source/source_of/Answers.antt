@@ -4,7 +4,7 @@ use Rattle.sim_run.specs.Program.{IsProgram}
 use Rattle.sim_run.proofs.source.source_of.Goals as goal
 
 pub returns-in-Err-Bad : goal.returns-in-Err-Bad
-returns-in-Err-Bad c = λ tree frames is. (rw c.in-Err-Bad.field-0-is at c.in-Err-Bad.ensures.refused) is.spelled.0 is.spelled.1
+returns-in-Err-Bad c = λ tree frames is. (rw c.in-Err-Bad.field-0-is at c.in-Err-Bad.ensures.no_reading) is.spelled.0 is.spelled.1
 
 pub returns-in-Err-NotSpelled : goal.returns-in-Err-NotSpelled
 returns-in-Err-NotSpelled c = λ tree frames is.

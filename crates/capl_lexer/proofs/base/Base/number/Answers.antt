@@ -1,11 +1,12 @@
+-- Where the digits so far pass 64 bits, so do all digits.
 use Rattle.std.proofs.Common.{◌≡◌, ◌^◌, ◌≤◌, ◌+◌, ◌*◌, take, ap, ◌∙◌, arith}
 use Rattle.std.proofs.lemmas.List.{take_all}
 use Rattle.capl_lexer.specs.Bytes.{number_in}
 use Rattle.capl_lexer.specs.Spelling.{number_of_64_bits}
-use Rattle.capl_lexer.specs.Base.{radix_of}
+use Rattle.capl_lexer.specs.Inside.Base.{radix_of}
 use Rattle.capl_lexer.specs.declared.base.Base.{Base}
 use Rattle.capl_lexer.specs.declared.base.Base.TheVariants.{Ten, Sixteen}
-use Rattle.capl_lexer.proofs.Numbers.{number_in-more, number_in-take-le, number_of_64_bits-above, number_of_64_bits-below}
+use Rattle.capl_lexer.proofs.NumberLemmas.{number_in-more, number_in-take-le, number_of_64_bits-above, number_of_64_bits-below}
 use Rattle.capl_lexer.proofs.base.Base.number.Goals as goal
 
 radix_of-positive : (base : Base) → 1 ≤ radix_of base

@@ -1,7 +1,8 @@
+-- The bytes before the first other one, or all bytes, are the run.
 use Rattle.std.proofs.Common.{◌≡◌, ℕ, List, All, take, drop, length, [], arith, subst}
 use Rattle.std.proofs.lemmas.List.{drop_all}
 use Rattle.std.proofs.lemmas.List.Elements.{All-more}
-use Rattle.capl_lexer.specs.Run.{IsInClass, IsFirstInClass}
+use Rattle.capl_lexer.specs.Inside.ByteClass.{IsInClass, IsFirstInClass}
 use Rattle.capl_lexer.proofs.byte_class.ByteClass.run.Goals as goal
 
 pub loop-place-preserved : goal.loop-place-preserved

@@ -1,5 +1,6 @@
+-- The bytes so far are of the class.
 use Rattle.std.proofs.Common.{take, All}
-use Rattle.capl_lexer.specs.Run.{IsInClass}
+use Rattle.capl_lexer.specs.Inside.ByteClass.{IsInClass}
 use Rattle.capl_lexer.proofs.byte_class.ByteClass.run.Given as goal
 
 abbrev pub invariant-loop-place : goal.invariant-loop-place

@@ -8,7 +8,7 @@ use Rattle.capl_lexer.specs.declared.token.Sign.TheVariants as sign
 use Rattle.capl_lexer.specs.declared.token.Tok.{Tok}
 use Rattle.capl_lexer.specs.declared.token.Tok.TheVariants as tok
 use Rattle.capl_lexer.specs.declared.token.Token.{Token}
-use Rattle.capl_lexer.proofs.Spellings.{Begins, spelling-front, spelling-unique}
+use Rattle.capl_lexer.proofs.SpellingLemmas.{Begins, spelling-front, spelling-unique}
 
 -- no piece stands at the front of the text
 abbrev pub HasNoFront : List ℕ → Type 0
@@ -48,6 +48,7 @@ pub record IsSamePiece (piece other : Piece) (rest after : List ℕ) : Type 0 wh
   pub one_piece : piece ≡ other
   pub one_rest : rest ≡ after
 
+-- the piece at the front of a text and what follows it
 pub front-unique : (text : List ℕ) (piece other : Piece) (rest after : List ℕ)
     → IsFront piece text rest → IsFront other text after → IsSamePiece piece other rest after
 front-unique text (Blank byte) (Blank same) rest after (blank, split) (also, again) =

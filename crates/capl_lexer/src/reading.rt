@@ -2,52 +2,18 @@
 
 ghost use Rattle.std.specs.Prelude.{◌≡◌, ◌<◌, ◌^◌, List, IfOk, IfErr, MatchOption, drop, length};
 ghost use Rattle.capl_lexer.specs.Reading.{IsReading};
-ghost use Rattle.capl_lexer.specs.Position.{IsPositionIn};
-ghost use Rattle.capl_lexer.specs.Front.{HasNoToken, IsTokenAt};
+ghost use Rattle.capl_lexer.specs.Inside.Position.{IsPositionIn};
+ghost use Rattle.capl_lexer.specs.Inside.Front.{HasNoToken, IsTokenAt};
 ghost use Rattle.capl_lexer.specs.Refusal.{IsRefusalOf, RefusesAllReadings};
 ghost use Rattle.capl_lexer.specs.declared.token.Token.{Token};
 
 use crate::byte_class::ByteClass;
 use crate::front::token_front;
 use crate::position::Position;
+use crate::refusal::LexRefusal;
 use crate::token::Token;
 use sim_outside::NoMemory;
-use std::alloc::{AllocFailed, Global};
-
-/// Why a text was not read.
-#[derive(Debug, Drop)]
-pub enum LexRefusal {
-    /// No blank and no token begins at this line and column, both counted from 1. A column counts
-    /// bytes.
-    Bad {
-        /// The line.
-        line: u32,
-        /// The column.
-        column: u32,
-    },
-    /// There was no memory for the tokens.
-    NoMemory,
-}
-
-impl From<NoMemory> for LexRefusal {
-    ghost use Rattle.capl_lexer.specs.declared.lexer.LexRefusal.{LexRefusal};
-
-    ghost from_gives = { λ _ refusal. refusal ≡ LexRefusal.NoMemory };
-
-    fn from(_: NoMemory) -> LexRefusal {
-        LexRefusal::NoMemory
-    }
-}
-
-impl<T: Drop> From<AllocFailed<T>> for LexRefusal {
-    ghost use Rattle.capl_lexer.specs.declared.lexer.LexRefusal.{LexRefusal};
-
-    ghost from_gives = { λ _ refusal. refusal ≡ LexRefusal.NoMemory };
-
-    fn from(_: AllocFailed<T>) -> LexRefusal {
-        LexRefusal::NoMemory
-    }
-}
+use std::alloc::Global;
 
 /// The tokens of the text, in order, with their places, lines and columns. Refuses the text at the
 /// first place at which no piece begins. Takes time and memory linear in the bytes.
@@ -60,8 +26,8 @@ pub fn lex(alloc: Global, bytes: &[u8]) -> Result<Vec<Token>, LexRefusal>
         (others : List Token) → IsReading bytes.now others → others ≡ tokens.items) }
 
     // A text is refused at its bad place, and then it has no reading.
-    ensures bad { IfErr result (IsRefusalOf bytes.now) }
-    ensures refused { IfErr result (RefusesAllReadings bytes.now) }
+    ensures refusal { IfErr result (IsRefusalOf bytes.now) }
+    ensures no_reading { IfErr result (RefusesAllReadings bytes.now) }
 {
     let mut tokens = Vec::new(alloc);
     let mut position = Position::start(bytes);
@@ -82,7 +48,7 @@ pub fn lex(alloc: Global, bytes: &[u8]) -> Result<Vec<Token>, LexRefusal>
     Ok(tokens)
 }
 
-// The longest token at the position, or None where none stands there.
+/// The longest token at the position, or None where none stands there.
 fn token_at(alloc: Global, bytes: &[u8], position: Position) -> Result<Option<Token>, NoMemory>
     requires fits { length bytes.now < 2 ^ 32 }
     requires at { IsPositionIn bytes.now position }

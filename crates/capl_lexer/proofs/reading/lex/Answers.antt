@@ -1,13 +1,14 @@
+-- Each piece extends the reading, and at the end of the text it is whole.
 use Rattle.std.proofs.Common.{◌≡◌, ◌++◌, [], ◌∷◌, drop, sym, subst, arith, Option, MatchOption}
 use Rattle.std.proofs.lemmas.List.{take_rest}
 use Rattle.std.proofs.lemmas.Bool.{iff_false}
-use Rattle.capl_lexer.specs.Run.{IsFirstInClass}
-use Rattle.capl_lexer.specs.Front.{HasNoToken, IsTokenAt}
+use Rattle.capl_lexer.specs.Inside.ByteClass.{IsFirstInClass}
+use Rattle.capl_lexer.specs.Inside.Front.{HasNoToken, IsTokenAt}
 use Rattle.capl_lexer.specs.declared.byte_class.ByteClass.TheVariants as class
 use Rattle.capl_lexer.specs.declared.token.Token.{Token}
-use Rattle.capl_lexer.proofs.Readings.{reading-unique, bad_place-reading}
-use Rattle.capl_lexer.proofs.Steps.{HasRead, read_blank, read_token, token_at-positive, reading_from, bad_place_from, line-le, column-le}
-use Rattle.capl_lexer.proofs.lexer.lex.Goals as goal
+use Rattle.capl_lexer.proofs.ReadingLemmas.{reading-unique, bad_place-reading}
+use Rattle.capl_lexer.proofs.PartialReadingLemmas.{HasRead, read_blank, read_token, token_at-positive, reading_from, bad_place_from, line-le, column-le}
+use Rattle.capl_lexer.proofs.reading.lex.Goals as goal
 
 pub loop-position-preserved-then-begins : goal.loop-position-preserved-then-begins
 loop-position-preserved-then-begins c =
@@ -26,8 +27,8 @@ overflow_cast-result c = omega (arith, line-le c.args.bytes.now c.loop-position.
 pub overflow_cast-result-in_default : goal.overflow_cast-result-in_default
 overflow_cast-result-in_default c = omega (arith, column-le c.args.bytes.now c.loop-position.position c.loop-position.invariant.at, c.loop-position-test.true, c.requires)
 
-pub returns-in_default-clause-refused : goal.returns-in_default-clause-refused
-returns-in_default-clause-refused c = λ tokens reading.
+pub returns-in_default-clause-no_reading : goal.returns-in_default-clause-no_reading
+returns-in_default-clause-no_reading c = λ tokens reading.
     let text = c.args.bytes.now in
     let place = c.loop-position.position.place in
     let no_blank = λ (blank : IsFirstInClass class.Blank (drop place text)).

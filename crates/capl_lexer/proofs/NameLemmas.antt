@@ -1,13 +1,14 @@
 -- When bytes are a name, by their first byte and the run of name bytes at their front.
 use Rattle.std.proofs.Common.{refl, ◌≡◌, ◌≢◌, ◌≤◌, ℕ, List, [], ◌∷◌, length, sym}
-use Rattle.std.specs.Prelude.{Bool, true, false, not, Option, Some, None, MatchOption, IsTrue, is_none, is_some}
+use Rattle.std.specs.Prelude.{Bool, true, false, not, Option, Some, None, IsTrue, is_none, is_some}
 use Rattle.std.proofs.lemmas.Bool.{false≢true}
+use Rattle.items.specs.Search.{Finds}
 use Rattle.capl_lexer.specs.Bytes.{IsNameFront}
-use Rattle.capl_lexer.specs.Run.{IsFirstInClass, IsRun}
+use Rattle.capl_lexer.specs.Inside.ByteClass.{IsFirstInClass, IsRun}
 use Rattle.capl_lexer.specs.Spelling.{IsName, word_spelling}
 use Rattle.capl_lexer.specs.declared.byte_class.ByteClass.TheVariants as class
 use Rattle.capl_lexer.specs.declared.token.Word.{Word}
-use Rattle.capl_lexer.proofs.Runs.{run-whole, whole-run}
+use Rattle.capl_lexer.proofs.ByteClassLemmas.{run-whole, whole-run}
 
 -- the first byte is that of a name
 pub first_from_front : (bytes : List ℕ) → IsNameFront bytes → IsFirstInClass class.NameStart bytes
@@ -34,7 +35,7 @@ name_from_run bytes count first run whole free =
 
 -- whether no word was found tells whether the bytes are a name
 pub name_by_words : (bytes : List ℕ) (count : ℕ) (found : Option Word) → IsFirstInClass class.NameStart bytes → IsRun class.NamePart bytes count → length bytes ≤ count →
-    MatchOption found ((word : Word) → bytes ≢ word_spelling word) (λ word. bytes ≡ word_spelling word) →
+    Finds (λ (word : Word). bytes ≡ word_spelling word) found →
     (IsTrue (is_none found) → IsName bytes) × (IsName bytes → IsTrue (is_none found))
 name_by_words bytes count None first run whole free = ((λ yes. name_from_run bytes count first run whole free), (λ name. refl))
 name_by_words bytes count (Some word) first run whole is = ((λ no. absurd (false≢true no)), (λ name. absurd (name.not_reserved word is)))

@@ -7,14 +7,14 @@ use Rattle.std.proofs.lemmas.List.{append_assoc, append-nil, take-append-drop, d
 use Rattle.capl_lexer.specs.Bytes.{IsBlank}
 use Rattle.capl_lexer.specs.Spelling.{Spells}
 use Rattle.capl_lexer.specs.Reading.{Piece, Blank, Lexeme, IsFront, AreFront, IsLongest, start_of, line_at, column_at, tokens_at, IsReading, IsBadPlace}
-use Rattle.capl_lexer.specs.Run.{IsFirstInClass}
-use Rattle.capl_lexer.specs.Front.{HasNoToken, IsTokenAt}
-use Rattle.capl_lexer.specs.Position.{IsPositionIn}
+use Rattle.capl_lexer.specs.Inside.ByteClass.{IsFirstInClass}
+use Rattle.capl_lexer.specs.Inside.Front.{HasNoToken, IsTokenAt}
+use Rattle.capl_lexer.specs.Inside.Position.{IsPositionIn}
 use Rattle.capl_lexer.specs.declared.byte_class.ByteClass.TheVariants as class
 use Rattle.capl_lexer.specs.declared.position.Position.{Position}
 use Rattle.capl_lexer.specs.declared.token.Tok.{Tok}
 use Rattle.capl_lexer.specs.declared.token.Token.{Token}
-use Rattle.capl_lexer.proofs.Spellings.{spelling-front}
+use Rattle.capl_lexer.proofs.SpellingLemmas.{spelling-front}
 
 -- pieces that give these tokens lead from the beginning to the place
 pub record HasRead (text : List ℕ) (place : ℕ) (tokens : List Token) : Type 0 where

@@ -127,6 +127,7 @@ spelling-front bytes (tok.Str text) (is, plain) = record { first = 34; others = 
 abbrev pub class_of : ℕ → ℕ
 class_of byte = cond (eqb byte 34) 3 (cond (is_name_start byte) 0 (cond (ltb byte 48) 1 (cond (ltb byte 58) 2 1)))
 
+-- the class of a token
 abbrev pub class_of_token : Tok → ℕ
 class_of_token (tok.Name text) = 0
 class_of_token (tok.Word reserved) = 0
@@ -138,12 +139,15 @@ class_at : (byte other class : ℕ) → other ∷ [] ≡ byte ∷ [] → class_o
     → class_of byte ≡ class
 class_at byte other class same is = let at : other ≡ byte = cc in subst (λ b. class_of b ≡ class) at is
 
+-- the first byte of a name is of the class of names
 pub name_class : (byte : ℕ) → IsNameStart byte → class_of byte ≡ 0
 name_class byte start = grind (arith, nat_tests)
 
+-- a digit is of the class of numbers
 pub digit_class : (byte : ℕ) → IsDigit byte → class_of byte ≡ 2
 digit_class byte digit = grind (arith, nat_tests)
 
+-- a byte that begins a token is of the token's class
 pub begins-class : (token : Tok) (byte : ℕ) → Begins token byte → class_of byte ≡ class_of_token token
 begins-class (tok.Name text) byte start = name_class byte start
 begins-class (tok.Word reserved) byte start = name_class byte start
@@ -240,6 +244,7 @@ pub marked_at : (bytes digits : List ℕ) (ext : Bool) (k : ℕ) → IsMarked by
 marked_at bytes digits true k (mark, is_mark, is) within = ap (λ b. get_or b k 0) is ∙ get_or_append_left digits (mark ∷ []) 0 k within
 marked_at bytes digits false k is within = ap (λ b. get_or b k 0) is
 
+-- a list that is not empty has an item
 pub nonempty-length : (bytes : List ℕ) → bytes ≢ [] → 0 < length bytes
 nonempty-length [] some = absurd (some refl)
 nonempty-length (byte ∷ bytes) some = omega arith

@@ -37,9 +37,10 @@ number_in-take-le base digits k some =
     fold-grows base (number_in base (take k digits)) (drop k digits) some in
     omega (arith, whole, grows)
 
--- a number that passes 64 bits is none of them
+-- a number from 2^64 on is none of 64 bits
 pub number_of_64_bits-above : (number : ℕ) → 2 ^ 64 ≤ number → None ≡ number_of_64_bits number
 number_of_64_bits-above number above = grind (arith, nat_tests)
 
+-- a number below 2^64 is one of 64 bits
 pub number_of_64_bits-below : (number : ℕ) → number < 2 ^ 64 → Some number ≡ number_of_64_bits number
 number_of_64_bits-below number below = grind (arith, nat_tests)

@@ -8,7 +8,7 @@ use crate::{decimal_number, is_name};
 use std::process::Abort;
 use std::test::Fail;
 
-// What a token shall be.
+/// What a token shall be.
 #[derive(Clone, Copy)]
 enum Expected<'a> {
     Name(&'a [u8]),
@@ -19,6 +19,7 @@ enum Expected<'a> {
     Str(&'a [u8]),
 }
 
+/// Whether the token is the expected one.
 fn is_expected(tok: &Tok, expected: Expected<'_>) -> bool {
     match (tok, expected) {
         (Tok::Name(name), Expected::Name(bytes)) => name.bytes() == bytes,
@@ -31,7 +32,7 @@ fn is_expected(tok: &Tok, expected: Expected<'_>) -> bool {
     }
 }
 
-// Each token as expected, with its place, its line and its column.
+/// Each token is as expected, with its place, its line and its column.
 fn expect(rt: &impl Abort, tokens: &[Token], expected: &[(Expected<'_>, u32, u32, u32, u32)]) {
     assert!(rt; tokens.len() == expected.len());
     for (token, (tok, from, to, line, column)) in tokens.iter().zip(expected) {

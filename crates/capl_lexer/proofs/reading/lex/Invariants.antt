@@ -1,7 +1,8 @@
+-- The tokens so far are those of the pieces up to the position.
 use Rattle.std.proofs.Common.{length, ◌-◌}
-use Rattle.capl_lexer.specs.Position.{IsPositionIn}
-use Rattle.capl_lexer.proofs.Steps.{HasRead}
-use Rattle.capl_lexer.proofs.lexer.lex.Given as goal
+use Rattle.capl_lexer.specs.Inside.Position.{IsPositionIn}
+use Rattle.capl_lexer.proofs.PartialReadingLemmas.{HasRead}
+use Rattle.capl_lexer.proofs.reading.lex.Given as goal
 
 abbrev pub invariant-loop-position : goal.invariant-loop-position
 invariant-loop-position l = record {

@@ -5,7 +5,7 @@ use Rattle.std.proofs.Math.Seq.{take-length}
 use Rattle.std.proofs.lemmas.Grind.{common_steps}
 use Rattle.std.proofs.lemmas.List.{append-nil}
 use Rattle.std.proofs.lemmas.List.{get_or_append_left, get_or_at, get_or-take}
-use Rattle.capl_lexer.specs.Run.{IsInClass, IsFirstInClass, IsRun}
+use Rattle.capl_lexer.specs.Inside.ByteClass.{IsInClass, IsFirstInClass, IsRun}
 use Rattle.capl_lexer.specs.declared.byte_class.ByteClass.{ByteClass}
 
 -- the byte at a place is the first of what follows the place

@@ -1,0 +1,5 @@
+-- What this crate's own functions are proved by; no contract of a public function rests on it.
+pub mod ByteClass
+pub mod Base
+pub mod Front
+pub mod Position
