@@ -1,3 +1,4 @@
-pub mod Files
-pub mod Parts
-pub mod Trees
+-- The lemmas of this crate.
+pub mod FileLemmas
+pub mod PartLemmas
+pub mod SpellingLemmas

@@ -1,2 +1,4 @@
-pub mod Front
+-- The definitions of this crate.
 pub mod Spelling
+pub mod Refusal
+pub mod Inside

@@ -50,8 +50,8 @@ ending_tokens rtr = remote_tokens rtr ++ Sign sign.CloseBrace ∷ Sign sign.Semi
 -- `message NUMBER NAME = { dlc = NUMBER , rtr = NUMBER } ;`
 abbrev pub declaration_tokens : Declaration → List Tok
 declaration_tokens declaration =
-    Word word.Message ∷ number_token declaration.identifier ∷ Name declaration.name ∷ Sign sign.Assign ∷ Sign sign.OpenBrace
-    ∷ field_tokens (Name (codes "dlc")) declaration.dlc
+    Word word.Message ∷ number_token declaration.identifier ∷ Name declaration.name
+    ∷ Sign sign.Assign ∷ Sign sign.OpenBrace ∷ field_tokens (Name (codes "dlc")) declaration.dlc
     ++ ending_tokens declaration.rtr
 
 -- part after part, and `}`
@@ -61,11 +61,13 @@ closed_tokens part_tokens parts = flat_map part_tokens parts ++ Sign sign.CloseB
 -- `variables { .. }`, where it stands
 abbrev pub variables_tokens : Option (List Declaration) → List Tok
 variables_tokens None = []
-variables_tokens (Some declarations) = Word word.Variables ∷ Sign sign.OpenBrace ∷ closed_tokens declaration_tokens declarations
+variables_tokens (Some declarations) =
+    Word word.Variables ∷ Sign sign.OpenBrace ∷ closed_tokens declaration_tokens declarations
 
 -- `on start { .. }`
 abbrev pub start_tokens : List Statement → List Tok
-start_tokens statements = Word word.On ∷ Name (codes "start") ∷ Sign sign.OpenBrace ∷ closed_tokens statement_tokens statements
+start_tokens statements =
+    Word word.On ∷ Name (codes "start") ∷ Sign sign.OpenBrace ∷ closed_tokens statement_tokens statements
 
 -- no token, or the variables, where they stand, and the procedure
 abbrev pub spelling : FileTree → List Tok

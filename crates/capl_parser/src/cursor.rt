@@ -2,7 +2,7 @@
 
 ghost use Rattle.std.specs.Prelude.{◌≡◌, ◌==◌, [], ◌∷◌, length, IfOk, OnOk, IsErrOf};
 ghost use Rattle.std.specs.Bool.{OnTrue, OnFalse};
-ghost use Rattle.capl_parser.specs.Front.{IsFront, IsNoFront, NoneAtFront};
+ghost use Rattle.capl_parser.specs.Inside.Cursor.{IsFront, IsNoFront, NoneAtFront};
 ghost use Rattle.capl_parser.specs.Spelling.{number_token};
 
 use crate::refusal::ParseRefusal;
@@ -12,7 +12,7 @@ use sim_outside::Text;
 use std::alloc::Global;
 use std::marker::Model;
 
-// The tokens that are left, and where the parts that are read get their memory.
+/// The tokens that are left, and where the parts that are read get their memory.
 #[derive(Drop)]
 pub(crate) struct Cursor<'a> {
     alloc: Global,
@@ -29,6 +29,7 @@ impl<'a> Model for Cursor<'a> {
 }
 
 impl<'a> Cursor<'a> {
+    /// The tokens from the first on.
     pub(crate) fn new(alloc: Global, tokens: &'a [Token]) -> Cursor<'a>
         ensures { result ≡ tokens.now }
     {
@@ -38,17 +39,19 @@ impl<'a> Cursor<'a> {
         }
     }
 
+    /// Where the parts that are read get their memory.
     pub(crate) fn alloc(&self) -> Global {
         self.alloc
     }
 
+    /// Whether no token is left.
     pub(crate) fn is_empty(&self) -> bool
         ensures { result ≡ (length self.now == 0) }
     {
         self.rest.is_empty()
     }
 
-    // Takes this sign where it stands at the front, and says whether it did.
+    /// Takes this sign where it stands at the front, and says whether it did.
     pub(crate) fn take_sign(&mut self, sign: Sign) -> bool
         ensures taken { OnTrue result (IsFront (Tok.Sign sign ∷ []) self.old self.new) }
         ensures none { OnFalse result (IsNoFront (Tok.Sign sign ∷ []) self.old) }
@@ -66,7 +69,7 @@ impl<'a> Cursor<'a> {
         }
     }
 
-    // Takes this reserved word where it stands at the front, and says whether it did.
+    /// Takes this reserved word where it stands at the front, and says whether it did.
     pub(crate) fn take_word(&mut self, word: Word) -> bool
         ensures taken { OnTrue result (IsFront (Tok.Word word ∷ []) self.old self.new) }
         ensures none { OnFalse result (IsNoFront (Tok.Word word ∷ []) self.old) }
@@ -84,7 +87,7 @@ impl<'a> Cursor<'a> {
         }
     }
 
-    // Takes this name where it stands at the front, and says whether it did.
+    /// Takes this name where it stands at the front, and says whether it did.
     pub(crate) fn take_name(&mut self, name: &[u8]) -> bool
         ensures taken { OnTrue result (IsFront (Tok.Name name.now ∷ []) self.old self.new) }
         ensures none { OnFalse result (IsNoFront (Tok.Name name.now ∷ []) self.old) }
@@ -102,7 +105,7 @@ impl<'a> Cursor<'a> {
         }
     }
 
-    // Takes this sign, which has to stand at the front.
+    /// Takes this sign, which has to stand at the front.
     pub(crate) fn sign(&mut self, sign: Sign) -> Result<(), ParseRefusal>
         ensures spelled { OnOk result (IsFront (Tok.Sign sign ∷ []) self.old self.new) }
         ensures not_spelled { IsErrOf result ParseRefusal.NotSpelled
@@ -115,7 +118,7 @@ impl<'a> Cursor<'a> {
         }
     }
 
-    // Takes this reserved word, which has to stand at the front.
+    /// Takes this reserved word, which has to stand at the front.
     pub(crate) fn word(&mut self, word: Word) -> Result<(), ParseRefusal>
         ensures spelled { OnOk result (IsFront (Tok.Word word ∷ []) self.old self.new) }
         ensures not_spelled { IsErrOf result ParseRefusal.NotSpelled
@@ -128,7 +131,7 @@ impl<'a> Cursor<'a> {
         }
     }
 
-    // Takes this name, which has to stand at the front.
+    /// Takes this name, which has to stand at the front.
     pub(crate) fn given_name(&mut self, name: &[u8]) -> Result<(), ParseRefusal>
         ensures spelled { OnOk result (IsFront (Tok.Name name.now ∷ []) self.old self.new) }
         ensures not_spelled { IsErrOf result ParseRefusal.NotSpelled
@@ -141,7 +144,7 @@ impl<'a> Cursor<'a> {
         }
     }
 
-    // Takes the name at the front, which may be any.
+    /// Takes the name at the front, which may be any.
     pub(crate) fn name(&mut self) -> Result<Text, ParseRefusal>
         ensures spelled { IfOk result (λ name. IsFront (Tok.Name name ∷ []) self.old self.new) }
         ensures not_spelled { IsErrOf result ParseRefusal.NotSpelled
@@ -157,7 +160,7 @@ impl<'a> Cursor<'a> {
         Ok(Text::make(self.alloc, name.bytes())?)
     }
 
-    // Takes the string at the front.
+    /// Takes the string at the front.
     pub(crate) fn string(&mut self) -> Result<Text, ParseRefusal>
         ensures spelled { IfOk result (λ text. IsFront (Tok.Str text ∷ []) self.old self.new) }
         ensures not_spelled { IsErrOf result ParseRefusal.NotSpelled
@@ -173,7 +176,7 @@ impl<'a> Cursor<'a> {
         Ok(Text::make(self.alloc, text.bytes())?)
     }
 
-    // Takes the number at the front.
+    /// Takes the number at the front.
     pub(crate) fn number(&mut self) -> Result<Number, ParseRefusal>
         ensures spelled { IfOk result (λ number.
             IsFront (number_token number ∷ []) self.old self.new) }

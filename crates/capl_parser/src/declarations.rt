@@ -1,17 +1,18 @@
 // The reading of the block of variables.
 
 ghost use Rattle.std.specs.Prelude.{◌≡◌, [], ◌∷◌, IfOk, IsErrOf};
-ghost use Rattle.capl_parser.specs.Front.{IsFront, IsNoFront, NoneAtFront};
+ghost use Rattle.capl_parser.specs.Inside.Cursor.{IsFront, IsNoFront, NoneAtFront};
 ghost use Rattle.capl_parser.specs.Spelling.{kinds_of, field_tokens, ending_tokens, declaration_tokens, closed_tokens, variables_tokens, spelling};
 ghost use Rattle.capl_parser.specs.declared.tree.FileTree.{FileTree};
 
 use crate::cursor::Cursor;
 use crate::refusal::ParseRefusal;
-use crate::tree::{Declaration, Declarations, Number};
+use crate::tree::{Declaration, Number};
 use capl_lexer::{Sign, Tok, Word};
+use items::Items;
 
-// `variables { .. }`, where it stands.
-pub(crate) fn variables(cursor: &mut Cursor<'_>) -> Result<Option<Declarations>, ParseRefusal>
+/// `variables { .. }`, where it stands.
+pub(crate) fn variables(cursor: &mut Cursor<'_>) -> Result<Option<Items<Declaration>>, ParseRefusal>
     ensures spelled { IfOk result (λ variables.
         IsFront (variables_tokens variables) cursor.old cursor.new) }
     ensures absent { result ≡ Ok None → IsNoFront (Tok.Word Word.Variables ∷ []) cursor.old }
@@ -25,8 +26,8 @@ pub(crate) fn variables(cursor: &mut Cursor<'_>) -> Result<Option<Declarations>,
     Ok(Some(declarations(cursor)?))
 }
 
-// The declarations of a block, and its `}`.
-fn declarations(cursor: &mut Cursor<'_>) -> Result<Declarations, ParseRefusal>
+/// The declarations of a block, and its `}`.
+fn declarations(cursor: &mut Cursor<'_>) -> Result<Items<Declaration>, ParseRefusal>
     ensures spelled { IfOk result (λ declarations.
         IsFront (closed_tokens declaration_tokens declarations) cursor.old cursor.new) }
     ensures not_spelled { IsErrOf result ParseRefusal.NotSpelled
@@ -36,10 +37,10 @@ fn declarations(cursor: &mut Cursor<'_>) -> Result<Declarations, ParseRefusal>
     while !cursor.take_sign(Sign::CloseBrace) {
         list.push(declaration(cursor)?)?;
     }
-    Ok(Declarations::from_list(list))
+    Ok(Items::from_list(list))
 }
 
-// `message NUMBER NAME = { dlc = NUMBER, rtr = NUMBER };`
+/// `message NUMBER NAME = { dlc = NUMBER, rtr = NUMBER };`
 fn declaration(cursor: &mut Cursor<'_>) -> Result<Declaration, ParseRefusal>
     ensures spelled { IfOk result (λ declaration.
         IsFront (declaration_tokens declaration) cursor.old cursor.new) }
@@ -61,7 +62,7 @@ fn declaration(cursor: &mut Cursor<'_>) -> Result<Declaration, ParseRefusal>
     })
 }
 
-// `, rtr = NUMBER`, where it stands, and `};`
+/// `, rtr = NUMBER`, where it stands, and `};`
 fn ending(cursor: &mut Cursor<'_>) -> Result<Option<Number>, ParseRefusal>
     ensures spelled { IfOk result (λ rtr. IsFront (ending_tokens rtr) cursor.old cursor.new) }
     ensures not_spelled { IsErrOf result ParseRefusal.NotSpelled
@@ -78,7 +79,7 @@ fn ending(cursor: &mut Cursor<'_>) -> Result<Option<Number>, ParseRefusal>
     Ok(Some(rtr))
 }
 
-// `FIELD = NUMBER`
+/// `FIELD = NUMBER`
 fn field(cursor: &mut Cursor<'_>, name: &[u8]) -> Result<Number, ParseRefusal>
     ensures spelled { IfOk result (λ number.
         IsFront (field_tokens (Tok.Name name.now) number) cursor.old cursor.new) }

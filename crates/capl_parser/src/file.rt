@@ -1,6 +1,7 @@
 // The reading of a whole file.
 
-ghost use Rattle.std.specs.Prelude.{◌≡◌, IfOk, IsErrOf};
+ghost use Rattle.std.specs.Prelude.{◌≡◌, IfOk, IfErr};
+ghost use Rattle.capl_parser.specs.Refusal.{IsRefusalOf};
 ghost use Rattle.capl_parser.specs.Spelling.{kinds_of, spelling};
 ghost use Rattle.capl_parser.specs.declared.tree.FileTree.{FileTree};
 
@@ -21,8 +22,7 @@ pub fn parse(alloc: Global, tokens: &[Token]) -> Result<FileTree, ParseRefusal>
     ensures spelled { IfOk result (λ tree. kinds_of tokens.now ≡ spelling tree) }
     ensures only { IfOk result (λ tree.
         (other : FileTree) → kinds_of tokens.now ≡ spelling other → other ≡ tree) }
-    ensures not_spelled { IsErrOf result ParseRefusal.NotSpelled
-        → (tree : FileTree) → kinds_of tokens.now ≡ spelling tree → ⊥ }
+    ensures refusal { IfErr result (IsRefusalOf tokens.now) }
 {
     if tokens.is_empty() {
         return Ok(FileTree::Empty);
@@ -46,7 +46,7 @@ mod tests {
     use sim_outside::Text;
     use std::test::Fail;
 
-    // The token that this piece of a source is.
+    /// The token that this piece of a source is.
     fn tok_of(alloc: Global, piece: &str) -> Result<Tok, Fail> {
         Ok(match piece.as_bytes() {
             b"variables" => Tok::Word(Word::Variables),
@@ -68,7 +68,7 @@ mod tests {
         })
     }
 
-    // The tokens of a source whose pieces stand between blanks.
+    /// The tokens of a source whose pieces stand between blanks.
     fn tokens_of(alloc: Global, source: &str) -> Result<Vec<Token>, Fail> {
         let mut tokens = Vec::new(alloc);
         for piece in source.split_whitespace() {
@@ -83,7 +83,7 @@ mod tests {
         Ok(tokens)
     }
 
-    // How many declarations and statements a tree has.
+    /// How many declarations and statements a tree has.
     fn size(tree: &FileTree) -> (usize, usize) {
         match tree {
             FileTree::Empty => (0, 0),
@@ -109,7 +109,8 @@ mod tests {
             ),
             ("variables { } on start { }", Some((0, 0))),
             (
-                "variables { message 1 a = { dlc = 8 } ; message 2 b = { dlc = 0 , rtr = 1 } ; } on start { output ( b ) ; }",
+                "variables { message 1 a = { dlc = 8 } ; message 2 b = { dlc = 0 , rtr = 1 } ; } \
+                 on start { output ( b ) ; }",
                 Some((2, 1)),
             ),
             ("on start { output ( x ) }", None),

@@ -6,7 +6,7 @@
 
 pub use file::parse;
 pub use refusal::ParseRefusal;
-pub use tree::{Declaration, Declarations, FileTree, Number, Statement, Statements};
+pub use tree::{Declaration, FileTree, Number, Statement};
 
 mod cursor;
 mod declarations;

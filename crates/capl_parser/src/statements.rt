@@ -1,17 +1,18 @@
 // The reading of statements.
 
 ghost use Rattle.std.specs.Prelude.{◌≡◌, [], ◌∷◌, IfOk, OnOk, IsErrOf};
-ghost use Rattle.capl_parser.specs.Front.{IsFront, IsNoFront, NoneAtFront};
+ghost use Rattle.capl_parser.specs.Inside.Cursor.{IsFront, IsNoFront, NoneAtFront};
 ghost use Rattle.capl_parser.specs.Spelling.{argument_tokens, closed_tokens, statement_tokens, start_tokens};
 
 use crate::cursor::Cursor;
 use crate::refusal::ParseRefusal;
-use crate::tree::{Statement, Statements};
+use crate::tree::Statement;
 use capl_lexer::{Sign, Tok, Word};
+use items::Items;
 use sim_outside::Text;
 
-// `on start { .. }`
-pub(crate) fn start(cursor: &mut Cursor<'_>) -> Result<Statements, ParseRefusal>
+/// `on start { .. }`
+pub(crate) fn start(cursor: &mut Cursor<'_>) -> Result<Items<Statement>, ParseRefusal>
     ensures spelled { IfOk result (λ statements.
         IsFront (start_tokens statements) cursor.old cursor.new) }
     ensures not_spelled { IsErrOf result ParseRefusal.NotSpelled
@@ -23,8 +24,8 @@ pub(crate) fn start(cursor: &mut Cursor<'_>) -> Result<Statements, ParseRefusal>
     statements(cursor)
 }
 
-// The statements of a block, and its `}`.
-fn statements(cursor: &mut Cursor<'_>) -> Result<Statements, ParseRefusal>
+/// The statements of a block, and its `}`.
+fn statements(cursor: &mut Cursor<'_>) -> Result<Items<Statement>, ParseRefusal>
     ensures spelled { IfOk result (λ statements.
         IsFront (closed_tokens statement_tokens statements) cursor.old cursor.new) }
     ensures not_spelled { IsErrOf result ParseRefusal.NotSpelled
@@ -34,10 +35,10 @@ fn statements(cursor: &mut Cursor<'_>) -> Result<Statements, ParseRefusal>
     while !cursor.take_sign(Sign::CloseBrace) {
         list.push(statement(cursor)?)?;
     }
-    Ok(Statements::from_list(list))
+    Ok(Items::from_list(list))
 }
 
-// `write("TEXT");` or `output(NAME);`
+/// `write("TEXT");` or `output(NAME);`
 fn statement(cursor: &mut Cursor<'_>) -> Result<Statement, ParseRefusal>
     ensures spelled { IfOk result (λ statement.
         IsFront (statement_tokens statement) cursor.old cursor.new) }
@@ -52,7 +53,7 @@ fn statement(cursor: &mut Cursor<'_>) -> Result<Statement, ParseRefusal>
     }
 }
 
-// `("TEXT");`
+/// `("TEXT");`
 fn string_argument(cursor: &mut Cursor<'_>) -> Result<Text, ParseRefusal>
     ensures spelled { IfOk result (λ text.
         IsFront (argument_tokens (Tok.Str text)) cursor.old cursor.new) }
@@ -65,7 +66,7 @@ fn string_argument(cursor: &mut Cursor<'_>) -> Result<Text, ParseRefusal>
     Ok(text)
 }
 
-// `(NAME);`
+/// `(NAME);`
 fn name_argument(cursor: &mut Cursor<'_>) -> Result<Text, ParseRefusal>
     ensures spelled { IfOk result (λ name.
         IsFront (argument_tokens (Tok.Name name)) cursor.old cursor.new) }
@@ -78,7 +79,7 @@ fn name_argument(cursor: &mut Cursor<'_>) -> Result<Text, ParseRefusal>
     Ok(name)
 }
 
-// `);`
+/// `);`
 fn call_end(cursor: &mut Cursor<'_>) -> Result<(), ParseRefusal>
     ensures spelled { OnOk result
         (IsFront (Tok.Sign Sign.CloseParen ∷ Tok.Sign Sign.Semi ∷ []) cursor.old cursor.new) }

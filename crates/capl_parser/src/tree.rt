@@ -1,9 +1,7 @@
 // The tree of a source file.
 
-ghost use Rattle.std.specs.Prelude.{◌≡◌};
-
+use items::Items;
 use sim_outside::Text;
-use std::marker::Model;
 
 /// A source file: nothing, or an `on start` procedure, perhaps after a block of variables.
 #[derive(Debug, Drop)]
@@ -12,8 +10,8 @@ pub enum FileTree {
     Empty,
     /// `variables { .. }`, where it stands, and `on start { .. }`.
     Start {
-        variables: Option<Declarations>,
-        statements: Statements,
+        variables: Option<Items<Declaration>>,
+        statements: Items<Statement>,
     },
 }
 
@@ -42,64 +40,4 @@ pub enum Statement {
     Write(Text),
     /// `output(NAME);`
     Output(Text),
-}
-
-/// Declarations in order.
-#[derive(Debug, Drop)]
-pub struct Declarations {
-    list: Vec<Declaration>,
-}
-
-impl Model for Declarations {
-    ghost use Rattle.std.specs.Prelude.{List};
-    ghost use Rattle.capl_parser.specs.declared.tree.Declaration.{Declaration};
-
-    ghost Value = { List Declaration };
-
-    ghost view = { λ declarations. declarations.list.items };
-}
-
-impl Declarations {
-    pub(crate) fn from_list(list: Vec<Declaration>) -> Declarations
-        ensures { result ≡ list.items }
-    {
-        Declarations { list }
-    }
-
-    /// The declarations, in order.
-    pub fn as_slice(&self) -> &[Declaration]
-        ensures { result.now ≡ self.now }
-    {
-        self.list.as_slice()
-    }
-}
-
-/// Statements in order.
-#[derive(Debug, Drop)]
-pub struct Statements {
-    list: Vec<Statement>,
-}
-
-impl Model for Statements {
-    ghost use Rattle.std.specs.Prelude.{List};
-    ghost use Rattle.capl_parser.specs.declared.tree.Statement.{Statement};
-
-    ghost Value = { List Statement };
-
-    ghost view = { λ statements. statements.list.items };
-}
-
-impl Statements {
-    pub(crate) fn from_list(list: Vec<Statement>) -> Statements
-        ensures { result ≡ list.items }
-    {
-        Statements { list }
-    }
-
-    /// The statements, in order.
-    pub fn as_slice(&self) -> &[Statement]
-        ensures { result.now ≡ self.now }
-    {
-        self.list.as_slice()
-    }
 }

@@ -3,7 +3,7 @@ use Rattle.std.proofs.Common.{◌≡◌, ℕ, List, [], ◌∷◌, Option, Some,
 use Rattle.std.specs.Prelude.{◌⊎◌, None, IfSome, MatchOption}
 use Rattle.can_frame.specs.Frame.{FrameFields}
 use Rattle.capl_lexer.proofs.ReadingLemmas.{reading-unique}
-use Rattle.capl_parser.proofs.Trees.{spelling_unique}
+use Rattle.capl_parser.proofs.SpellingLemmas.{spelling_unique}
 use Rattle.capl_parser.specs.declared.tree.FileTree.{FileTree}
 use Rattle.capl_parser.specs.Spelling.{kinds_of}
 use Rattle.sim_run.specs.declared.command.Command.{Command}

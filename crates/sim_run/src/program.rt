@@ -8,8 +8,9 @@ ghost use Rattle.sim_run.specs.Program.{IsProgram, IsFrameOf, IsIdentOf, IsPlain
 ghost use Rattle.sim_run.specs.Table.{IsTable};
 
 use can_frame::{Frame, Ident};
-use capl_parser::{Declaration, Declarations, FileTree, Number, Statement};
+use capl_parser::{Declaration, FileTree, Number, Statement};
 use indexmap::IndexMap;
+use items::Items;
 use sim_outside::NoMemory;
 use std::alloc::Global;
 
@@ -49,7 +50,7 @@ pub(crate) fn requests_of(alloc: Global, tree: &FileTree) -> Result<Option<Vec<F
 }
 
 // The declarations of a block of variables, if it stands.
-fn declarations_in(variables: &Option<Declarations>) -> &[Declaration]
+fn declarations_in(variables: &Option<Items<Declaration>>) -> &[Declaration]
     ensures { result.now ≡ declarations_of variables.now }
 {
     match variables {

@@ -1,8 +1,8 @@
 -- Where the next of the declarations is refused, no declarations stand at the front.
 use Rattle.std.proofs.Common.{rules}
 use Rattle.capl_parser.specs.Spelling.{declaration_tokens}
-use Rattle.capl_parser.proofs.Parts.{none_closed}
-use Rattle.capl_parser.proofs.Trees.{separable_declarations}
+use Rattle.capl_parser.proofs.PartLemmas.{none_closed}
+use Rattle.capl_parser.proofs.SpellingLemmas.{separable_declarations}
 use Rattle.capl_parser.proofs.declarations.declarations.Goals as goal
 
 pub returns-in_err-declaration-clause-not_spelled : goal.returns-in_err-declaration-clause-not_spelled

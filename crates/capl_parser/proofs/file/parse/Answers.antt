@@ -3,19 +3,18 @@ use Rattle.std.proofs.Common.{rules, arith, ◌≡◌, sym, ◌∙◌}
 use Rattle.std.proofs.lemmas.Grind.{common_steps}
 use Rattle.capl_parser.specs.Spelling.{kinds_of, spelling}
 use Rattle.capl_parser.specs.declared.tree.FileTree.TheVariants.{Start}
-use Rattle.capl_parser.proofs.Files.{kinds_not_empty, none_without_start, none_with_more}
-use Rattle.capl_parser.proofs.Trees.{spelling_unique}
+use Rattle.capl_parser.proofs.FileLemmas.{kinds_not_empty, none_without_start, none_with_more, refusal_of}
+use Rattle.capl_parser.proofs.SpellingLemmas.{spelling_unique}
 use Rattle.capl_parser.proofs.file.parse.Goals as goal
 
-pub returns-in_err-statements-clause-not_spelled :
-    goal.returns-in_err-statements-clause-not_spelled
-returns-in_err-statements-clause-not_spelled c refused =
-    none_without_start c.in_ok-variables.variables c.args.tokens.now c.variables.new.cursor
-    (search rules) (search rules) (kinds_not_empty c.args.tokens.now (search rules)) (search rules)
+pub returns-in_err-statements-clause-refusal : goal.returns-in_err-statements-clause-refusal
+returns-in_err-statements-clause-refusal c =
+    refusal_of c.args.tokens.now _
+    (λ refused. none_without_start c.in_ok-variables.variables c.args.tokens.now c.variables.new.cursor
+    (search rules) (search rules) (kinds_not_empty c.args.tokens.now (search rules)) (search rules))
 
-pub returns-then-not-is_empty-clause-not_spelled :
-    goal.returns-then-not-is_empty-clause-not_spelled
-returns-then-not-is_empty-clause-not_spelled c refused =
+pub returns-then-not-is_empty-clause-refusal : goal.returns-then-not-is_empty-clause-refusal
+returns-then-not-is_empty-clause-refusal c =
     none_with_more c.in_ok-variables.variables c.in_ok-statements.statements
     c.args.tokens.now c.variables.new.cursor c.start.new.cursor
     (search rules) (search rules) (kinds_not_empty c.args.tokens.now (search rules))

@@ -1,7 +1,7 @@
 -- The tokens that were taken spell the statements so far.
 use Rattle.std.proofs.Common.{length}
 use Rattle.std.specs.List.{flat_map}
-use Rattle.capl_parser.specs.Front.{IsFront}
+use Rattle.capl_parser.specs.Inside.Cursor.{IsFront}
 use Rattle.capl_parser.specs.Spelling.{statement_tokens}
 use Rattle.capl_parser.proofs.statements.statements.Given as goal
 

@@ -1,4 +1,4 @@
-use Rattle.std.proofs.Common.{sym, ap, subst, ◌∙◌, Err}
+use Rattle.std.proofs.Common.{sym, ap, subst, ◌∙◌}
 use Rattle.capl_parser.specs.Spelling.{kinds_of}
 use Rattle.sim_run.specs.Program.{IsProgram}
 use Rattle.sim_run.proofs.source.source_of.Goals as goal
@@ -8,7 +8,7 @@ returns-in-Err-Bad c = λ tree frames is. (rw c.in-Err-Bad.field-0-is at c.in-Er
 
 pub returns-in-Err-NotSpelled : goal.returns-in-Err-NotSpelled
 returns-in-Err-NotSpelled c = λ tree frames is.
-    c.in-Err-NotSpelled.ensures.not_spelled (ap Err c.in-Err-NotSpelled.field-0-is) tree
+    (rw c.in-Err-NotSpelled.field-0-is at c.in-Err-NotSpelled.ensures.refusal) tree
     (ap kinds_of (c.deref.ensures.value ∙ sym (c.in-Ok.ensures.only is.spelled.0 is.spelled.1)) ∙ is.spelled.2)
 
 -- the tree is the only one, and it is no program

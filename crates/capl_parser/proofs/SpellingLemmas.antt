@@ -11,7 +11,7 @@ use Rattle.capl_parser.specs.declared.tree.Statement.TheVariants.{Write, Output}
 use Rattle.capl_parser.specs.declared.tree.Declaration.{Declaration}
 use Rattle.capl_parser.specs.declared.tree.Number.{Number}
 use Rattle.capl_parser.specs.Spelling.{statement_tokens, ending_tokens, declaration_tokens, closed_tokens, variables_tokens, start_tokens, number_token, spelling}
-use Rattle.capl_parser.proofs.Parts.{IsSeparable, parts_unique}
+use Rattle.capl_parser.proofs.PartLemmas.{IsSeparable, parts_unique}
 
 -- a statement's tokens show it and where it ends
 statement_unique : (one other : Statement) (after rest : List Tok) → statement_tokens one ++ after ≡ statement_tokens other ++ rest → (one ≡ other) × (after ≡ rest)

@@ -5,7 +5,7 @@ use Rattle.capl_lexer.specs.declared.token.Tok.{Tok}
 use Rattle.capl_lexer.specs.declared.token.Tok.TheVariants.{Sign}
 use Rattle.capl_lexer.specs.declared.token.Sign.TheVariants.{CloseBrace}
 use Rattle.capl_lexer.specs.declared.token.Token.{Token}
-use Rattle.capl_parser.specs.Front.{IsFront, IsNoFront, NoneAtFront}
+use Rattle.capl_parser.specs.Inside.Cursor.{IsFront, IsNoFront, NoneAtFront}
 use Rattle.capl_parser.specs.Spelling.{kinds_of, closed_tokens}
 
 -- the tokens show which part stands at their front and where it ends, and no part begins with `}`

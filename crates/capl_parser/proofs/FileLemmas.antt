@@ -1,5 +1,6 @@
 -- Where no file has these tokens.
 use Rattle.std.proofs.Common.{◌≡◌, ◌≢◌, ◌==◌, false, length, List, [], ◌∷◌, refl, sym, ◌∙◌, Option, Some, None}
+use Rattle.std.specs.Prelude.{Result, Ok, Err, IfErr, IsErrOf}
 use Rattle.std.proofs.lemmas.List.{append-nil}
 use Rattle.capl_lexer.specs.declared.token.Token.{Token}
 use Rattle.capl_lexer.specs.declared.token.Tok.TheVariants.{Word}
@@ -8,9 +9,12 @@ use Rattle.capl_parser.specs.declared.tree.FileTree.{FileTree}
 use Rattle.capl_parser.specs.declared.tree.FileTree.TheVariants.{Empty, Start}
 use Rattle.capl_parser.specs.declared.tree.Statement.{Statement}
 use Rattle.capl_parser.specs.declared.tree.Declaration.{Declaration}
-use Rattle.capl_parser.specs.Front.{IsFront, IsNoFront, NoneAtFront}
+use Rattle.capl_parser.specs.Inside.Cursor.{IsFront, IsNoFront, NoneAtFront}
+use Rattle.capl_parser.specs.declared.refusal.ParseRefusal.{ParseRefusal}
+use Rattle.capl_parser.specs.declared.refusal.ParseRefusal.TheVariants.{NotSpelled, NoMemory}
+use Rattle.capl_parser.specs.Refusal.{IsRefusalOf}
 use Rattle.capl_parser.specs.Spelling.{kinds_of, variables_tokens, start_tokens, spelling}
-use Rattle.capl_parser.proofs.Trees.{variables_unique, start_unique}
+use Rattle.capl_parser.proofs.SpellingLemmas.{variables_unique, start_unique}
 
 -- tokens whose number is not 0 are not empty, whatever their places
 pub kinds_not_empty : (tokens : List Token) → (length tokens == 0) ≡ false → kinds_of tokens ≢ []
@@ -45,3 +49,11 @@ pub none_with_more : (variables : Option (List Declaration)) (statements : List 
 none_with_more variables statements tokens between rest front absent not_empty start more tree e =
     let found = start_behind variables tokens between front absent not_empty tree e in
     more (start_unique statements found.0 (kinds_of rest) [] (sym start ∙ found.1 ∙ sym (append-nil (start_tokens found.0)))).1
+
+-- an answer whose refusal says that no tree is spelled is right where none is
+pub refusal_of : (tokens : List Token) (answer : Result FileTree ParseRefusal)
+    → (IsErrOf answer NotSpelled → (tree : FileTree) → kinds_of tokens ≡ spelling tree → ⊥)
+    → IfErr answer (IsRefusalOf tokens)
+refusal_of tokens (Ok tree) none = tt
+refusal_of tokens (Err NotSpelled) none = none refl
+refusal_of tokens (Err NoMemory) none = tt
