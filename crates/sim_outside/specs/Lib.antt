@@ -1,5 +1,9 @@
+-- The definitions of this crate.
 pub mod Fault
 pub mod Files
+pub mod Folder
 pub mod MemoryFiles
 pub mod MemorySink
+pub mod Reader
 pub mod Sink
+pub mod Writer

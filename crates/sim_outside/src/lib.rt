@@ -10,22 +10,28 @@
 
 pub use blame::{Blame, Rule};
 pub use files::{FileRefusal, Files};
+pub use folder::beside;
 pub use mem_files::MemFiles;
 pub use mem_sink::MemSink;
 pub use memory::NoMemory;
+pub use reader::read_to_limit;
 pub use real_files::RealFiles;
 pub use real_sink::RealSink;
 pub use sink::{Sink, SinkRefusal};
 pub use text::Text;
+pub use writer::write_whole;
 
 mod blame;
 mod files;
+mod folder;
 mod mem_files;
 mod mem_sink;
 mod memory;
+mod reader;
 mod real_files;
 mod real_sink;
 mod sink;
 #[cfg(test)]
 mod tests;
 mod text;
+mod writer;

@@ -1,14 +1,15 @@
 // The files of the system.
 
-ghost use Rattle.std.specs.Prelude.{◌≡◌, ◌≤◌, ◌<◌, length, vec_len, None, OnOk, IfOk};
+ghost use Rattle.std.specs.Prelude.{◌≡◌, ◌≤◌, IfOk, vec_len};
 
 use crate::files::{FileRefusal, Files};
+use crate::reader::read_to_limit;
 use crate::text::Text;
 use std::alloc::Global;
 use std::fs::File;
-use std::io::{ErrorKind, Read};
+use std::io::ErrorKind;
 use std::marker::Model;
-use std::{io, rt, str};
+use std::{rt, str};
 
 /// The files of the system, read through the runtime. They tell nothing of what they hold.
 #[derive(Drop)]
@@ -16,9 +17,6 @@ pub struct RealFiles<'a, R> {
     rt: &'a R,
     faults: u64,
 }
-
-// How many bytes one read asks for at most.
-const CHUNK: usize = 65536;
 
 // It is seen as the count of its faults.
 impl<'a, R> Model for RealFiles<'a, R> {
@@ -56,7 +54,7 @@ impl<'a, R: rt::Files> Files for RealFiles<'a, R> {
     }
 }
 
-// Opens the file and reads it to its end.
+/// Opens the file and reads it to its end, if it has at most `limit` bytes.
 fn read_file<R: rt::Files>(
     rt: &R,
     alloc: Global,
@@ -74,29 +72,5 @@ fn read_file<R: rt::Files>(
             ErrorKind::NotFound => FileRefusal::Missing,
             _ => FileRefusal::Failed,
         }),
-    }
-}
-
-// Reads to the end, or to the first byte above the limit.
-fn read_to_limit<F: Read>(file: &mut F, alloc: Global, limit: usize) -> Result<Vec<u8>, FileRefusal>
-    ensures { IfOk result (λ bytes. vec_len bytes ≤ limit) }
-{
-    let mut chunk = vec![in alloc; 0; CHUNK].map_err(|_| FileRefusal::NoMemory)?;
-    let mut bytes = Vec::new(alloc);
-    loop {
-        let room = limit - bytes.len();
-        let asked = room.min(CHUNK - 1) + 1;
-        let count = file
-            .read(&mut chunk[..asked])
-            .map_err(|_| FileRefusal::Failed)?;
-        if count == 0 {
-            return Ok(bytes);
-        }
-        if count > room {
-            return Err(FileRefusal::TooLong);
-        }
-        bytes
-            .extend_from_slice(&chunk[..count])
-            .map_err(|_| FileRefusal::NoMemory)?;
     }
 }

@@ -1,10 +1,10 @@
 // The program's standard output.
 
-ghost use Rattle.std.specs.Prelude.{◌≡◌, ◌≤◌, ◌<◌, length, IsOkUnless};
+ghost use Rattle.std.specs.Prelude.{◌≡◌};
 
 use crate::sink::{Sink, SinkRefusal};
+use crate::writer::write_whole;
 use std::io;
-use std::io::Write;
 use std::marker::Model;
 
 /// Standard output, written through the runtime. It tells nothing of what was written.
@@ -47,19 +47,4 @@ impl<'a, R: Print> Sink for RealSink<'a, R> {
         }
         written
     }
-}
-
-// Writes what is left of the piece until nothing is.
-fn write_whole<W: Write>(writer: &mut W, piece: &[u8]) -> Result<(), SinkRefusal>
-    ensures { IsOkUnless result SinkRefusal.Failed }
-{
-    let mut rest = piece;
-    while !rest.is_empty() {
-        let count = writer.write(rest).map_err(|_| SinkRefusal::Failed)?;
-        if count == 0 {
-            return Err(SinkRefusal::Failed);
-        }
-        rest = &rest[count..];
-    }
-    Ok(())
 }

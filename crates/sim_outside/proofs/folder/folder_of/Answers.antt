@@ -1,6 +1,6 @@
 use Rattle.std.proofs.Common.{◌≡◌, ◌+◌, ◌==◌, ℕ, true, get_or, subst, arith}
-use Rattle.sim_run.proofs.Folders.{is_folder}
-use Rattle.sim_run.proofs.names.folder.Goals as goal
+use Rattle.sim_outside.proofs.FolderLemmas.{is_folder}
+use Rattle.sim_outside.proofs.folder.folder_of.Goals as goal
 
 pub returns-in-Some : goal.returns-in-Some
 returns-in-Some c = is_folder c.args.name.now (c.in-Some.place + 1) (omega (arith, c.in-Some.ensures.0.high)) c.in-Some.ensures.0.after
