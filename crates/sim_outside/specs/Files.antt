@@ -8,6 +8,7 @@ use Rattle.sim_outside.specs.declared.files.FileRefusal.TheVariants.{Missing, To
 abbrev pub AgreesWith : (List ℕ → Option (List ℕ)) → List ℕ → ℕ → Result (Vec ℕ) FileRefusal → Type 0
 AgreesWith contents name limit (Ok bytes) = (contents name ≡ Some bytes.items) × (length bytes.items ≤ limit)
 AgreesWith contents name limit (Err Missing) = contents name ≡ None
-AgreesWith contents name limit (Err TooLong) = (bytes : List ℕ) × (contents name ≡ Some bytes) × (limit < length bytes)
+AgreesWith contents name limit (Err TooLong) =
+    (bytes : List ℕ) × (contents name ≡ Some bytes) × (limit < length bytes)
 AgreesWith contents name limit (Err Failed) = ⊤
 AgreesWith contents name limit (Err NoMemory) = ⊤

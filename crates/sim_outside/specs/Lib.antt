@@ -2,8 +2,8 @@
 pub mod Fault
 pub mod Files
 pub mod Folder
-pub mod MemoryFiles
-pub mod MemorySink
+pub mod MemFiles
+pub mod MemSink
 pub mod Reader
 pub mod Sink
 pub mod Writer

@@ -1,5 +1,5 @@
 -- What writing a piece does to the bytes that a writer holds.
-use Rattle.std.specs.Prelude.{ℕ, List, take, Option, MatchResult, Result}
+use Rattle.std.specs.Prelude.{ℕ, List, take, Option}
 use Rattle.std.specs.Io.KnownBytes.{Appends}
 
 -- the bytes have grown by some of the piece, from its beginning on, where they are told

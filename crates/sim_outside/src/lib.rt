@@ -1,11 +1,14 @@
 //! What the program meets of the outside: names and lines as texts, rules and where they are broken,
 //! files to read, a sink to write to, and want of memory.
 //!
-//! A reader or a writer of bytes is a [`Files`] or a [`Sink`]. Each has two meanings that its calls
-//! are stated by: the bytes that it holds or was given, where it tells them, and a count of faults
-//! that never falls. A call fails only where this count rose. [`MemFiles`] and [`MemSink`] keep
-//! everything in memory, tell it, and fail at the calls that they are told to. [`RealFiles`] and
-//! [`RealSink`] reach the system, and tell nothing of its bytes.
+//! Who reads takes a [`Files`], and who writes a [`Sink`]. Each has two meanings that its calls are
+//! stated by: the bytes that it holds or was given, where it tells them, and a count of faults that
+//! never falls. A call fails only where this count rose. [`MemFiles`] and [`MemSink`] keep everything
+//! in memory, tell it, and fail at the calls that they are told to.
+//!
+//! [`RealFiles`] and [`RealSink`] reach the system, and tell nothing of its bytes. They read and write
+//! by [`read_to_limit`] and [`write_whole`], which any reader and any writer of the library may be
+//! given: where these tell their bytes, so do the answers.
 #![tactic(auto)]
 
 pub use blame::{Blame, Rule};

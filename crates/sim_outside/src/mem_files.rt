@@ -4,7 +4,7 @@ ghost use Rattle.std.specs.Prelude.{◌≡◌, ◌+◌, ◌-◌, ◌^◌, ℕ, �
 ghost use Rattle.std.specs.Option.{option_map};
 ghost use Rattle.sim_outside.specs.Fault.{HasRisen, raised};
 ghost use Rattle.sim_outside.specs.Files.{AgreesWith};
-ghost use Rattle.sim_outside.specs.MemoryFiles.{held_in};
+ghost use Rattle.sim_outside.specs.MemFiles.{held_in};
 
 use crate::files::{FileRefusal, Files};
 use crate::text::Text;
@@ -22,9 +22,9 @@ pub struct MemFiles {
 
 impl Model for MemFiles {
     ghost use Rattle.std.specs.Prelude.{map};
-    ghost use Rattle.sim_outside.specs.MemoryFiles.{MemoryFiles};
+    ghost use Rattle.sim_outside.specs.MemFiles.{FilesInMemory};
 
-    ghost Value = { MemoryFiles };
+    ghost Value = { FilesInMemory };
 
     ghost view = { λ files. record {
       entries = map (λ entry. (entry.0, entry.1.items)) files.entries.items;
@@ -56,14 +56,15 @@ impl MemFiles {
 
 impl Files for MemFiles {
     ghost use Rattle.std.specs.Prelude.{Some};
-    ghost use Rattle.sim_outside.specs.MemoryFiles.{held_in};
+    ghost use Rattle.sim_outside.specs.MemFiles.{held_in};
 
     ghost held = { λ files. Some (held_in files.entries) };
 
     ghost faults = { λ files. files.faults };
 
     fn read(&mut self, alloc: Global, name: &Text, limit: usize) -> Result<Vec<u8>, FileRefusal>
-        ensures told { IfSome (Some (held_in self.old.entries)) (λ contents. AgreesWith contents name.now limit result) }
+        ensures told { IfSome (Some (held_in self.old.entries))
+            (λ contents. AgreesWith contents name.now limit result) }
         ensures within_limit { IfOk result (λ bytes. vec_len bytes ≤ limit) }
         ensures failed { IsErrOf result FileRefusal.Failed → HasRisen self.old.faults self.new.faults }
         ensures faults_stay { self.old.faults ≤ self.new.faults }
@@ -94,7 +95,7 @@ impl Files for MemFiles {
     }
 }
 
-// The bytes of the first entry of a name.
+/// The bytes of the first entry of a name.
 fn find<'a>(entries: &'a [(Text, Vec<u8>)], name: &[u8]) -> Option<&'a [u8]>
     ensures { option_map (λ bytes. bytes.now) result
         ≡ held_in (map (λ entry. (entry.0, entry.1.items)) entries.now) name.now }

@@ -3,8 +3,8 @@
 ghost use Rattle.std.specs.Prelude.{◌≡◌, ◌≤◌, ◌==◌, [], ◌++◌, Some, OnOk, OnErr, IsErrOf, IsOkUnless};
 ghost use Rattle.std.specs.Map.{lookup};
 ghost use Rattle.sim_outside.specs.Fault.{HasRisen, raised};
-ghost use Rattle.sim_outside.specs.Sink.{GrowsBy, GrowsByPrefix};
-ghost use Rattle.sim_outside.specs.MemorySink.{kept_at, KeepsAtFault};
+ghost use Rattle.sim_outside.specs.Sink.{Writes};
+ghost use Rattle.sim_outside.specs.MemSink.{kept_at, KeepsAtFault};
 
 use crate::sink::{Sink, SinkRefusal};
 use std::alloc::Global;
@@ -20,9 +20,9 @@ pub struct MemSink {
 }
 
 impl Model for MemSink {
-    ghost use Rattle.sim_outside.specs.MemorySink.{MemorySink};
+    ghost use Rattle.sim_outside.specs.MemSink.{SinkInMemory};
 
-    ghost Value = { MemorySink };
+    ghost Value = { SinkInMemory };
 
     ghost view = { λ sink. record {
       written = sink.written.items;
@@ -63,10 +63,10 @@ impl Sink for MemSink {
     ghost faults = { λ sink. sink.faults };
 
     fn write(&mut self, piece: &[u8]) -> Result<(), SinkRefusal>
-        ensures ok { OnOk result (GrowsBy (Some self.old.written) (Some self.new.written) piece.now) }
-        ensures failed_after { IsErrOf result SinkRefusal.Failed → GrowsByPrefix (Some self.old.written) (Some self.new.written) piece.now }
+        ensures grows { Writes (Some self.old.written) (Some self.new.written) piece.now result }
         ensures failed { IsErrOf result SinkRefusal.Failed → HasRisen self.old.faults self.new.faults }
-        ensures no_memory { IsErrOf result SinkRefusal.NoMemory → Some self.new.written ≡ Some self.old.written }
+        ensures no_memory { IsErrOf result SinkRefusal.NoMemory →
+            Some self.new.written ≡ Some self.old.written }
         ensures faults_stay { self.old.faults ≤ self.new.faults }
 
         // It fails at the listed calls and nowhere else, after as many bytes as are listed there.
@@ -90,7 +90,7 @@ impl Sink for MemSink {
     }
 }
 
-// How many bytes a call keeps, where it is listed.
+/// How many bytes a call keeps, where it is listed.
 fn find(failing: &[(u64, usize)], call: u64) -> Option<usize>
     ensures { result ≡ lookup (λ number. number == call) failing.now }
 {
@@ -102,7 +102,7 @@ fn find(failing: &[(u64, usize)], call: u64) -> Option<usize>
     None
 }
 
-// The bytes go to the end, or nothing changes.
+/// Puts the bytes at the end, or changes nothing.
 fn append(written: &mut Vec<u8>, bytes: &[u8]) -> Result<(), SinkRefusal>
     ensures ok { OnOk result (written.new.items ≡ written.old.items ++ bytes.now) }
     ensures err { OnErr result (written.new.items ≡ written.old.items) }

@@ -1,8 +1,8 @@
 // A sink that can be written to.
 
-ghost use Rattle.std.specs.Prelude.{◌≡◌, ℕ, ◌≤◌, Option, List, OnOk, IsErrOf};
+ghost use Rattle.std.specs.Prelude.{◌≡◌, ℕ, ◌≤◌, Option, List, IsErrOf};
 ghost use Rattle.sim_outside.specs.Fault.{HasRisen};
-ghost use Rattle.sim_outside.specs.Sink.{GrowsBy, GrowsByPrefix};
+ghost use Rattle.sim_outside.specs.Sink.{Writes};
 
 use crate::memory::NoMemory;
 use thiserror::Error;
@@ -39,8 +39,7 @@ pub trait Sink {
 
     /// Writes the piece at the end.
     fn write(&mut self, piece: &[u8]) -> Result<(), SinkRefusal>
-        ensures ok { OnOk result (GrowsBy (written self.old) (written self.new) piece.now) }
-        ensures failed_after { IsErrOf result SinkRefusal.Failed → GrowsByPrefix (written self.old) (written self.new) piece.now }
+        ensures grows { Writes (written self.old) (written self.new) piece.now result }
         ensures failed { IsErrOf result SinkRefusal.Failed → HasRisen (faults self.old) (faults self.new) }
         ensures no_memory { IsErrOf result SinkRefusal.NoMemory → written self.new ≡ written self.old }
         ensures faults_stay { faults self.old ≤ faults self.new };

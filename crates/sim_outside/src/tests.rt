@@ -61,6 +61,7 @@ impl Write for ShortWriter {
     }
 }
 
+/// What reading a short reader of seven bytes answers.
 fn read_short(alloc: Global, calls: u32, limit: usize) -> Result<Vec<u8>, FileRefusal> {
     let mut reader = ShortReader {
         left: b"seven b",

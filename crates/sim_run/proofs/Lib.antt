@@ -1,5 +1,4 @@
 pub mod Digits
-pub mod Folders
 pub mod Growth
 pub mod OneAnswer
 pub mod Programs

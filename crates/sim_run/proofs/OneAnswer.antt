@@ -6,6 +6,7 @@ use Rattle.capl_lexer.proofs.ReadingLemmas.{reading-unique}
 use Rattle.capl_parser.proofs.SpellingLemmas.{spelling_unique}
 use Rattle.capl_parser.specs.declared.tree.FileTree.{FileTree}
 use Rattle.capl_parser.specs.Spelling.{kinds_of}
+use Rattle.sim_outside.specs.Folder.{beside}
 use Rattle.sim_run.specs.declared.command.Command.{Command}
 use Rattle.sim_run.specs.declared.command.Command.TheVariants.{Window, Log}
 use Rattle.sim_run.specs.declared.inputs.Inputs.{Inputs}
@@ -17,7 +18,7 @@ use Rattle.sim_run.specs.Answer.{Contents, IsCommand, command_word, Holds, Scena
 use Rattle.sim_run.specs.Inputs.{AreInputs, status_of, AreBytesOf}
 use Rattle.sim_run.specs.Program.{IsProgram}
 use Rattle.sim_run.specs.Run.{log_of, started}
-use Rattle.sim_run.specs.Scenario.{IsScenario, beside}
+use Rattle.sim_run.specs.Scenario.{IsScenario}
 use Rattle.sim_run.specs.Source.{IsSource}
 use Rattle.sim_run.specs.Window.{window_of, refusal_line}
 use Rattle.sim_run.proofs.Programs.{one_program}

@@ -2,13 +2,14 @@
 use Rattle.std.specs.Prelude.{◌≡◌, ◌^◌, ◌≤◌, ℕ, List, [], ◌∷◌, length, Option, Some, ◌⊎◌, codes}
 use Rattle.can_frame.specs.Frame.{FrameFields}
 use Rattle.capl_parser.specs.declared.tree.FileTree.{FileTree}
+use Rattle.sim_outside.specs.Folder.{beside}
 use Rattle.sim_run.specs.declared.command.Command.{Command}
 use Rattle.sim_run.specs.declared.command.Command.TheVariants.{Window, Log}
 use Rattle.sim_run.specs.declared.scenario.Scenario.{Scenario}
 use Rattle.sim_run.specs.declared.status.Status.{Status}
 use Rattle.sim_run.specs.declared.status.Status.TheVariants.{Done, Refused, Usage, ReadFault, WriteFault, OutOfMemory}
 use Rattle.sim_run.specs.Run.{Logged, Logs, started, log_of}
-use Rattle.sim_run.specs.Scenario.{IsScenario, beside}
+use Rattle.sim_run.specs.Scenario.{IsScenario}
 use Rattle.sim_run.specs.Source.{IsSource}
 use Rattle.sim_run.specs.Window.{window_of, refusal_line}
 

@@ -1,6 +1,5 @@
--- What a scenario file says, and where a file that it names is sought.
-use Rattle.std.specs.Prelude.{◌≡◌, ◌≢◌, ◌<◌, ◌≤◌, ◌-◌, ◌*◌, ℕ, List, [], ◌∷◌, ◌++◌, length, take, All, not, ◌==◌, if◌then◌else◌, nat_eq, codes, Option, Some, None, IfSome}
-use Rattle.std.specs.List.{suffix_len, starts_with}
+-- What a scenario file says.
+use Rattle.std.specs.Prelude.{◌≡◌, ◌≢◌, ◌<◌, ◌≤◌, ◌*◌, ℕ, List, [], ◌∷◌, ◌++◌, length, All, codes, Option, Some, None, IfSome}
 use Rattle.capl_lexer.specs.Bytes.{IsDigit, number_in}
 use Rattle.capl_lexer.specs.Spelling.{IsName}
 use Rattle.sim_run.specs.declared.scenario.Scenario.{Scenario}
@@ -51,11 +50,3 @@ pub record IsScenario (text : List ℕ) (scenario : Scenario) : Type 0 where
   pub file : IsFileName scenario.file
   pub in_range : IfSome digits IsEndMoment
   pub until : scenario.until ≡ end_moment digits
-
--- a name up to and with its last `/`, or nothing where it has none
-abbrev pub folder_of : List ℕ → List ℕ
-folder_of name = take (length name - suffix_len (λ byte. not (byte == 47)) name) name
-
--- the file of this name beside the file that names it
-abbrev pub beside : List ℕ → List ℕ → List ℕ
-beside naming name = if starts_with nat_eq name (codes "/") then name else folder_of naming ++ name

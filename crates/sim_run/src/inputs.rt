@@ -6,12 +6,11 @@ ghost use Rattle.sim_run.specs.Answer.{Holds, ScenarioAt, SourceAt, HasNoSource}
 ghost use Rattle.sim_run.specs.Inputs.{AreInputs, EndsWithinADay};
 ghost use Rattle.sim_run.specs.declared.scenario.Scenario.{Scenario};
 
-use crate::names::name_beside;
 use crate::scenario::{Scenario, scenario_of};
 use crate::source::{Source, source_of};
 use can_frame::Frame;
 use capl_parser::FileTree;
-use sim_outside::{FileRefusal, Files, NoMemory, Text};
+use sim_outside::{FileRefusal, Files, NoMemory, Text, beside};
 use std::alloc::Global;
 
 /// What the inputs of a run are.
@@ -66,7 +65,7 @@ pub(crate) fn read_inputs<F: Files>(
     let Some(scenario) = read_scenario(alloc, &name, files)? else {
         return Ok(Inputs::Broken { file: name });
     };
-    let file = name_beside(alloc, name.bytes(), scenario.file.bytes())?;
+    let file = beside(alloc, name.bytes(), scenario.file.bytes())?;
     let Some(source) = read_source(alloc, &file, files)? else {
         return Ok(Inputs::Broken { file });
     };

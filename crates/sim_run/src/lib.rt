@@ -15,7 +15,6 @@ pub mod laws;
 mod lines;
 mod log;
 mod log_line;
-mod names;
 mod program;
 mod run;
 mod scenario;

@@ -1,3 +1,4 @@
+-- The folder, where a `/` is found and where none is.
 use Rattle.std.proofs.Common.{◌≡◌, ◌+◌, ◌==◌, ℕ, true, get_or, subst, arith}
 use Rattle.sim_outside.proofs.FolderLemmas.{is_folder}
 use Rattle.sim_outside.proofs.folder.folder_of.Goals as goal

@@ -1,5 +1,6 @@
+-- What stands between two entries.
 use Rattle.std.proofs.Common.{◌≡◌, drop, map}
-use Rattle.sim_outside.specs.MemoryFiles.{held_in}
+use Rattle.sim_outside.specs.MemFiles.{held_in}
 use Rattle.sim_outside.proofs.mem_files.find.Given as goal
 
 -- the entries that are left give what all entries give

@@ -1,3 +1,4 @@
+-- What stands between two entries.
 use Rattle.std.proofs.Common.{◌≡◌, ◌==◌, drop}
 use Rattle.std.specs.Map.{lookup}
 use Rattle.sim_outside.proofs.mem_sink.find.Given as goal

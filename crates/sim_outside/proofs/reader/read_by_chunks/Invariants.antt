@@ -1,5 +1,5 @@
 -- What stands between two reads.
-use Rattle.std.proofs.Common.{◌≡◌, ◌≤◌, ◌-◌, length, vec_len}
+use Rattle.std.proofs.Common.{◌≤◌, ◌-◌, vec_len}
 use Rattle.std.specs.Io.KnownBytes.{Consumes}
 use Rattle.sim_outside.proofs.reader.read_by_chunks.Given as goal
 
