@@ -21,6 +21,7 @@ Wins-from_lt (false ∷ a) (false ∷ b) e h =
 Wins-from_lt (true ∷ a) (true ∷ b) e h =
     Wins-from_lt a b (omega (arith, e)) (omega (arith, number_of-one a, number_of-one b, h, ap (λ n. 2 ^ pred n) e))
 
+-- of lists of one length, the one that wins spells the lesser number
 pub lt-from_Wins : (a b : List Bool) → length a ≡ length b → Wins a b → number_of a < number_of b
 lt-from_Wins [] b e w = absurd w
 lt-from_Wins (x ∷ a) [] e w = absurd w
@@ -32,6 +33,7 @@ lt-from_Wins (false ∷ a) (false ∷ b) e w =
 lt-from_Wins (true ∷ a) (true ∷ b) e w =
     omega (arith, number_of-one a, number_of-one b, ap (λ n. 2 ^ pred n) e, lt-from_Wins a b (omega (arith, e)) w)
 
+-- lists of one length that spell one number are equal
 pub same-from_number : (a b : List Bool) → length a ≡ length b → number_of a ≡ number_of b → a ≡ b
 same-from_number [] [] e h = refl
 same-from_number [] (y ∷ b) e h = absurd (omega (arith, e))
@@ -52,6 +54,7 @@ not_Wins_self [] w = w
 not_Wins_self (false ∷ a) w = not_Wins_self a w
 not_Wins_self (true ∷ a) w = not_Wins_self a w
 
+-- a list that wins does so whatever follows
 pub Wins-append : (a b s t : List Bool) → Wins a b → Wins (a ++ s) (b ++ t)
 Wins-append [] b s t w = absurd w
 Wins-append (x ∷ a) [] s t w = absurd w
@@ -121,9 +124,11 @@ FillKeeps-apart a b s t e ne =
 formats_differ : (p q : List Bool) (r : Bool) → length p ≡ length q → p ++ r ∷ false ∷ [] ≢ q ++ true ∷ true ∷ []
 formats_differ p q r e h = let ends : r ∷ false ∷ [] ≡ true ∷ true ∷ [] = (fronts_same p q _ _ e h).1 in cc
 
+-- a standard arbitration field has 13 bits with IDE
 pub length-arbitration_std : (n : ℕ) (r : Bool) → length (arbitration_bits (Std n) r) ≡ 13
 length-arbitration_std n r = rw (length-append, length-field_bits) refl
 
+-- an extended one has 32
 pub length-arbitration_ext : (n : ℕ) (r : Bool) → length (arbitration_bits (Ext n) r) ≡ 32
 length-arbitration_ext n r =
     rw (length-append, length-append, length-field_bits 11 (n / 2 ^ 18), length-field_bits 18 n) refl
@@ -157,6 +162,7 @@ length-filled_field : (i : Ident) (r : Bool) → length (filled (arbitration_bit
 length-filled_field (Std n) r = length-filled (arbitration_bits (Std n) r) (omega (arith, length-arbitration_std n r))
 length-filled_field (Ext n) r = length-filled (arbitration_bits (Ext n) r) (omega (arith, length-arbitration_ext n r))
 
+-- the law of the arbitration keys
 pub KeysOrderFields-all : (f g : FrameFields) → KeysOrderFields f g
 unfolding arbitration_key
 KeysOrderFields-all f g =

@@ -47,7 +47,7 @@ key_ext n r h b =
     rw (whole, or_shifted (n / 262144) 21 1572864 (omega arith), marks, further, or_shifted (n / 262144 * 4 + 3) 19 (n % 262144 * 2) (omega arith), shifted, or_shifted ((n / 262144 * 4 + 3) * 2 ^ 18 + n % 262144) 1 r (omega arith))
     (omega arith)
 
--- the two keys, of a frame whose identifier and remote bit the code has read
+-- the arbitration key of a frame whose identifier is standard, as the code computes it
 pub std_key_is : (f : FrameFields) (n k r : ℕ) → IsIdent f.ident → f.ident ≡ Std n → k ≡ n → r ≡ bool_byte f.remote → bit_or (k * 2097152 % 4294967296) (r * 1048576 % 4294967296) ≡ arbitration_key f
 unfolding arbitration_key
 std_key_is f n k r fits is same remote =
@@ -55,6 +55,7 @@ std_key_is f n k r fits is same remote =
     rw (same, remote, key_std n (bool_byte f.remote) range (bool_byte-le f.remote))
     (sym (ap (λ i. number_of (filled (arbitration_bits i f.remote))) is ∙ number_of-std n f.remote range))
 
+-- and of one whose identifier is extended
 pub ext_key_is : (f : FrameFields) (n r : ℕ) → IsIdent f.ident → f.ident ≡ Ext n → r ≡ bool_byte f.remote → bit_or (bit_or (bit_or (n / 262144 * 2097152 % 4294967296) 1572864) (bit_and n 262143 * 2 % 4294967296)) r ≡ arbitration_key f
 unfolding arbitration_key
 ext_key_is f n r fits is remote =

@@ -1,3 +1,4 @@
+-- Lemmas on lists of bits, payloads, and arbitration fields and keys.
 pub mod BitLists
 pub mod Payload
 pub mod Fields

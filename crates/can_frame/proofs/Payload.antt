@@ -6,14 +6,15 @@ use Rattle.std.proofs.lemmas.Bool.{cases_lt}
 use Rattle.std.proofs.Common.{inl, inr}
 use Rattle.std.proofs.lemmas.List.{same_lists}
 use Rattle.std.proofs.lemmas.Grind.{get_or_default_zero}
-use Rattle.std.proofs.Common.{Bool, true, false, cond, sym}
-use Rattle.can_frame.specs.Frame.{FrameFields, IsFrame, data_len, padded}
+use Rattle.std.proofs.Common.{Bool, true, false, sym}
+use Rattle.can_frame.specs.Frame.{FrameFields, IsFrame, data_len_of, data_len, padded}
 
 get_or-zeros : (m j : ℕ) → ◌≡◌ {A = ℕ} (get_or (replicate m 0) j 0) 0
 get_or-zeros m j =
     elim (cases_lt j m) [ inl h ↦ get_or-replicate m j 0 0 h | inr h ↦ get_or_past (replicate m 0) j 0 (omega (arith, length-replicate {A = ℕ})) ]
 
 module _ (n : ℕ) (bytes : List ℕ) (fits : n ≤ 8) (eight : length bytes ≡ 8) where
+  -- a padded payload has eight bytes
   pub length-padded : length (padded n bytes) ≡ 8
   length-padded = grind (arith, length-append {A = ℕ}, length-take {A = ℕ}, length-replicate {A = ℕ})
 
@@ -35,12 +36,14 @@ module _ (n : ℕ) (bytes : List ℕ) (fits : n ≤ 8) (eight : length bytes ≡
         | inr h ↦ omega (arith, padded_past k h)
       ]
 
-data_bytes-le : (remote : Bool) (dlc : ℕ) → cond remote 0 dlc ≤ dlc
-data_bytes-le true dlc = omega arith
-data_bytes-le false dlc = omega arith
+-- a frame sends at most as many data bytes as its code says
+pub data_len_of-le : (remote : Bool) (dlc : ℕ) → data_len_of remote dlc ≤ dlc
+data_len_of-le true dlc = omega arith
+data_len_of-le false dlc = omega arith
 
+-- the same of a frame
 pub data_len-le : (f : FrameFields) → data_len f ≤ f.dlc
-data_len-le f = data_bytes-le f.remote f.dlc
+data_len-le f = data_len_of-le f.remote f.dlc
 
 -- what a frame holds is cut already, so to make a frame of a frame's fields changes nothing
 pub padded-same : (f : FrameFields) → IsFrame f → padded (data_len f) f.payload ≡ f.payload

@@ -1,4 +1,5 @@
--- The arbitration field of a frame (ISO 11898-1, arbitration field), and the keys that order frames and name identifiers.
+-- The arbitration field of a frame (ISO 11898-1, arbitration field), and the keys that order frames and
+-- name identifiers.
 use Rattle.std.specs.Prelude.{◌≡◌, ℕ, ◌+◌, ◌-◌, ◌/◌, ◌^◌, ◌<◌, ◌↔◌, Bool, true, false, List, [], ◌∷◌, ◌++◌, length, replicate, ⊤}
 use Rattle.can_frame.specs.declared.Ident.{Ident}
 use Rattle.can_frame.specs.declared.Ident.TheVariants.{Std, Ext}

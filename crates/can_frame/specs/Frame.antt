@@ -25,9 +25,13 @@ pub record FrameFields : Type 0 where
   pub payload : List ℕ
   pub can : ℕ
 
--- how many data bytes go over the bus: the first dlc bytes of a data frame, none of a remote frame
+-- how many data bytes go over the bus: as many as the code says of a data frame, none of a remote one
+abbrev pub data_len_of : Bool → ℕ → ℕ
+data_len_of remote dlc = if remote then 0 else dlc
+
+-- how many data bytes of the frame go over the bus
 abbrev pub data_len : FrameFields → ℕ
-data_len f = if f.remote then 0 else f.dlc
+data_len f = data_len_of f.remote f.dlc
 
 -- the first n bytes, and zeros up to eight
 abbrev pub padded : ℕ → List ℕ → List ℕ

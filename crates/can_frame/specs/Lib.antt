@@ -1,6 +1,6 @@
 -- The definitions of this crate.
 pub mod Bits
 pub mod Frame
-pub mod FrameInside
+pub mod Inside
 pub mod Arbitration
 pub mod Codes

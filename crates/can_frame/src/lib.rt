@@ -7,12 +7,12 @@
 #![tactic(auto)]
 
 ghost use Rattle.std.specs.Prelude.{◌≡◌, ◌≤◌, ◌↔◌, IsTrue, IsSome, IfSome};
-ghost use Rattle.can_frame.specs.Frame.{IsFrame, IsIdent, FrameFields, data_len, padded};
+ghost use Rattle.can_frame.specs.Frame.{IsFrame, IsIdent, FrameFields, data_len_of, data_len, padded};
 
-pub use keys::{arb_key, sel_key};
+pub use arbitration::{arb_key, sel_key};
 use std::marker::Model;
 
-mod keys;
+mod arbitration;
 pub mod laws;
 
 /// The identifier of a frame, and by its variant the frame's format.
@@ -41,7 +41,7 @@ impl Model for Frame {
 
     ghost Value = { FrameFields };
 
-    ghost use Rattle.can_frame.specs.FrameInside.{fields_of};
+    ghost use Rattle.can_frame.specs.Inside.Frame.{fields_of};
 
     ghost view = { fields_of };
 
@@ -74,12 +74,11 @@ impl Frame {
         if !is_ident(ident) || dlc > 8 || can < 1 || can > 2 {
             return None;
         }
-        let data_len = if rtr { 0 } else { usize::from(dlc) };
         Some(Frame {
             ident,
             rtr,
             dlc,
-            payload: first_bytes(payload, data_len),
+            payload: first_bytes(payload, data_len_of(rtr, dlc)),
             can,
         })
     }
@@ -108,6 +107,15 @@ impl Frame {
         self.dlc
     }
 
+    /// How many data bytes go over the bus, 0 to 8: none of a remote frame, else as many as the data
+    /// length code says.
+    pub fn data_len(&self) -> usize
+        ensures value { result ≡ data_len self.now }
+        ensures in_range { result ≤ 8 }
+    {
+        data_len_of(self.rtr, self.dlc)
+    }
+
     /// The eight payload bytes; those past the payload are 0.
     pub fn payload(&self) -> [u8; 8]
         ensures value { result ≡ self.now.payload }
@@ -123,6 +131,13 @@ impl Frame {
     {
         self.can
     }
+}
+
+/// How many data bytes a frame with these fields sends.
+fn data_len_of(remote: bool, dlc: u8) -> usize
+    ensures { result ≡ data_len_of remote dlc }
+{
+    if remote { 0 } else { usize::from(dlc) }
 }
 
 /// The first `len` bytes, and zeros in place of the others.
@@ -157,10 +172,12 @@ mod tests {
         assert_eq!(rt; frame.ident(), Ident::Std(0x123));
         assert_eq!(rt; frame.rtr(), false);
         assert_eq!(rt; frame.dlc(), 3);
+        assert_eq!(rt; frame.data_len(), 3);
         assert_eq!(rt; frame.payload(), [1, 2, 3, 0, 0, 0, 0, 0]);
         assert_eq!(rt; frame.can(), 2);
         let remote = Frame::make(Ident::Ext(5), true, 8, BYTES, 1).ok_or("a frame")?;
         assert_eq!(rt; remote.dlc(), 8);
+        assert_eq!(rt; remote.data_len(), 0);
         assert_eq!(rt; remote.payload(), [0; 8]);
         Ok(())
     }

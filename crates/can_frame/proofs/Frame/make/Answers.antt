@@ -1,14 +1,12 @@
-use Rattle.std.proofs.Common.{◌≡◌, ◌≤◌, cond, length, arith, rules}
-use Rattle.can_frame.proofs.Payload.{padded_past}
+-- A frame that is made has its fields in range.
+use Rattle.std.proofs.Common.{◌≡◌, ◌≤◌, length, arith, rules}
+use Rattle.can_frame.proofs.Payload.{padded_past, data_len_of-le}
 use Rattle.can_frame.proofs.Frame.make.Goals as goal
-use Rattle.can_frame.proofs.Frame.make.Goals.{then-rtr, else-rtr}
 
 pub invariant_of-result : goal.invariant_of-result
 invariant_of-result c =
-    let len_is : c.if-rtr.data_len ≡ cond c.args.rtr 0 c.args.dlc =
-    elim c.if-rtr.branch [ then-rtr w ↦ search rules | else-rtr w ↦ search rules ] in
-    let len_fits : c.if-rtr.data_len ≤ 8 =
-    elim c.if-rtr.branch [ then-rtr w ↦ omega arith | else-rtr w ↦ omega arith ] in
+    let len = c.data_len_of.result in
+    let len_fits : len ≤ 8 = let few = data_len_of-le c.args.rtr c.args.dlc in omega arith in
     let eight : length c.args.payload ≡ 8 = search rules in
     record {
       ident_in_range = search rules;
@@ -17,7 +15,7 @@ invariant_of-result c =
       can_to_two = omega arith;
       eight_bytes = search rules;
       bytes = search rules;
-      zeros_past = λ k past. rw c.first_bytes.ensures (padded_past c.if-rtr.data_len c.args.payload len_fits eight k (omega (arith, len_is, past)));
+      zeros_past = λ k past. rw c.first_bytes.ensures (padded_past len c.args.payload len_fits eight k (omega arith));
     }
 
 pub returns-clause-valid : goal.returns-clause-valid

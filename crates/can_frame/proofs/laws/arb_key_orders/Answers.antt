@@ -1,3 +1,4 @@
+-- The law of the keys.
 use Rattle.can_frame.proofs.Fields.{KeysOrderFields-all}
 use Rattle.can_frame.proofs.laws.arb_key_orders.Goals as goal
 

@@ -1,3 +1,5 @@
+// The keys that order frames and name identifiers.
+
 ghost use Rattle.std.specs.Prelude.{◌≡◌};
 ghost use Rattle.can_frame.specs.Arbitration.{arbitration_key, selection_key};
 

@@ -1,0 +1,2 @@
+-- What the fields of a frame mean.
+pub mod Frame
