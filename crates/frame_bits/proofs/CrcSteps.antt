@@ -6,8 +6,8 @@ use Rattle.std.proofs.lemmas.Nat.{and_mask, xor_comm, xor_lt}
 use Rattle.std.proofs.lemmas.Nat.Bits.{bit_at_xor, bit_at-lt}
 use Rattle.can_frame.specs.Bits.{field_bits, number_of}
 use Rattle.can_frame.proofs.BitLists.{length-field_bits, number_of-field_bits, field_bits-suc, field_bits-zero, field_bits-snoc, field_bits-mod, field_bits-number_of}
-use Rattle.frame_bits.specs.Crc.{xor, added, generator, strike, divided, crc_bits}
-use Rattle.frame_bits.specs.Walk.{IsRegister}
+use Rattle.frame_bits.specs.Crc.{xor, bit_sum, generator, division_step, division_steps, crc_bits}
+use Rattle.frame_bits.specs.Inside.Crc.{IsRegister}
 
 from_beq : (a b : Bool) → beq a b ≡ true → a ≡ b
 from_beq true true e = refl
@@ -22,29 +22,29 @@ from_not_beq true false e = refl
 from_not_beq false true e = refl
 
 -- ---- adding coefficients
-pub length-added : (cs bits : List Bool) → length cs ≤ length bits → length (added cs bits) ≡ length bits
-length-added [] bits h = refl
-length-added (c ∷ cs) [] h = absurd (omega (arith, h))
-length-added (c ∷ cs) (b ∷ bits) h = ap suc (length-added cs bits (omega (arith, h)))
+pub length-bit_sum : (cs bits : List Bool) → length cs ≤ length bits → length (bit_sum cs bits) ≡ length bits
+length-bit_sum [] bits h = refl
+length-bit_sum (c ∷ cs) [] h = absurd (omega (arith, h))
+length-bit_sum (c ∷ cs) (b ∷ bits) h = ap suc (length-bit_sum cs bits (omega (arith, h)))
 
-added-zeros : (k : ℕ) (bits : List Bool) → k ≤ length bits → added (replicate k false) bits ≡ bits
-added-zeros zero bits h = refl
-added-zeros (suc k) [] h = absurd (omega (arith, h))
-added-zeros (suc k) (b ∷ bits) h = ap (λ c. b ∷ c) (added-zeros k bits (omega (arith, h)))
+bit_sum-zeros : (k : ℕ) (bits : List Bool) → k ≤ length bits → bit_sum (replicate k false) bits ≡ bits
+bit_sum-zeros zero bits h = refl
+bit_sum-zeros (suc k) [] h = absurd (omega (arith, h))
+bit_sum-zeros (suc k) (b ∷ bits) h = ap (λ c. b ∷ c) (bit_sum-zeros k bits (omega (arith, h)))
 
 xor-false : (c : Bool) → xor c false ≡ c
 xor-false true = refl
 xor-false false = refl
 
-added-onto_zeros : (cs : List Bool) → added cs (replicate (length cs) false) ≡ cs
-added-onto_zeros [] = refl
-added-onto_zeros (c ∷ cs) = ap (λ b. b ∷ added cs (replicate (length cs) false)) (xor-false c) ∙ ap (λ l. c ∷ l) (added-onto_zeros cs)
+bit_sum-onto_zeros : (cs : List Bool) → bit_sum cs (replicate (length cs) false) ≡ cs
+bit_sum-onto_zeros [] = refl
+bit_sum-onto_zeros (c ∷ cs) = ap (λ b. b ∷ bit_sum cs (replicate (length cs) false)) (xor-false c) ∙ ap (λ l. c ∷ l) (bit_sum-onto_zeros cs)
 
-added-zero_end : (cs bits : List Bool) → length cs < length bits → added (cs ++ false ∷ []) bits ≡ added cs bits
-added-zero_end [] [] h = absurd (omega (arith, h))
-added-zero_end [] (b ∷ bits) h = refl
-added-zero_end (c ∷ cs) [] h = absurd (omega (arith, h))
-added-zero_end (c ∷ cs) (b ∷ bits) h = ap (λ l. xor c b ∷ l) (added-zero_end cs bits (omega (arith, h)))
+bit_sum-zero_end : (cs bits : List Bool) → length cs < length bits → bit_sum (cs ++ false ∷ []) bits ≡ bit_sum cs bits
+bit_sum-zero_end [] [] h = absurd (omega (arith, h))
+bit_sum-zero_end [] (b ∷ bits) h = refl
+bit_sum-zero_end (c ∷ cs) [] h = absurd (omega (arith, h))
+bit_sum-zero_end (c ∷ cs) (b ∷ bits) h = ap (λ l. xor c b ∷ l) (bit_sum-zero_end cs bits (omega (arith, h)))
 
 xor-assoc : (x y z : Bool) → xor (xor x y) z ≡ xor x (xor y z)
 xor-assoc false y z = refl
@@ -52,13 +52,13 @@ xor-assoc true false z = refl
 xor-assoc true true true = refl
 xor-assoc true true false = refl
 
-added-twice : (a b bits : List Bool) → length a ≤ length b → length b ≤ length bits → added (added a b) bits ≡ added a (added b bits)
-added-twice [] b bits h k = refl
-added-twice (x ∷ a) [] bits h k = absurd (omega (arith, h))
-added-twice (x ∷ a) (y ∷ b) [] h k = absurd (omega (arith, k))
-added-twice (x ∷ a) (y ∷ b) (z ∷ bits) h k =
-    ap (λ c. c ∷ added (added a b) bits) (xor-assoc x y z)
-    ∙ ap (λ l. xor x (xor y z) ∷ l) (added-twice a b bits (omega (arith, h)) (omega (arith, k)))
+bit_sum-twice : (a b bits : List Bool) → length a ≤ length b → length b ≤ length bits → bit_sum (bit_sum a b) bits ≡ bit_sum a (bit_sum b bits)
+bit_sum-twice [] b bits h k = refl
+bit_sum-twice (x ∷ a) [] bits h k = absurd (omega (arith, h))
+bit_sum-twice (x ∷ a) (y ∷ b) [] h k = absurd (omega (arith, k))
+bit_sum-twice (x ∷ a) (y ∷ b) (z ∷ bits) h k =
+    ap (λ c. c ∷ bit_sum (bit_sum a b) bits) (xor-assoc x y z)
+    ∙ ap (λ l. xor x (xor y z) ∷ l) (bit_sum-twice a b bits (omega (arith, h)) (omega (arith, k)))
 
 -- ---- fields added bit by bit
 xor-of_bits : (x y : ℕ) → x < 2 → y < 2 → eqb ((x + y) % 2) 1 ≡ xor (eqb x 1) (eqb y 1)
@@ -70,7 +70,8 @@ xor-of_bits (suc (suc x)) y h k = absurd (omega (arith, h))
 xor-of_bits zero (suc (suc y)) h k = absurd (omega (arith, k))
 xor-of_bits (suc zero) (suc (suc y)) h k = absurd (omega (arith, k))
 
-pub field_bits-xor : (k a b : ℕ) → field_bits k (bit_xor a b) ≡ added (field_bits k a) (field_bits k b)
+-- the field of two numbers' exclusive or is the sum of their fields
+pub field_bits-xor : (k a b : ℕ) → field_bits k (bit_xor a b) ≡ bit_sum (field_bits k a) (field_bits k b)
 field_bits-xor zero a b = rw (field_bits-zero (bit_xor a b), field_bits-zero a, field_bits-zero b) refl
 field_bits-xor (suc k) a b =
     rw (field_bits-suc k (bit_xor a b), field_bits-suc k a, field_bits-suc k b, bit_at_xor a b k)
@@ -101,10 +102,10 @@ moved r =
     ∙ ap (λ l. l ++ false ∷ []) (field_bits-mod 14 14 r (omega arith))
 
 -- what follows the register gets its bits without the leading one
-moved_added : (r : ℕ) (more : List Bool) → 15 ≤ length more → added (field_bits 14 r) more ≡ added (field_bits 15 (r % 2 ^ 14 * 2)) more
-moved_added r more h =
-    sym (added-zero_end (field_bits 14 r) more (omega (arith, length-field_bits 14 r, h)))
-    ∙ ap (λ l. added l more) (sym (moved r))
+moved_bit_sum : (r : ℕ) (more : List Bool) → 15 ≤ length more → bit_sum (field_bits 14 r) more ≡ bit_sum (field_bits 15 (r % 2 ^ 14 * 2)) more
+moved_bit_sum r more h =
+    sym (bit_sum-zero_end (field_bits 14 r) more (omega (arith, length-field_bits 14 r, h)))
+    ∙ ap (λ l. bit_sum l more) (sym (moved r))
 
 xor-same : (b : Bool) → xor b b ≡ false
 xor-same true = refl
@@ -115,84 +116,92 @@ xor-not true = refl
 xor-not false = refl
 
 -- the leading bit struck where it is 0
-pub strike_zero : (r : ℕ) (bit : Bool) (more : List Bool) → 15 ≤ length more → eqb (r / 2 ^ 14 % 2) 1 ≡ bit → strike (added (field_bits 15 r) (bit ∷ more)) ≡ added (field_bits 15 (r % 2 ^ 14 * 2)) more
-strike_zero r bit more h e =
-    let rest : List Bool = added (field_bits 14 r) more in
-    ap (λ l. strike (added l (bit ∷ more))) (field_bits-suc 14 r)
-    ∙ ap (λ t. strike (xor t bit ∷ rest)) e
-    ∙ ap (λ t. strike (t ∷ rest)) (xor-same bit)
-    ∙ moved_added r more h
+pub division_step_zero : (r : ℕ) (bit : Bool) (more : List Bool) → 15 ≤ length more → eqb (r / 2 ^ 14 % 2) 1 ≡ bit → division_step (bit_sum (field_bits 15 r) (bit ∷ more)) ≡ bit_sum (field_bits 15 (r % 2 ^ 14 * 2)) more
+division_step_zero r bit more h e =
+    let rest : List Bool = bit_sum (field_bits 14 r) more in
+    ap (λ l. division_step (bit_sum l (bit ∷ more))) (field_bits-suc 14 r)
+    ∙ ap (λ t. division_step (xor t bit ∷ rest)) e
+    ∙ ap (λ t. division_step (t ∷ rest)) (xor-same bit)
+    ∙ moved_bit_sum r more h
 
 -- and where it is 1
-pub strike_one : (r : ℕ) (bit : Bool) (more : List Bool) → 15 ≤ length more → eqb (r / 2 ^ 14 % 2) 1 ≡ not bit → strike (added (field_bits 15 r) (bit ∷ more)) ≡ added (field_bits 15 (bit_xor (r % 2 ^ 14 * 2) 0x4599)) more
-strike_one r bit more h e =
-    let rest : List Bool = added (field_bits 14 r) more in
+pub division_step_one : (r : ℕ) (bit : Bool) (more : List Bool) → 15 ≤ length more → eqb (r / 2 ^ 14 % 2) 1 ≡ not bit → division_step (bit_sum (field_bits 15 r) (bit ∷ more)) ≡ bit_sum (field_bits 15 (bit_xor (r % 2 ^ 14 * 2) 0x4599)) more
+division_step_one r bit more h e =
+    let rest : List Bool = bit_sum (field_bits 14 r) more in
     let m : ℕ = r % 2 ^ 14 * 2 in
-    ap (λ l. strike (added l (bit ∷ more))) (field_bits-suc 14 r)
-    ∙ ap (λ t. strike (xor t bit ∷ rest)) e
-    ∙ ap (λ t. strike (t ∷ rest)) (xor-not bit)
-    ∙ ap (added generator) (moved_added r more h)
-    ∙ sym (added-twice generator (field_bits 15 m) more (omega (arith, length-field_bits 15 m, length-generator)) (omega (arith, length-field_bits 15 m, h)))
-    ∙ ap (λ g. added (added g (field_bits 15 m)) more) generator_field
-    ∙ ap (λ l. added l more) (sym (field_bits-xor 15 0x4599 m))
-    ∙ ap (λ x. added (field_bits 15 x) more) (xor_comm 0x4599 m)
+    ap (λ l. division_step (bit_sum l (bit ∷ more))) (field_bits-suc 14 r)
+    ∙ ap (λ t. division_step (xor t bit ∷ rest)) e
+    ∙ ap (λ t. division_step (t ∷ rest)) (xor-not bit)
+    ∙ ap (bit_sum generator) (moved_bit_sum r more h)
+    ∙ sym (bit_sum-twice generator (field_bits 15 m) more (omega (arith, length-field_bits 15 m, length-generator)) (omega (arith, length-field_bits 15 m, h)))
+    ∙ ap (λ g. bit_sum (bit_sum g (field_bits 15 m)) more) generator_field
+    ∙ ap (λ l. bit_sum l more) (sym (field_bits-xor 15 0x4599 m))
+    ∙ ap (λ x. bit_sum (field_bits 15 x) more) (xor_comm 0x4599 m)
 
 -- what the code computes of the register
 pub shifted_is : (r : ℕ) → bit_and r 16383 * 2 % 65536 ≡ r % 2 ^ 14 * 2
 shifted_is r = omega (arith, and_mask r 14)
 
+-- the register stays below two to the fifteenth
 pub next-lt : (r : ℕ) → bit_xor (r % 2 ^ 14 * 2) 0x4599 < 2 ^ 15
 next-lt r = xor_lt 15 (r % 2 ^ 14 * 2) 0x4599 (omega arith) (omega arith)
 
 leading_is : (r : ℕ) → r < 2 ^ 15 → r / 2 ^ 14 % 2 ≡ r / 2 ^ 14
 leading_is r h = omega arith
 
+-- the leading bit that the code compares, where it equals the next bit
 pub leads_same : (r : ℕ) (bit : Bool) → r < 2 ^ 15 → beq (eqb (r / 16384) 1) bit ≡ true → eqb (r / 2 ^ 14 % 2) 1 ≡ bit
 leads_same r bit h e = ap (λ x. eqb x 1) (leading_is r h) ∙ from_beq (eqb (r / 16384) 1) bit e
 
+-- and where it does not
 pub leads_other : (r : ℕ) (bit : Bool) → r < 2 ^ 15 → beq (eqb (r / 16384) 1) bit ≡ false → eqb (r / 2 ^ 14 % 2) 1 ≡ not bit
 leads_other r bit h e = ap (λ x. eqb x 1) (leading_is r h) ∙ from_not_beq (eqb (r / 16384) 1) bit e
 
 -- ---- the relation between the register and the bits so far
+-- before the first bit the register is 0
 pub IsRegister-none : IsRegister 0 []
-IsRegister-none more h = sym (ap (λ l. added l more) zero_field ∙ added-zeros 15 more h)
+IsRegister-none more h = sym (ap (λ l. bit_sum l more) zero_field ∙ bit_sum-zeros 15 more h)
 
-pub IsRegister-push : (r next : ℕ) (bit : Bool) (bits : List Bool) → ((more : List Bool) → 15 ≤ length more → strike (added (field_bits 15 r) (bit ∷ more)) ≡ added (field_bits 15 next) more) → IsRegister r bits → IsRegister next (bits ++ bit ∷ [])
+-- a step of the register is a step of the division
+pub IsRegister-push : (r next : ℕ) (bit : Bool) (bits : List Bool) → ((more : List Bool) → 15 ≤ length more → division_step (bit_sum (field_bits 15 r) (bit ∷ more)) ≡ bit_sum (field_bits 15 next) more) → IsRegister r bits → IsRegister next (bits ++ bit ∷ [])
 IsRegister-push r next bit bits step old more h =
     let longer : length (bits ++ bit ∷ []) ≡ suc (length bits) = omega (arith, length-append bits (bit ∷ [])) in
-    ap (λ n. divided n ((bits ++ bit ∷ []) ++ more)) longer
-    ∙ ap (λ l. strike (divided (length bits) l)) (append_assoc bits (bit ∷ []) more)
-    ∙ ap strike (old (bit ∷ more) (omega (arith, h)))
+    ap (λ n. division_steps n ((bits ++ bit ∷ []) ++ more)) longer
+    ∙ ap (λ l. division_step (division_steps (length bits) l)) (append_assoc bits (bit ∷ []) more)
+    ∙ ap division_step (old (bit ∷ more) (omega (arith, h)))
     ∙ step more h
 
+-- what the register holds at the end is the CRC
 pub IsRegister-crc : (r : ℕ) (bits : List Bool) → IsRegister r bits → crc_bits bits ≡ field_bits 15 r
 unfolding crc_bits
 IsRegister-crc r bits now =
     now (replicate 15 false) (omega arith)
-    ∙ ap (λ n. added (field_bits 15 r) (replicate n false)) (sym (length-field_bits 15 r))
-    ∙ added-onto_zeros (field_bits 15 r)
+    ∙ ap (λ n. bit_sum (field_bits 15 r) (replicate n false)) (sym (length-field_bits 15 r))
+    ∙ bit_sum-onto_zeros (field_bits 15 r)
 
+-- and its number is that of the CRC
 pub IsRegister-value : (r : ℕ) (bits : List Bool) → r < 2 ^ 15 → IsRegister r bits → r ≡ number_of (crc_bits bits)
 IsRegister-value r bits h now =
     let whole : r ≡ r % 2 ^ 15 = omega arith in
     whole ∙ sym (ap number_of (IsRegister-crc r bits now) ∙ number_of-field_bits 15 r)
 
 -- the remainder has fifteen bits
-length-strike : (bits : List Bool) → 16 ≤ length bits → suc (length (strike bits)) ≡ length bits
-length-strike [] h = absurd (omega (arith, h))
-length-strike (false ∷ bits) h = refl
-length-strike (true ∷ bits) h = ap suc (length-added generator bits (omega (arith, length-generator, h)))
+length-division_step : (bits : List Bool) → 16 ≤ length bits → suc (length (division_step bits)) ≡ length bits
+length-division_step [] h = absurd (omega (arith, h))
+length-division_step (false ∷ bits) h = refl
+length-division_step (true ∷ bits) h = ap suc (length-bit_sum generator bits (omega (arith, length-generator, h)))
 
-length-divided : (n : ℕ) (bits : List Bool) → n + 15 ≤ length bits → length (divided n bits) + n ≡ length bits
-length-divided zero bits h = omega arith
-length-divided (suc n) bits h =
-    omega (arith, length-divided n bits (omega (arith, h)), length-strike (divided n bits) (omega (arith, h, length-divided n bits (omega (arith, h)))))
+length-division_steps : (n : ℕ) (bits : List Bool) → n + 15 ≤ length bits → length (division_steps n bits) + n ≡ length bits
+length-division_steps zero bits h = omega arith
+length-division_steps (suc n) bits h =
+    omega (arith, length-division_steps n bits (omega (arith, h)), length-division_step (division_steps n bits) (omega (arith, h, length-division_steps n bits (omega (arith, h)))))
 
+-- the CRC has fifteen bits
 pub length-crc_bits : (bits : List Bool) → length (crc_bits bits) ≡ 15
 unfolding crc_bits
 length-crc_bits bits =
     let sum : length (bits ++ replicate 15 false) ≡ length bits + 15 = length-append bits (replicate 15 false) in
-    omega (arith, sum, length-divided (length bits) (bits ++ replicate 15 false) (omega (arith, sum)))
+    omega (arith, sum, length-division_steps (length bits) (bits ++ replicate 15 false) (omega (arith, sum)))
 
 -- and is the field of the number that it spells
 pub crc_field : (bits : List Bool) → field_bits 15 (number_of (crc_bits bits)) ≡ crc_bits bits

@@ -7,7 +7,7 @@ use Rattle.std.proofs.lemmas.Nat.Bits.{shr_and_one}
 use mir.Val.{bool_byte}
 use Rattle.can_frame.specs.declared.Ident.TheVariants.{Std, Ext}
 use Rattle.can_frame.specs.Bits.{field_bits}
-use Rattle.frame_bits.specs.Fields.{header_bits}
+use Rattle.frame_bits.specs.Bits.{header_bits}
 use Rattle.can_frame.proofs.BitLists.{field_bits-snoc, field_bits-zero, field_bits-single}
 
 -- no bit of a field stands above its width
@@ -26,11 +26,13 @@ grows bits w p n h =
     ∙ ap (λ l. bits ++ l) (sym (field_bits-snoc (w - (p + 1)) (n / 2 ^ p)))
     ∙ ap (λ k. bits ++ field_bits k (n / 2 ^ p)) (sym wider)
 
+-- the bits of a field down to the next place
 pub field_grows : (bits : List Bool) (w place n : ℕ) → 0 < place → place ≤ w → (bits ++ field_bits (w - place) (n / 2 ^ place)) ++ eqb (bit_and (n / 2 ^ (place - 1)) 1) 1 ∷ [] ≡ bits ++ field_bits (w - (place - 1)) (n / 2 ^ (place - 1))
 field_grows bits w place n low high =
     let above : place - 1 + 1 ≡ place = omega arith in
     subst (λ q. (bits ++ field_bits (w - q) (n / 2 ^ q)) ++ eqb (bit_and (n / 2 ^ (place - 1)) 1) 1 ∷ [] ≡ bits ++ field_bits (w - (place - 1)) (n / 2 ^ (place - 1))) above (grows bits w (place - 1) n (omega arith))
 
+-- down to place 0 they are all its bits
 pub field_ends : (bits : List Bool) (w place n : ℕ) → place ≡ 0 → bits ++ field_bits (w - place) (n / 2 ^ place) ≡ bits ++ field_bits w n
 field_ends bits w place n e =
     let whole : w - 0 ≡ w = omega arith in
@@ -44,6 +46,7 @@ fields_grow f bits xs i d piece h e =
     ∙ flat_map_more f bits (take i xs) (get_or xs i d)
     ∙ ap (λ l. bits ++ flat_map f l) (sym (take_more xs i d h))
 
+-- past the last field they are the bits of all fields
 pub fields_end : {X : Type 0} (f : X → List Bool) (bits : List Bool) (xs : List X) (i : ℕ) → length xs ≤ i → bits ++ flat_map f (take i xs) ≡ bits ++ flat_map f xs
 fields_end f bits xs i h = ap (λ l. bits ++ flat_map f l) (take_all i xs h)
 
@@ -57,6 +60,7 @@ pub bit_field : (width number : ℕ) (b : Bool) → width ≡ 1 → number ≡ b
 bit_field width number b w e =
     ap (λ k. field_bits k number) w ∙ ap (field_bits 1) e ∙ field_bits-single b (bool_byte b) (byte_of_bit b)
 
+-- a field whose width and number the code knows
 pub number_field : (width number w n : ℕ) → width ≡ w → number ≡ n → field_bits width number ≡ field_bits w n
 number_field width number w n e q = ap (λ k. field_bits k number) e ∙ ap (field_bits w) q
 

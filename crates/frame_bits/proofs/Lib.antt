@@ -1,3 +1,4 @@
+-- Lemmas on the register of the CRC, on fields, on stuffing and on lengths.
 mod CrcSteps
 mod Runs
 mod FieldSteps

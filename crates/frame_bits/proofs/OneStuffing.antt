@@ -3,9 +3,9 @@ use Rattle.std.proofs.Common.{◌≡◌, ◌≢◌, ℕ, ◌<◌, ◌≤◌, Boo
 use Rattle.std.proofs.lemmas.Bool.{cases_lt}
 use Rattle.std.proofs.lemmas.Bool.Decides.{nat_tests}
 use Rattle.std.proofs.lemmas.List.{append-nil}
-use Rattle.frame_bits.specs.Stuffing.{begins_with_run, kept_after, without_stuff_bits, stuffed, IsStuffing, HasOneStuffing}
-use Rattle.frame_bits.specs.Walk.{run_with, stuffed_behind}
-use Rattle.frame_bits.proofs.Runs.{Ends, Ends-none, Ends-push, test_full, not_five, run_test, run_with-le, run_with-not, stuffed_behind-run, stuffed_behind-more, stuffed-is}
+use Rattle.frame_bits.specs.Stuffing.{begins_with_run, without_stuff_bits_after, without_stuff_bits, stuffing_of, IsStuffing, HasOneStuffing}
+use Rattle.frame_bits.specs.Inside.Stuffing.{run_with, stuffing_behind}
+use Rattle.frame_bits.proofs.Runs.{Ends, Ends-none, Ends-push, test_full, not_five, run_test, run_with-le, run_with-not, stuffing_behind-run, stuffing_behind-more, stuffing_of-is}
 
 -- ---- the three points, at the bits behind a run
 -- what follows is allowed: after five equal bits comes a bit of the other value
@@ -14,17 +14,17 @@ Follows x k [] = k < 5
 Follows x k (b ∷ s) = (k ≡ 5 → b ≡ not x) × Follows b (run_with x k b) s
 
 -- the bits that do not follow five equal bits
-abbrev kept_behind : Bool → ℕ → List Bool → List Bool
-kept_behind x k [] = []
-kept_behind x k (b ∷ s) = cond (eqb k 5) (kept_behind b (run_with x k b) s) (b ∷ kept_behind b (run_with x k b) s)
+abbrev without_stuff_bits_behind : Bool → ℕ → List Bool → List Bool
+without_stuff_bits_behind x k [] = []
+without_stuff_bits_behind x k (b ∷ s) = cond (eqb k 5) (without_stuff_bits_behind b (run_with x k b) s) (b ∷ without_stuff_bits_behind b (run_with x k b) s)
 
-kept_behind-free : (x : Bool) (k : ℕ) (b : Bool) (s : List Bool) → k < 5 → kept_behind x k (b ∷ s) ≡ b ∷ kept_behind b (run_with x k b) s
-kept_behind-free x k b s h =
-    ap (λ t. cond t (kept_behind b (run_with x k b) s) (b ∷ kept_behind b (run_with x k b) s)) (not_five k h)
+without_stuff_bits_behind-free : (x : Bool) (k : ℕ) (b : Bool) (s : List Bool) → k < 5 → without_stuff_bits_behind x k (b ∷ s) ≡ b ∷ without_stuff_bits_behind b (run_with x k b) s
+without_stuff_bits_behind-free x k b s h =
+    ap (λ t. cond t (without_stuff_bits_behind b (run_with x k b) s) (b ∷ without_stuff_bits_behind b (run_with x k b) s)) (not_five k h)
 
 -- behind five equal bits the next one, of the other value, is left out
-kept_behind-stuff : (x b : Bool) (s : List Bool) → b ≡ not x → kept_behind x 5 (b ∷ s) ≡ kept_behind b 1 s
-kept_behind-stuff x b s e = ap (λ n. kept_behind b n s) (ap (run_with x 5) e ∙ run_with-not x 5)
+without_stuff_bits_behind-stuff : (x b : Bool) (s : List Bool) → b ≡ not x → without_stuff_bits_behind x 5 (b ∷ s) ≡ without_stuff_bits_behind b 1 s
+without_stuff_bits_behind-stuff x b s e = ap (λ n. without_stuff_bits_behind b n s) (ap (run_with x 5) e ∙ run_with-not x 5)
 
 run_stays : (x b : Bool) (k : ℕ) → k ≤ 5 → (k ≡ 5 → b ≡ not x) → run_with x k b ≤ 5
 run_stays x b k h other =
@@ -36,65 +36,65 @@ run_stays x b k h other =
           omega (arith, one)
     ]
 
-kept_after-is : (s r : List Bool) (x : Bool) (k : ℕ) → k ≤ 5 → Ends r x k → Follows x k s → kept_after r s ≡ kept_behind x k s
-kept_after-is [] r x k h e f = refl
-kept_after-is (b ∷ s) r x k h e f =
-    ap (λ t. cond t (kept_after (b ∷ r) s) (b ∷ kept_after (b ∷ r) s)) (run_test r x k h e)
-    ∙ ap (λ l. cond (eqb k 5) l (b ∷ l)) (kept_after-is s (b ∷ r) b (run_with x k b) (run_stays x b k h f.0) (Ends-push r x b k e) f.1)
+without_stuff_bits_after-is : (s r : List Bool) (x : Bool) (k : ℕ) → k ≤ 5 → Ends r x k → Follows x k s → without_stuff_bits_after r s ≡ without_stuff_bits_behind x k s
+without_stuff_bits_after-is [] r x k h e f = refl
+without_stuff_bits_after-is (b ∷ s) r x k h e f =
+    ap (λ t. cond t (without_stuff_bits_after (b ∷ r) s) (b ∷ without_stuff_bits_after (b ∷ r) s)) (run_test r x k h e)
+    ∙ ap (λ l. cond (eqb k 5) l (b ∷ l)) (without_stuff_bits_after-is s (b ∷ r) b (run_with x k b) (run_stays x b k h f.0) (Ends-push r x b k e) f.1)
 
 -- ---- the stuffing of a list meets them
-Follows-stuffed : (bits : List Bool) (x : Bool) (k : ℕ) → k < 5 → Follows x k (stuffed_behind x k bits)
-Follows-stuffed [] x k h = h
-Follows-stuffed (b ∷ bits) x k h =
+Follows-stuffing_of : (bits : List Bool) (x : Bool) (k : ℕ) → k < 5 → Follows x k (stuffing_behind x k bits)
+Follows-stuffing_of [] x k h = h
+Follows-stuffing_of (b ∷ bits) x k h =
     elim (cases_lt (run_with x k b) 5) [
       | inl less ↦
-          subst (Follows x k) (sym (stuffed_behind-more x b k bits less)) (λ five. absurd (omega (arith, h, five)), Follows-stuffed bits b (run_with x k b) less)
+          subst (Follows x k) (sym (stuffing_behind-more x b k bits less)) (λ five. absurd (omega (arith, h, five)), Follows-stuffing_of bits b (run_with x k b) less)
       | inr full ↦
           let five : run_with x k b ≡ 5 = omega (arith, run_with-le x b k h, full) in
-          let after : Follows (not b) (run_with b (run_with x k b) (not b)) (stuffed_behind (not b) 1 bits) =
-          subst (λ n. Follows (not b) n (stuffed_behind (not b) 1 bits)) (sym (run_with-not b (run_with x k b))) (Follows-stuffed bits (not b) 1 (omega arith)) in
-          subst (Follows x k) (sym (stuffed_behind-run x b k bits five)) (λ q. absurd (omega (arith, h, q)), (λ q. refl, after))
+          let after : Follows (not b) (run_with b (run_with x k b) (not b)) (stuffing_behind (not b) 1 bits) =
+          subst (λ n. Follows (not b) n (stuffing_behind (not b) 1 bits)) (sym (run_with-not b (run_with x k b))) (Follows-stuffing_of bits (not b) 1 (omega arith)) in
+          subst (Follows x k) (sym (stuffing_behind-run x b k bits five)) (λ q. absurd (omega (arith, h, q)), (λ q. refl, after))
     ]
 
-kept-stuffed : (bits : List Bool) (x : Bool) (k : ℕ) → k < 5 → kept_behind x k (stuffed_behind x k bits) ≡ bits
-kept-stuffed [] x k h = refl
-kept-stuffed (b ∷ bits) x k h =
+kept-stuffing_of : (bits : List Bool) (x : Bool) (k : ℕ) → k < 5 → without_stuff_bits_behind x k (stuffing_behind x k bits) ≡ bits
+kept-stuffing_of [] x k h = refl
+kept-stuffing_of (b ∷ bits) x k h =
     elim (cases_lt (run_with x k b) 5) [
       | inl less ↦
-          ap (kept_behind x k) (stuffed_behind-more x b k bits less)
-          ∙ kept_behind-free x k b (stuffed_behind b (run_with x k b) bits) h
-          ∙ ap (λ l. b ∷ l) (kept-stuffed bits b (run_with x k b) less)
+          ap (without_stuff_bits_behind x k) (stuffing_behind-more x b k bits less)
+          ∙ without_stuff_bits_behind-free x k b (stuffing_behind b (run_with x k b) bits) h
+          ∙ ap (λ l. b ∷ l) (kept-stuffing_of bits b (run_with x k b) less)
       | inr full ↦
           let five : run_with x k b ≡ 5 = omega (arith, run_with-le x b k h, full) in
-          ap (kept_behind x k) (stuffed_behind-run x b k bits five)
-          ∙ kept_behind-free x k b (not b ∷ stuffed_behind (not b) 1 bits) h
-          ∙ ap (λ n. b ∷ kept_behind b n (not b ∷ stuffed_behind (not b) 1 bits)) five
-          ∙ ap (λ l. b ∷ l) (kept_behind-stuff b (not b) (stuffed_behind (not b) 1 bits) refl)
-          ∙ ap (λ l. b ∷ l) (kept-stuffed bits (not b) 1 (omega arith))
+          ap (without_stuff_bits_behind x k) (stuffing_behind-run x b k bits five)
+          ∙ without_stuff_bits_behind-free x k b (not b ∷ stuffing_behind (not b) 1 bits) h
+          ∙ ap (λ n. b ∷ without_stuff_bits_behind b n (not b ∷ stuffing_behind (not b) 1 bits)) five
+          ∙ ap (λ l. b ∷ l) (without_stuff_bits_behind-stuff b (not b) (stuffing_behind (not b) 1 bits) refl)
+          ∙ ap (λ l. b ∷ l) (kept-stuffing_of bits (not b) 1 (omega arith))
     ]
 
 -- ---- what meets them is the stuffing of what it keeps
-only : (s : List Bool) (x : Bool) (k : ℕ) → k < 5 → Follows x k s → s ≡ stuffed_behind x k (kept_behind x k s)
+only : (s : List Bool) (x : Bool) (k : ℕ) → k < 5 → Follows x k s → s ≡ stuffing_behind x k (without_stuff_bits_behind x k s)
 only [] x k h f = refl
-only (b ∷ []) x k h f = sym (ap (stuffed_behind x k) (kept_behind-free x k b [] h) ∙ stuffed_behind-more x b k [] f.1)
+only (b ∷ []) x k h f = sym (ap (stuffing_behind x k) (without_stuff_bits_behind-free x k b [] h) ∙ stuffing_behind-more x b k [] f.1)
 only (b ∷ d ∷ s) x k h f =
     elim (cases_lt (run_with x k b) 5) [
       | inl less ↦
           ap (λ l. b ∷ l) (only (d ∷ s) b (run_with x k b) less f.1)
-          ∙ sym (ap (stuffed_behind x k) (kept_behind-free x k b (d ∷ s) h) ∙ stuffed_behind-more x b k (kept_behind b (run_with x k b) (d ∷ s)) less)
+          ∙ sym (ap (stuffing_behind x k) (without_stuff_bits_behind-free x k b (d ∷ s) h) ∙ stuffing_behind-more x b k (without_stuff_bits_behind b (run_with x k b) (d ∷ s)) less)
       | inr full ↦
           let five : run_with x k b ≡ 5 = omega (arith, run_with-le x b k h, full) in
           let other : d ≡ not b = f.1.0 five in
           let one : run_with b (run_with x k b) d ≡ 1 = ap (run_with b (run_with x k b)) other ∙ run_with-not b (run_with x k b) in
           let after : Follows d 1 s = subst (λ n. Follows d n s) one f.1.1 in
-          let kept : List Bool = kept_behind d 1 s in
-          let keeps : kept_behind x k (b ∷ d ∷ s) ≡ b ∷ kept =
-          kept_behind-free x k b (d ∷ s) h
-          ∙ ap (λ n. b ∷ kept_behind b n (d ∷ s)) five
-          ∙ ap (λ l. b ∷ l) (kept_behind-stuff b d s other) in
+          let kept : List Bool = without_stuff_bits_behind d 1 s in
+          let keeps : without_stuff_bits_behind x k (b ∷ d ∷ s) ≡ b ∷ kept =
+          without_stuff_bits_behind-free x k b (d ∷ s) h
+          ∙ ap (λ n. b ∷ without_stuff_bits_behind b n (d ∷ s)) five
+          ∙ ap (λ l. b ∷ l) (without_stuff_bits_behind-stuff b d s other) in
           ap (λ l. b ∷ d ∷ l) (only s d 1 (omega arith) after)
-          ∙ ap (λ y. b ∷ y ∷ stuffed_behind y 1 kept) other
-          ∙ sym (ap (stuffed_behind x k) keeps ∙ stuffed_behind-run x b k kept five)
+          ∙ ap (λ y. b ∷ y ∷ stuffing_behind y 1 kept) other
+          ∙ sym (ap (stuffing_behind x k) keeps ∙ stuffing_behind-run x b k kept five)
     ]
 
 -- ---- the three points, as they are stated
@@ -188,25 +188,26 @@ no_six_nil : NoSix []
 no_six_nil [] back x q = cc q
 no_six_nil (z ∷ front) back x q = cc q
 
-is_one : (b : List Bool) → IsStuffing (stuffed b) b
+is_one : (b : List Bool) → IsStuffing (stuffing_of b) b
 unfolding without_stuff_bits
 is_one b =
-    let s : List Bool = stuffed_behind false 0 b in
-    let follows : Follows false 0 s = Follows-stuffed b false 0 (omega arith) in
+    let s : List Bool = stuffing_behind false 0 b in
+    let follows : Follows false 0 s = Follows-stuffing_of b false 0 (omega arith) in
     let well : EndsWell (onto s []) = from_Follows s [] false 0 (omega arith) (Ends-none false) no_six_nil follows in
     let here : IsStuffing s b = record {
       no_six = λ front back x q. well.no_six (onto back []) (onto front []) x (turned s front (replicate 6 x) back q ∙ onto-is back (replicate 6 x ++ onto front []) ∙ sym (append_assoc (onto back []) (replicate 6 x) (onto front [])));
       followed = λ front back x q none. not_short well.run well.short (head_run (onto s []) well.last well.run x (onto front []) (omega (arith, well.short)) well.ends (turned s front (replicate 5 x) back q ∙ ap (λ l. onto l (replicate 5 x ++ onto front [])) none)).0;
-      carries = kept_after-is s [] false 0 (omega arith) (Ends-none false) follows ∙ kept-stuffed b false 0 (omega arith);
+      carries = without_stuff_bits_after-is s [] false 0 (omega arith) (Ends-none false) follows ∙ kept-stuffing_of b false 0 (omega arith);
     } in
-    subst (λ l. IsStuffing l b) (sym (stuffed-is false b)) here
+    subst (λ l. IsStuffing l b) (sym (stuffing_of-is false b)) here
 
-no_other : (b s : List Bool) → IsStuffing s b → s ≡ stuffed b
+no_other : (b s : List Bool) → IsStuffing s b → s ≡ stuffing_of b
 unfolding without_stuff_bits
 no_other b s is =
     let follows : Follows false 0 s = to_Follows s [] false 0 (omega arith) (Ends-none false) is.no_six is.followed in
-    let keeps : kept_behind false 0 s ≡ b = sym (kept_after-is s [] false 0 (omega arith) (Ends-none false) follows) ∙ is.carries in
-    only s false 0 (omega arith) follows ∙ ap (stuffed_behind false 0) keeps ∙ sym (stuffed-is false b)
+    let keeps : without_stuff_bits_behind false 0 s ≡ b = sym (without_stuff_bits_after-is s [] false 0 (omega arith) (Ends-none false) follows) ∙ is.carries in
+    only s false 0 (omega arith) follows ∙ ap (stuffing_behind false 0) keeps ∙ sym (stuffing_of-is false b)
 
+-- the law of stuffing
 pub HasOneStuffing-all : (b : List Bool) → HasOneStuffing b
 HasOneStuffing-all b = record { is_one = is_one b; no_other = no_other b }

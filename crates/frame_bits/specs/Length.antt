@@ -1,17 +1,12 @@
 -- How many bits a frame has on the bus (ISO 11898-1, data frame, remote frame and bit stuffing).
-use Rattle.std.specs.Prelude.{◌≡◌, ℕ, ◌+◌, ◌-◌, ◌*◌, ◌/◌, ◌≤◌, Bool, true, false, if◌then◌else◌, List, ◌++◌, length}
+use Rattle.std.specs.Prelude.{◌≡◌, ℕ, ◌+◌, ◌-◌, ◌*◌, ◌/◌, ◌≤◌, Bool, true, false, if◌then◌else◌, List, length}
 use Rattle.can_frame.specs.declared.Ident.{Ident}
 use Rattle.can_frame.specs.declared.Ident.TheVariants.{Std, Ext}
 use Rattle.can_frame.specs.Frame.{FrameFields, data_len}
-use Rattle.frame_bits.specs.Fields.{covered_bits}
-use Rattle.frame_bits.specs.Crc.{crc_bits}
-use Rattle.frame_bits.specs.Stuffing.{IsStuffing, stuffed}
+use Rattle.frame_bits.specs.Bits.{unstuffed_bits}
+use Rattle.frame_bits.specs.Stuffing.{IsStuffing, stuffing_of}
 
--- the bits from SOF to the last CRC bit before stuffing
-abbrev pub unstuffed_bits : FrameFields → List Bool
-unstuffed_bits f = covered_bits f ++ crc_bits (covered_bits f)
-
--- n is the length of the frame on the bus: its stuffed bits, and then the CRC delimiter, the ACK
+-- n is the length of the frame on the bus: the bits of its stuffing, and then the CRC delimiter, the ACK
 -- slot, the ACK delimiter and seven bits of EOF
 pub record IsFrameLength (f : FrameFields) (n : ℕ) : Type 0 where
   pub bits : List Bool
@@ -20,7 +15,7 @@ pub record IsFrameLength (f : FrameFields) (n : ℕ) : Type 0 where
 
 -- that length, by the one stuffing that there is
 unfoldable pub frame_length : FrameFields → ℕ
-frame_length f = length (stuffed (unstuffed_bits f)) + 10
+frame_length f = length (stuffing_of (unstuffed_bits f)) + 10
 
 -- whether an identifier is extended
 abbrev pub is_extended : Ident → Bool

@@ -1,7 +1,6 @@
-pub mod Fields
-pub mod FieldBits
+-- The definitions of this crate.
 pub mod Crc
+pub mod Bits
 pub mod Stuffing
 pub mod Length
-pub mod Walk
-pub mod WalkState
+pub mod Inside

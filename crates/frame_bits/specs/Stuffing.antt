@@ -9,14 +9,16 @@ begins_with_run bits = starts_with beq bits (replicate 5 false) || starts_with b
 
 -- the bits that do not follow five equal bits; `before` has what stands before them, the nearest
 -- first
-abbrev pub kept_after : List Bool → List Bool → List Bool
-kept_after before [] = []
-kept_after before (b ∷ bits) =
-    if begins_with_run before then kept_after (b ∷ before) bits else b ∷ kept_after (b ∷ before) bits
+abbrev pub without_stuff_bits_after : List Bool → List Bool → List Bool
+without_stuff_bits_after before [] = []
+without_stuff_bits_after before (b ∷ bits) =
+    if begins_with_run before
+    then without_stuff_bits_after (b ∷ before) bits
+    else b ∷ without_stuff_bits_after (b ∷ before) bits
 
 -- a list without the bits that follow five equal bits
 unfoldable pub without_stuff_bits : List Bool → List Bool
-without_stuff_bits s = kept_after [] s
+without_stuff_bits s = without_stuff_bits_after [] s
 
 -- s is a stuffing of b
 pub record IsStuffing (s b : List Bool) : Type 0 where
@@ -28,18 +30,18 @@ pub record IsStuffing (s b : List Bool) : Type 0 where
   pub carries : without_stuff_bits s ≡ b
 
 -- after five equal bits, the inserted ones counted, one of the other value; `before` as above
-abbrev pub stuffed_after : List Bool → List Bool → List Bool
-stuffed_after before [] = []
-stuffed_after before (b ∷ bits) =
+abbrev pub stuffing_after : List Bool → List Bool → List Bool
+stuffing_after before [] = []
+stuffing_after before (b ∷ bits) =
     if begins_with_run (b ∷ before)
-    then b ∷ not b ∷ stuffed_after (not b ∷ b ∷ before) bits
-    else b ∷ stuffed_after (b ∷ before) bits
+    then b ∷ not b ∷ stuffing_after (not b ∷ b ∷ before) bits
+    else b ∷ stuffing_after (b ∷ before) bits
 
 -- the stuffing of a list
-unfoldable pub stuffed : List Bool → List Bool
-stuffed b = stuffed_after [] b
+unfoldable pub stuffing_of : List Bool → List Bool
+stuffing_of b = stuffing_after [] b
 
 -- a list has exactly one stuffing
 pub record HasOneStuffing (b : List Bool) : Type 0 where
-  pub is_one : IsStuffing (stuffed b) b
-  pub no_other : (s : List Bool) → IsStuffing s b → s ≡ stuffed b
+  pub is_one : IsStuffing (stuffing_of b) b
+  pub no_other : (s : List Bool) → IsStuffing s b → s ≡ stuffing_of b

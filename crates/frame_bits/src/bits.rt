@@ -1,13 +1,12 @@
 // The unstuffed bits of a frame as a list.
 
 ghost use Rattle.std.specs.Prelude.{◌≡◌, ◌++◌, OnOk, IfOk};
-ghost use Rattle.frame_bits.specs.Fields.{data_bits};
-ghost use Rattle.frame_bits.specs.FieldBits.{bits_in, bits_in_all};
-ghost use Rattle.frame_bits.specs.Length.{unstuffed_bits};
+ghost use Rattle.frame_bits.specs.Bits.{data_bits, unstuffed_bits};
+ghost use Rattle.frame_bits.specs.Inside.Field.{bits_in, bits_in_all};
 
 use crate::crc::crc15;
 use crate::field::Field;
-use crate::header::{data_len, header};
+use crate::header::header;
 use can_frame::Frame;
 use sim_outside::NoMemory;
 use std::alloc::Global;
@@ -25,7 +24,7 @@ pub fn bits_of(alloc: Global, f: &Frame) -> Result<Vec<bool>, NoMemory>
     let mut bits = Vec::new(alloc);
     append_all(&mut bits, &header(f))?;
     let payload = f.payload();
-    append_bytes(&mut bits, &payload[..data_len(f)])?;
+    append_bytes(&mut bits, &payload[..f.data_len()])?;
     let crc = crc15(bits.as_slice());
     append(&mut bits, Field::new(15, u32::from(crc)))?;
     Ok(bits)

@@ -3,7 +3,7 @@
 ghost use Rattle.std.specs.Prelude.{◌≡◌, ◌<◌, ◌^◌, Bool, List, [], ◌∷◌, ◌++◌};
 ghost use Rattle.can_frame.specs.Bits.{number_of};
 ghost use Rattle.frame_bits.specs.Crc.{crc_bits};
-ghost use Rattle.frame_bits.specs.Walk.{IsRegister};
+ghost use Rattle.frame_bits.specs.Inside.Crc.{IsRegister};
 
 /// The generator polynomial without its leading term.
 const GENERATOR: u16 = 0x4599;
@@ -40,7 +40,8 @@ impl Crc {
     /// The CRC of the bits that were taken in.
     pub fn value(&self) -> u16
         ensures range { result < 2 ^ 15 }
-        ensures value { (bits : List Bool) → IsRegister self.now.register bits → result ≡ number_of (crc_bits bits) }
+        ensures value { (bits : List Bool) → IsRegister self.now.register bits
+            → result ≡ number_of (crc_bits bits) }
     {
         self.register
     }

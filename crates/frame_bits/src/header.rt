@@ -1,9 +1,8 @@
 // The fields of a frame before its CRC.
 
-ghost use Rattle.std.specs.Prelude.{◌≡◌, ◌≤◌, length};
-ghost use Rattle.can_frame.specs.Frame.{data_len};
-ghost use Rattle.frame_bits.specs.Fields.{header_bits};
-ghost use Rattle.frame_bits.specs.FieldBits.{bits_in_all};
+ghost use Rattle.std.specs.Prelude.{◌≡◌};
+ghost use Rattle.frame_bits.specs.Bits.{header_bits};
+ghost use Rattle.frame_bits.specs.Inside.Field.{bits_in_all};
 
 use crate::field::Field;
 use can_frame::{Frame, Ident};
@@ -43,12 +42,4 @@ pub fn header(f: &Frame) -> [Field; 9]
             dlc,
         ],
     }
-}
-
-/// How many data bytes the frame sends.
-pub fn data_len(f: &Frame) -> usize
-    ensures value { result ≡ data_len f.now }
-    ensures range { result ≤ 8 }
-{
-    if f.rtr() { 0 } else { usize::from(f.dlc()) }
 }

@@ -4,7 +4,7 @@ ghost use Rattle.std.specs.Prelude.{◌≡◌, ◌≤◌};
 ghost use Rattle.frame_bits.specs.Length.{IsFrameLength, frame_length, unstuffed_len, worst_length, BoundsLengths};
 
 use crate::field::Field;
-use crate::header::{data_len, header};
+use crate::header::header;
 use crate::walk::Walk;
 use can_frame::Frame;
 
@@ -21,7 +21,7 @@ pub fn stuffed_len(f: &Frame) -> u32
     let mut walk = Walk::new();
     walk.push_all(&header(f));
     let payload = f.payload();
-    walk.push_bytes(&payload[..data_len(f)]);
+    walk.push_bytes(&payload[..f.data_len()]);
     let crc = walk.crc.value();
     walk.push(Field::new(15, u32::from(crc)));
     walk.stuffing.count() + BITS_AFTER_CRC

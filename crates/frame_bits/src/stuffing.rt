@@ -1,8 +1,8 @@
 // Bit stuffing, counted.
 
 ghost use Rattle.std.specs.Prelude.{◌≡◌, ◌+◌, ◌≤◌, ◌<◌, ◌^◌, Bool, List, [], ◌∷◌, ◌++◌, length};
-ghost use Rattle.frame_bits.specs.Stuffing.{stuffed};
-ghost use Rattle.frame_bits.specs.Walk.{CountsStuffing};
+ghost use Rattle.frame_bits.specs.Stuffing.{stuffing_of};
+ghost use Rattle.frame_bits.specs.Inside.Stuffing.{CountsStuffing};
 
 /// How many equal bits bring a stuff bit.
 const RUN: u8 = 5;
@@ -53,7 +53,7 @@ impl StuffCounter {
     pub fn count(&self) -> u32
         ensures same { result ≡ self.now.count }
         ensures value { (bits : List Bool) → CountsStuffing self.now.last self.now.run self.now.count bits
-            → result ≡ length (stuffed bits) }
+            → result ≡ length (stuffing_of bits) }
     {
         self.count
     }

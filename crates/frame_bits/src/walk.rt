@@ -1,9 +1,9 @@
 // A walk over the bits of a frame, with a CRC register and a counter of the stuffing.
 
 ghost use Rattle.std.specs.Prelude.{◌≡◌, ◌+◌, ◌*◌, ◌≤◌, ◌<◌, ◌^◌, [], ◌∷◌, length};
-ghost use Rattle.frame_bits.specs.Fields.{data_bits};
-ghost use Rattle.frame_bits.specs.FieldBits.{bits_in, bits_in_all};
-ghost use Rattle.frame_bits.specs.WalkState.{HasWalked, GoesOver};
+ghost use Rattle.frame_bits.specs.Bits.{data_bits};
+ghost use Rattle.frame_bits.specs.Inside.Field.{bits_in, bits_in_all};
+ghost use Rattle.frame_bits.specs.Inside.Walk.{HasWalked, GoesOver};
 
 use crate::crc::Crc;
 use crate::field::Field;

@@ -1,3 +1,4 @@
+-- One more bit of a field.
 use Rattle.std.proofs.Common.{◌-◌, ◌/◌, ◌^◌, ◌∙◌, ◌++◌, ◌∷◌, [], Bool, eqb, bit_and, ap, arith}
 use Rattle.frame_bits.proofs.FieldSteps.{field_starts, field_grows}
 use Rattle.frame_bits.proofs.bits.append.Goals as goal

@@ -1,3 +1,4 @@
+-- The bits of the field down to a place are appended.
 use Rattle.std.proofs.Common.{◌≡◌, ◌-◌, ◌/◌, ◌^◌, ◌++◌}
 use Rattle.can_frame.specs.Bits.{field_bits}
 use Rattle.frame_bits.proofs.bits.append.Given as goal

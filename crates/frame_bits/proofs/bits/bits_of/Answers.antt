@@ -1,6 +1,7 @@
+-- Header, data and CRC are the unstuffed bits.
 use Rattle.std.proofs.Common.{◌≡◌, ◌++◌, ◌∙◌, ap}
-use Rattle.frame_bits.specs.Fields.{covered_bits}
-use Rattle.frame_bits.specs.FieldBits.{bits_in, bits_in_all}
+use Rattle.frame_bits.specs.Bits.{covered_bits}
+use Rattle.frame_bits.specs.Inside.Field.{bits_in, bits_in_all}
 use Rattle.can_frame.specs.Bits.{number_of}
 use Rattle.frame_bits.specs.Crc.{crc_bits}
 use Rattle.frame_bits.proofs.Lengths.{covered-is, crc_piece}

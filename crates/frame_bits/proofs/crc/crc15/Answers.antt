@@ -1,6 +1,7 @@
+-- One more bit in the register.
 use Rattle.std.proofs.Common.{arith, sym, subst, false, take}
 use Rattle.std.proofs.lemmas.List.{take_more}
-use Rattle.frame_bits.specs.Walk.{IsRegister}
+use Rattle.frame_bits.specs.Inside.Crc.{IsRegister}
 use Rattle.frame_bits.proofs.crc.crc15.Goals as goal
 
 pub loop-bit-preserved : goal.loop-bit-preserved

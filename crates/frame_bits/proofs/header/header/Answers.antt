@@ -1,6 +1,7 @@
+-- The nine fields of each format.
 use Rattle.std.proofs.Common.{◌∙◌, ◌/◌, ◌^◌, ap}
 use mir.Val.{bool_byte}
-use Rattle.frame_bits.specs.Fields.{header_bits}
+use Rattle.frame_bits.specs.Bits.{header_bits}
 use Rattle.frame_bits.proofs.FieldSteps.{bit_field, number_field, header_std, header_ext}
 use Rattle.frame_bits.proofs.header.header.Goals as goal
 

@@ -1,3 +1,4 @@
+-- The law of stuffing.
 use Rattle.frame_bits.proofs.OneStuffing.{HasOneStuffing-all}
 use Rattle.frame_bits.proofs.laws.one_stuffing.Goals as goal
 

@@ -1,3 +1,4 @@
+-- The bound on all lengths.
 use Rattle.std.proofs.Common.{◌≡◌, ◌+◌, ◌*◌, sym, subst, rules}
 use Rattle.frame_bits.specs.Length.{unstuffed_len, worst_length, BoundsLengths}
 use Rattle.frame_bits.proofs.Lengths.{BoundsLengths-worst}

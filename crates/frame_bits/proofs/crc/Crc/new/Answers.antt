@@ -1,3 +1,4 @@
+-- The register before the first bit.
 use Rattle.frame_bits.proofs.CrcSteps.{IsRegister-none}
 use Rattle.frame_bits.proofs.crc.Crc.new.Goals as goal
 

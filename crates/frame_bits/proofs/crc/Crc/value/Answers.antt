@@ -1,3 +1,4 @@
+-- The number of the CRC.
 use Rattle.frame_bits.proofs.CrcSteps.{IsRegister-value}
 use Rattle.frame_bits.proofs.crc.Crc.value.Goals as goal
 

@@ -1,3 +1,4 @@
+-- What the counter has at the end.
 use Rattle.frame_bits.proofs.Runs.{CountsStuffing-all}
 use Rattle.frame_bits.proofs.stuffing.StuffCounter.count.Goals as goal
 

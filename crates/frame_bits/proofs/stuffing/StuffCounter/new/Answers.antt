@@ -1,3 +1,4 @@
+-- The counter of no bits.
 use Rattle.frame_bits.proofs.Runs.{CountsStuffing-none}
 use Rattle.frame_bits.proofs.stuffing.StuffCounter.new.Goals as goal
 

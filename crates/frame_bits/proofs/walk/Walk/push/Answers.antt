@@ -1,5 +1,6 @@
+-- One more bit of a field.
 use Rattle.std.proofs.Common.{subst, arith}
-use Rattle.frame_bits.specs.WalkState.{HasWalked}
+use Rattle.frame_bits.specs.Inside.Walk.{HasWalked}
 use Rattle.frame_bits.proofs.FieldSteps.{field_starts, field_grows, field_ends}
 use Rattle.frame_bits.proofs.walk.Walk.push.Goals as goal
 

@@ -1,6 +1,7 @@
+-- The walk has gone over the bits of the field down to a place.
 use Rattle.std.proofs.Common.{◌+◌, ◌-◌, ◌*◌, ◌/◌, ◌^◌, ◌≤◌, Bool, List, ◌++◌}
 use Rattle.can_frame.specs.Bits.{field_bits}
-use Rattle.frame_bits.specs.WalkState.{HasWalked}
+use Rattle.frame_bits.specs.Inside.Walk.{HasWalked}
 use Rattle.frame_bits.proofs.walk.Walk.push.Given as goal
 
 abbrev pub invariant-loop-place : goal.invariant-loop-place

@@ -1,6 +1,7 @@
+-- One more field.
 use Rattle.std.proofs.Common.{ap, subst, arith}
-use Rattle.frame_bits.specs.FieldBits.{bits_in}
-use Rattle.frame_bits.specs.WalkState.{HasWalked}
+use Rattle.frame_bits.specs.Inside.Field.{bits_in}
+use Rattle.frame_bits.specs.Inside.Walk.{HasWalked}
 use Rattle.frame_bits.proofs.FieldSteps.{fields_grow, fields_end}
 use Rattle.frame_bits.proofs.walk.Walk.push_all.Goals as goal
 

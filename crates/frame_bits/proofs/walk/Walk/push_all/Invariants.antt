@@ -1,6 +1,7 @@
+-- The walk has gone over the fields so far.
 use Rattle.std.proofs.Common.{◌+◌, ◌*◌, ◌≤◌, Bool, List, ◌++◌, take}
-use Rattle.frame_bits.specs.FieldBits.{bits_in_all}
-use Rattle.frame_bits.specs.WalkState.{HasWalked}
+use Rattle.frame_bits.specs.Inside.Field.{bits_in_all}
+use Rattle.frame_bits.specs.Inside.Walk.{HasWalked}
 use Rattle.frame_bits.proofs.walk.Walk.push_all.Given as goal
 
 abbrev pub invariant-loop-field : goal.invariant-loop-field

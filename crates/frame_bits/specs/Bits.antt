@@ -1,10 +1,11 @@
--- The fields of a frame from SOF to its data (ISO 11898-1, data frame and remote frame).
+-- The bits of a frame from SOF to its CRC, without stuff bits (ISO 11898-1, data frame and remote frame).
 use Rattle.std.specs.Prelude.{ℕ, ◌/◌, ◌^◌, Bool, true, false, List, ◌∷◌, ◌++◌, take}
 use Rattle.std.specs.List.{flat_map}
 use Rattle.can_frame.specs.declared.Ident.{Ident}
 use Rattle.can_frame.specs.declared.Ident.TheVariants.{Std, Ext}
 use Rattle.can_frame.specs.Bits.{field_bits}
 use Rattle.can_frame.specs.Frame.{FrameFields, data_len}
+use Rattle.frame_bits.specs.Crc.{crc_bits}
 
 -- the bits from SOF to the data length code; `false` is a dominant 0, `true` a recessive 1
 abbrev pub header_bits : Ident → Bool → ℕ → List Bool
@@ -23,3 +24,7 @@ data_bits bytes = flat_map (field_bits 8) bytes
 -- the bits from SOF to the last data bit, which the CRC covers
 abbrev pub covered_bits : FrameFields → List Bool
 covered_bits f = header_bits f.ident f.remote f.dlc ++ data_bits (take (data_len f) f.payload)
+
+-- the bits from SOF to the last CRC bit before stuffing
+abbrev pub unstuffed_bits : FrameFields → List Bool
+unstuffed_bits f = covered_bits f ++ crc_bits (covered_bits f)

@@ -1,7 +1,8 @@
 -- A walk over the bits of a frame.
 use Rattle.std.specs.Prelude.{Bool, List, ◌++◌}
 use Rattle.frame_bits.specs.declared.walk.Walk.{Walk}
-use Rattle.frame_bits.specs.Walk.{IsRegister, CountsStuffing}
+use Rattle.frame_bits.specs.Inside.Crc.{IsRegister}
+use Rattle.frame_bits.specs.Inside.Stuffing.{CountsStuffing}
 
 -- the walk has gone over these bits
 pub record HasWalked (walk : Walk) (bits : List Bool) : Type 0 where

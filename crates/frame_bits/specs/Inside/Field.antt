@@ -1,4 +1,4 @@
--- The bits of fields.
+-- The bits of the fields of which the code makes a frame.
 use Rattle.std.specs.Prelude.{Bool, List}
 use Rattle.std.specs.List.{flat_map}
 use Rattle.can_frame.specs.Bits.{field_bits}
