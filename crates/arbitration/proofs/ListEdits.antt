@@ -37,6 +37,7 @@ where_key-below k (e ∷ es) h =
     ap (λ b. cond b (e ∷ where_key name_cmp (other_than k) es) (where_key name_cmp (other_than k) es)) (less_other (name_cmp k e.0) parts.0)
     ∙ ap (λ rest. e ∷ rest) (where_key-below k es parts.1)
 
+-- the entries without a request are those with another name
 pub map-remove : (rs : List Waiting) (i : ℕ) (r : Waiting) → InOrder rs → i < length rs → r ≡ get_or rs i r
     → map entry_of (remove rs i) ≡ where_key name_cmp (other_than (name_of r)) (map entry_of rs)
 map-remove [] i r order low is = absurd (omega arith)
@@ -75,6 +76,7 @@ requests_of-remove rs i r order low is =
     ∙ ap (cond (eq_by_cmp name_cmp q k) None) (sym (get-from_entries name_cmp_total (map entry_of rs) q))
     ∙ sym (get-remove name_cmp_total (requests_of rs) k q))
 
+-- and they stay in order
 pub in_order-remove : (rs : List Waiting) (i : ℕ) (r : Waiting) → InOrder rs → i < length rs → r ≡ get_or rs i r
     → InOrder (remove rs i)
 in_order-remove rs i r order low is =
@@ -92,6 +94,7 @@ greater_node m n p q gt = grind (arith, nat_tests)
 abbrev pub IsLast : List Waiting → Waiting → Type 0
 IsLast rs r = All (λ (s : Waiting). s.node ≡ r.node → s.number < r.number) rs
 
+-- the entries with a request behind its node's others are those with it put in
 pub map-insert : (rs : List Waiting) (r : Waiting) → IsLast rs r
     → map entry_of (insert rs (place_behind rs r.node) r) ≡ put name_cmp (name_of r) r.frame (map entry_of rs)
 map-insert [] r last = refl
@@ -119,6 +122,7 @@ requests_of-insert rs r last =
     ∙ ap (cond (eq_by_cmp name_cmp q k) (Some r.frame)) (sym (get-from_entries name_cmp_total (map entry_of rs) q))
     ∙ sym (get-insert name_cmp_total (requests_of rs) k r.frame q))
 
+-- and they stay in order
 pub in_order-insert : (rs : List Waiting) (r : Waiting) → IsLast rs r → InOrder rs
     → InOrder (insert rs (place_behind rs r.node) r)
 in_order-insert rs r last order =

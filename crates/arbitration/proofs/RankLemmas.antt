@@ -24,6 +24,7 @@ use Rattle.arbitration.specs.Inside.Ranks.{earlier_count, rank_in, with_rank_in}
 abbrev pub is_earlier : ℕ → ℕ → Waiting → Bool
 is_earlier node number r = eqb r.node node && ltb r.number number
 
+-- how many are earlier, request by request
 pub earlier_count-cons : (s : Waiting) (rs : List Waiting) (node number : ℕ) → earlier_count (s ∷ rs) node number ≡ cond (is_earlier node number s) 1 0 + earlier_count rs node number
 earlier_count-cons s rs node number = sum_by-cons (λ r. cond (is_earlier node number r) 1 0) s rs
 
@@ -45,6 +46,7 @@ none_earlier x (s ∷ rs) h =
     let rest = none_earlier x rs parts.1 in
     earlier_count-cons s rs x.node x.number ∙ ap (λ b. cond b 1 0 + earlier_count rs x.node x.number) test ∙ omega (arith, rest)
 
+-- in a list in order they are those of the node before the request
 pub earlier_count-at : (rs : List Waiting) (i : ℕ) (x : Waiting) → InOrder rs → i < length rs → x ≡ get_or rs i x
     → earlier_count rs x.node x.number ≡ count_by (λ r. eqb r.node x.node) (take i rs)
 earlier_count-at [] i x order low is = absurd (omega arith)
@@ -68,6 +70,7 @@ kept_at f [] i d low = absurd (omega arith)
 kept_at f (x ∷ xs) zero d low = refl
 kept_at f (x ∷ xs) (suc i) d low = kept_at f xs i d (omega arith)
 
+-- a request of the node gets its rank
 pub numbered_step : (xs ys : List Waiting) (wire : Option Transmission) (node i count extra : ℕ) (x : Waiting) → InOrder xs → i < length xs
     → ys ≡ map (with_rank_in xs wire node) (take i xs) ++ drop i xs → x ≡ get_or ys i x → x.node ≡ node
     → count ≡ count_by (λ r. eqb r.node node) (take i xs) → extra ≡ count_on_wire wire node x.number
@@ -83,6 +86,7 @@ numbered_step xs ys wire node i count extra x order low so_far is of counted add
     ∙ (λ j. record x { number = here j + sym adds j }) in
     ap (set ys i) (sym value) ∙ map_over_more f xs ys i x low so_far is
 
+-- a request of another node stays
 pub skipped_step : (xs ys : List Waiting) (wire : Option Transmission) (node i : ℕ) (x : Waiting) → i < length xs
     → ys ≡ map (with_rank_in xs wire node) (take i xs) ++ drop i xs → x ≡ get_or ys i x → x.node ≢ node
     → ys ≡ map (with_rank_in xs wire node) (take (i + 1) xs) ++ drop (i + 1) xs
@@ -101,6 +105,7 @@ counted_more f xs ys node i count after x low so_far is of counted one =
     let more = count_by_more_yes (λ (r : Waiting). eqb r.node node) xs i x low (ap (λ (r : Waiting). eqb r.node node) (sym at) ∙ own) in
     one ∙ ap (λ n. n + 1) counted ∙ sym more
 
+-- and stays at one of another node
 pub counted_same : (f : Waiting → Waiting) (xs ys : List Waiting) (node i count after : ℕ) (x : Waiting) → i < length xs → ys ≡ map f (take i xs) ++ drop i xs → x ≡ get_or ys i x → x.node ≢ node
     → count ≡ count_by (λ r. eqb r.node node) (take i xs) → after ≡ count → after ≡ count_by (λ r. eqb r.node node) (take (i + 1) xs)
 counted_same f xs ys node i count after x low so_far is other counted same =
@@ -109,10 +114,12 @@ counted_same f xs ys node i count after x low so_far is other counted same =
     let more = count_by_more_no (λ (r : Waiting). eqb r.node node) xs i x low (ap (λ (r : Waiting). eqb r.node node) (sym at) ∙ apart) in
     same ∙ counted ∙ sym more
 
+-- a truth value as a number is at most 1
 pub bool_byte-le : (b : Bool) → bool_byte b ≤ 1
 bool_byte-le true = omega arith
 bool_byte-le false = omega arith
 
+-- it is 1 where it is true, else 0
 pub bool_byte-is : (b : Bool) → bool_byte b ≡ cond b 1 0
 bool_byte-is true = refl
 bool_byte-is false = refl
@@ -125,6 +132,7 @@ same_after rs i r node number last =
     ∙ ap (λ b. earlier_count rs node number + cond b 1 0) test
     ∙ omega arith
 
+-- a further request of the node that is not earlier leaves the ranks
 pub with_rank_in-insert : (rs : List Waiting) (i : ℕ) (r : Waiting) (wire : Option Transmission) (node : ℕ) (s : Waiting) → s.number ≤ r.number → with_rank_in (insert rs i r) wire node s ≡ with_rank_in rs wire node s
 with_rank_in-insert rs i r wire node s last =
     ap (λ n. cond (eqb s.node node) (record s { number = n + count_on_wire wire node s.number }) s) (same_after rs i r node s.number last)
@@ -136,10 +144,12 @@ test-le m n p k l h = grind (arith, nat_tests)
 test-less : (m k l : ℕ) → k < l → cond (eqb m m && ltb k k) 1 0 < cond (eqb m m && ltb k l) 1 0
 test-less m k l h = grind (arith, nat_tests)
 
+-- a greater number has no fewer earlier ones
 pub earlier_count-le : (rs : List Waiting) (node k l : ℕ) → k ≤ l → earlier_count rs node k ≤ earlier_count rs node l
 earlier_count-le rs node k l h =
     sum_by-le-sum_by (λ r. cond (is_earlier node k r) 1 0) (λ r. cond (is_earlier node l r) 1 0) rs (λ r. test-le r.node node r.number k l h)
 
+-- and more where a request stands between
 pub earlier_count-less : (rs : List Waiting) (s : Waiting) (l : ℕ) → Contains rs s → s.number < l → earlier_count rs s.node s.number < earlier_count rs s.node l
 earlier_count-less [] s l in' h = absurd (not_Contains-nil s in')
 earlier_count-less (t ∷ rs) s l in' h =
@@ -157,31 +167,39 @@ earlier_count-less (t ∷ rs) s l in' h =
           omega arith
     ]
 
+-- the same of the one on the wire
 pub on_wire-le : (wire : Option Transmission) (node k l : ℕ) → k ≤ l → count_on_wire wire node k ≤ count_on_wire wire node l
 on_wire-le None node k l h = omega arith
 on_wire-le (Some t) node k l h = test-le t.request.node node t.request.number k l h
 
+-- a greater number has no lesser rank
 pub rank_in-le : (rs : List Waiting) (wire : Option Transmission) (node k l : ℕ) → k ≤ l → rank_in rs wire node k ≤ rank_in rs wire node l
 rank_in-le rs wire node k l h =
     let a = earlier_count-le rs node k l h in let b = on_wire-le (wire) node k l h in omega arith
 
+-- and a greater one where a request stands between
 pub rank_in-less : (rs : List Waiting) (wire : Option Transmission) (s : Waiting) (l : ℕ) → Contains rs s → s.number < l → rank_in rs wire s.node s.number < rank_in rs wire s.node l
 rank_in-less rs wire s l in' h =
     let a = earlier_count-less rs s l in' h in let b = on_wire-le (wire) s.node s.number l (omega arith) in omega arith
 
 -- ---- the list stays in order
+-- a request of the node gets its rank for its number
 pub own_rank : (rs : List Waiting) (wire : Option Transmission) (node : ℕ) (s : Waiting) → s.node ≡ node → with_rank_in rs wire node s ≡ record s { number = rank_in rs wire node s.number }
 own_rank rs wire node s of = let own : eqb s.node node ≡ true = grind (arith, nat_tests) in ap (λ b. cond b (record s { number = rank_in rs wire node s.number }) s) own
 
+-- one of another node stays
 pub other_rank : (rs : List Waiting) (wire : Option Transmission) (node : ℕ) (s : Waiting) → s.node ≢ node → with_rank_in rs wire node s ≡ s
 other_rank rs wire node s of = let own : eqb s.node node ≡ false = grind (arith, nat_tests) in ap (λ b. cond b (record s { number = rank_in rs wire node s.number }) s) own
 
+-- the node stays
 pub node-with_rank_in : (rs : List Waiting) (wire : Option Transmission) (node : ℕ) (s : Waiting) → (with_rank_in rs wire node s).node ≡ s.node
 node-with_rank_in rs wire node s = elim (eqb s.node node) as (λ b. (cond b (record s { number = rank_in rs wire node s.number }) s).node ≡ s.node) [ true ↦ refl | false ↦ refl ]
 
+-- the number of a request of the node is its rank
 pub number-with_rank_in : (rs : List Waiting) (wire : Option Transmission) (node : ℕ) (s : Waiting) → s.node ≡ node → (with_rank_in rs wire node s).number ≡ rank_in rs wire node s.number
 number-with_rank_in rs wire node s of = ap (λ (r : Waiting). r.number) (own_rank rs wire node s of)
 
+-- that of another node's stays
 pub number-other_rank : (rs : List Waiting) (wire : Option Transmission) (node : ℕ) (s : Waiting) → s.node ≢ node → (with_rank_in rs wire node s).number ≡ s.number
 number-other_rank rs wire node s of = ap (λ (r : Waiting). r.number) (other_rank rs wire node s of)
 
@@ -237,11 +255,13 @@ stays_in_order rs wire node (t ∷ ts) in' h =
     let parts = both_true (below_all name_cmp (name_of t) (map entry_of ts)) (is_sorted name_cmp (map entry_of ts)) h in
     two_true _ _ (stays_below rs wire node t ts (All-head (Contains rs) t ts in') parts.0) (stays_in_order rs wire node ts (All-tail (Contains rs) t ts in') parts.1)
 
+-- with ranks the list stays in order
 pub in_order-ranks : (rs : List Waiting) (wire : Option Transmission) (node : ℕ) → InOrder rs
     → InOrder (map (with_rank_in rs wire node) rs)
 in_order-ranks rs wire node h = stays_in_order rs wire node rs (All-contains_itself rs) h
 
 -- ---- a list with one more request
+-- a map of a list with one more request
 pub map_insert : (f : Waiting → Waiting) (rs : List Waiting) (node : ℕ) (r : Waiting) → map f (insert rs (place_behind rs node) r) ≡ insert (map f rs) (place_behind rs node) (f r)
 map_insert f [] node r = refl
 map_insert f (s ∷ rs) node r =
@@ -250,10 +270,12 @@ map_insert f (s ∷ rs) node r =
       | false ↦ refl
     ]
 
+-- a map that keeps the nodes keeps the place behind a node
 pub place_behind-map : (f : Waiting → Waiting) (rs : List Waiting) (node : ℕ) → ((s : Waiting) → (f s).node ≡ s.node) → place_behind (map f rs) node ≡ place_behind rs node
 place_behind-map f [] node same = refl
 place_behind-map f (s ∷ rs) node same = λ i. cond (nat_le (same s i) node) (place_behind-map f rs node same i + 1) 0
 
+-- maps that agree on a list make one list of it
 pub map_agree : (f g : Waiting → Waiting) (rs : List Waiting) → All (λ s. f s ≡ g s) rs → map f rs ≡ map g rs
 map_agree f g [] h = refl
 map_agree f g (s ∷ rs) h = λ i. All-head (λ t. f t ≡ g t) s rs h i ∷ map_agree f g rs (All-tail (λ t. f t ≡ g t) s rs h) i

@@ -26,6 +26,7 @@ use Rattle.arbitration.proofs.ListEdits.{IsLast, requests_of-insert}
 use Rattle.arbitration.proofs.RankLemmas.{same_after, rank_in-le, number-other_rank, with_rank_in-insert, own_rank, other_rank, number-with_rank_in, rank_in-less, map_insert, place_behind-map, map_agree, node-with_rank_in}
 
 -- ---- the request is the last of its node
+-- a request under its node's next number is the last of its node
 pub IsLast-request : (s : BusState) (rs : List Waiting) (node n : ℕ) (f : FrameFields) → All (IsBelowNext s) rs → n ≡ next_number s node → IsLast rs (record { node = node; number = n; frame = f })
 IsLast-request s rs node n f below is =
     All-weaker (IsBelowNext s) (λ (t : Waiting). t.node ≡ node → t.number < n)
@@ -49,14 +50,16 @@ module _ (s : BusState) (next : FinMap nat_cmp ℕ) (node n number : ℕ) (is : 
         | inr other ↦ let same = next_other t.node other.1 in omega arith
       ]
 
+-- what holds of each request and of a further one
 pub All-insert : (P : Waiting → Type 0) (rs : List Waiting) (i : ℕ) (r : Waiting) → All P rs → P r → All P (insert rs i r)
 All-insert P rs i r h here = All-append P (take i rs) (r ∷ drop i rs) (All-take P i rs h) (All-cons P r (drop i rs) here (All-drop P i rs h))
 
 -- ---- a request under a number before the last
-pub asked : (s : BusState) (rs : List Waiting) (node n : ℕ) (f : FrameFields) (next : FinMap nat_cmp ℕ)
+-- the state behind is that after the request
+pub after_request-early : (s : BusState) (rs : List Waiting) (node n : ℕ) (f : FrameFields) (next : FinMap nat_cmp ℕ)
     → s.waiting ≡ requests_of rs → All (IsBelowNext s) rs → n ≡ next_number s node → n ≢ last_number → next ≡ finmap.insert s.next node (n + 1)
     → ◌≡◌ {A = BusState} (record s { waiting = requests_of (insert rs (place_behind rs node) (record { node = node; number = n; frame = f })); next = next }) (after_request s node f)
-asked s rs node n f next set below is early new =
+after_request-early s rs node n f next set below is early new =
     let r : Waiting = record { node = node; number = n; frame = f } in
     let early_test : eqb (next_number s node) last_number ≡ false = let h : next_number s node ≢ last_number = λ e. early (is ∙ e) in grind (arith, nat_tests) in
     let waits : requests_of (insert rs (place_behind rs node) r) ≡ finmap.insert s.waiting (node, next_number s node) f =
@@ -65,10 +68,11 @@ asked s rs node n f next set below is early new =
     (λ i. record s { waiting = waits i; next = counts i })
     ∙ ap (λ b. with_request (cond b (with_ranks s node) s) node f) (sym early_test)
 
-pub below-asked : (s : BusState) (rs : List Waiting) (node n number : ℕ) (f : FrameFields) (next : FinMap nat_cmp ℕ)
+-- the numbers stay below the next ones
+pub below-early : (s : BusState) (rs : List Waiting) (node n number : ℕ) (f : FrameFields) (next : FinMap nat_cmp ℕ)
     → All (IsBelowNext s) rs → n ≡ next_number s node → n < number → next ≡ finmap.insert s.next node number
     → All (λ (t : Waiting). t.number < unwrap_or (finmap.get next t.node) 0) (insert rs (place_behind rs node) (record { node = node; number = n; frame = f }))
-below-asked s rs node n number f next below is less new =
+below-early s rs node n number f next below is less new =
     let P : Waiting → Type 0 = λ t. t.number < unwrap_or (finmap.get next t.node) 0 in
     All-insert P rs (place_behind rs node) (record { node = node; number = n; frame = f })
     (All-weaker (IsBelowNext s) P (still_below s next node n number is new (omega arith)) rs below)
@@ -98,25 +102,27 @@ rank-is s rs node number set order =
     ∙ ap (λ n. n + count_on_wire s.wire node number) (len-retain_keys rs (λ name. eqb name.0 node && ltb name.1 number) order)
 
 -- ---- a request under the last number
-abbrev pub asking : ℕ → ℕ → FrameFields → Waiting
-asking node n f = record { node = node; number = n; frame = f }
+-- the request under a number
+abbrev pub new_request : ℕ → ℕ → FrameFields → Waiting
+new_request node n f = record { node = node; number = n; frame = f }
 
-abbrev pub asked_list : List Waiting → ℕ → ℕ → FrameFields → List Waiting
-asked_list rs node n f = insert rs (place_behind rs node) (asking node n f)
+-- the list with the request behind its node's others
+abbrev pub list_with_request : List Waiting → ℕ → ℕ → FrameFields → List Waiting
+list_with_request rs node n f = insert rs (place_behind rs node) (new_request node n f)
 
 -- the other requests get the same new numbers with and without the new one
 same_rank : (rs : List Waiting) (wire : Option Transmission) (node n : ℕ) (f : FrameFields) (t : Waiting) → (t.node ≡ node → t.number ≤ n)
-    → with_rank_in (asked_list rs node n f) wire node t ≡ with_rank_in rs wire node t
+    → with_rank_in (list_with_request rs node n f) wire node t ≡ with_rank_in rs wire node t
 same_rank rs wire node n f t small =
     elim (eqb_tells t.node node) [
-      | inl own ↦ with_rank_in-insert rs (place_behind rs node) (asking node n f) wire node t (small own.1)
-      | inr other ↦ other_rank (asked_list rs node n f) wire node t other.1 ∙ sym (other_rank rs wire node t other.1)
+      | inl own ↦ with_rank_in-insert rs (place_behind rs node) (new_request node n f) wire node t (small own.1)
+      | inr other ↦ other_rank (list_with_request rs node n f) wire node t other.1 ∙ sym (other_rank rs wire node t other.1)
     ]
 
-carried_same : (rs : List Waiting) (wire : Option Transmission) (node n : ℕ) (f : FrameFields) → n ≡ last_number → CarriesInRange wire node
-    → option_map (transmission_with_rank_in (asked_list rs node n f) wire node) wire ≡ option_map (transmission_with_rank_in rs wire node) wire
-carried_same rs None node n f last fits = refl
-carried_same rs (Some w) node n f last fits =
+wire_same : (rs : List Waiting) (wire : Option Transmission) (node n : ℕ) (f : FrameFields) → n ≡ last_number → CarriesInRange wire node
+    → option_map (transmission_with_rank_in (list_with_request rs node n f) wire node) wire ≡ option_map (transmission_with_rank_in rs wire node) wire
+wire_same rs None node n f last fits = refl
+wire_same rs (Some w) node n f last fits =
     let same = same_rank rs (Some w) node n f w.request (λ own. let h = fits own in omega arith) in
     λ i. Some (record w { request = same i })
 
@@ -138,16 +144,16 @@ rises rs wire node n u in' less own =
 below_one : (s : BusState) (rs : List Waiting) (wire : Option Transmission) (node n : ℕ) (f : FrameFields) (next : FinMap nat_cmp ℕ)
     → n ≡ next_number s node → next ≡ finmap.insert s.next node (rank_in rs wire node n + 1)
     → (u : Waiting) → (u.node ≡ node → u.number ≤ n) → (u.node ≢ node → IsBelowNext s u)
-    → (with_rank_in (asked_list rs node n f) wire node u).number < unwrap_or (finmap.get next (with_rank_in (asked_list rs node n f) wire node u).node) 0
+    → (with_rank_in (list_with_request rs node n f) wire node u).number < unwrap_or (finmap.get next (with_rank_in (list_with_request rs node n f) wire node u).node) 0
 below_one s rs wire node n f next is new u own_small other_below =
-    let longer : List Waiting = asked_list rs node n f in
+    let longer : List Waiting = list_with_request rs node n f in
     let kept = node-with_rank_in longer wire node u in
     let at : unwrap_or (finmap.get next (with_rank_in longer wire node u).node) 0 ≡ unwrap_or (finmap.get next u.node) 0 = ap (λ q. unwrap_or (finmap.get next q) 0) kept in
     elim (eqb_tells u.node node) [
       | inl own ↦
           let value = number-with_rank_in longer wire node u own.1 in
           let small = rank_in-le longer wire node u.number n (own_small own.1) in
-          let without = same_after rs (place_behind rs node) (asking node n f) node n (omega arith) in
+          let without = same_after rs (place_behind rs node) (new_request node n f) node n (omega arith) in
           let following : unwrap_or (finmap.get next u.node) 0 ≡ rank_in rs wire node n + 1 =
           ap (λ q. unwrap_or (finmap.get next q) 0) own.1 ∙ ap (λ m. unwrap_or (finmap.get m node) 0) new ∙ ap (λ o. unwrap_or o 0) (get-insert_same s.next node _) in
           omega arith
@@ -159,20 +165,21 @@ below_one s rs wire node n f next is new u own_small other_below =
           omega arith
     ]
 
-pub asked-last : (s : BusState) (rs : List Waiting) (node n : ℕ) (f : FrameFields) (next : FinMap nat_cmp ℕ)
+-- the state behind, with ranks, is that after the request
+pub after_request-last : (s : BusState) (rs : List Waiting) (node n : ℕ) (f : FrameFields) (next : FinMap nat_cmp ℕ)
     → s.waiting ≡ requests_of rs → InOrder rs → All (IsBelowNext s) rs → n ≡ next_number s node → n ≡ last_number
     → CarriesInRange s.wire node → next ≡ finmap.insert s.next node (rank_in rs s.wire node n + 1)
     → ◌≡◌ {A = BusState}
     (record s {
-      waiting = requests_of (map (with_rank_in (asked_list rs node n f) s.wire node) (asked_list rs node n f));
-      wire = option_map (transmission_with_rank_in (asked_list rs node n f) s.wire node) s.wire;
+      waiting = requests_of (map (with_rank_in (list_with_request rs node n f) s.wire node) (list_with_request rs node n f));
+      wire = option_map (transmission_with_rank_in (list_with_request rs node n f) s.wire node) s.wire;
       next = next;
     })
     (after_request s node f)
-asked-last s rs node n f next set order below is last fits new =
+after_request-last s rs node n f next set order below is last fits new =
     let wire : Option Transmission = s.wire in
-    let r : Waiting = asking node n f in
-    let longer : List Waiting = asked_list rs node n f in
+    let r : Waiting = new_request node n f in
+    let longer : List Waiting = list_with_request rs node n f in
     let g : Waiting → Waiting = with_rank_in rs wire node in
     let is_last : IsLast rs r = IsLast-request s rs node n f below is in
     let agree : (u : Waiting) → g u ≡ with_rank s node u =
@@ -180,7 +187,7 @@ asked-last s rs node n f next set order below is last fits new =
     let others : map (with_rank_in longer wire node) rs ≡ map g rs =
     map_agree (with_rank_in longer wire node) g rs
     (All-weaker (λ (u : Waiting). u.node ≡ node → u.number < n) (λ u. with_rank_in longer wire node u ≡ g u) (λ u less. same_rank rs wire node n f u (λ own. let h = less own in omega arith)) rs is_last) in
-    let last_new : with_rank_in longer wire node r ≡ asking node (rank_in rs wire node n) f =
+    let last_new : with_rank_in longer wire node r ≡ new_request node (rank_in rs wire node n) f =
     with_rank_in-insert rs (place_behind rs node) r wire node r (omega arith) ∙ own_rank rs wire node r refl in
     let e : ℕ = rank_in rs wire node n in
     let s' : BusState = record s {
@@ -193,19 +200,19 @@ asked-last s rs node n f next set order below is last fits new =
     let node_kept : place_behind rs node ≡ place_behind (map g rs) node = sym (place_behind-map g rs node (node-with_rank_in rs wire node)) in
     let renumbered : map (with_rank s node) (members s.waiting) ≡ map g rs =
     ap (λ w. map (with_rank s node) (members w)) set ∙ ap (map (with_rank s node)) (members-requests_of rs order) ∙ map_agree (with_rank s node) g rs (λ k d low. sym (agree _)) in
-    let last_ranked : IsLast (map g rs) (asking node e f) =
+    let last_in_ranks : IsLast (map g rs) (new_request node e f) =
     All-map (λ (u : Waiting). u.node ≡ node → u.number < e) g rs
     (λ k d low own. rises rs wire node n (get_or rs k d) (Contains-get_or rs k d low) (is_last k d low) own) in
     let waits : requests_of (map (with_rank_in longer wire node) longer) ≡ finmap.insert s'.waiting (node, next_number s' node) f =
     ap requests_of (map_insert (with_rank_in longer wire node) rs node r)
     ∙ ap (λ us. requests_of (insert us (place_behind rs node) (with_rank_in longer wire node r))) others
     ∙ ap (λ u. requests_of (insert (map g rs) (place_behind rs node) u)) last_new
-    ∙ ap (λ k. requests_of (insert (map g rs) k (asking node e f))) node_kept
-    ∙ requests_of-insert (map g rs) (asking node e f) last_ranked
+    ∙ ap (λ k. requests_of (insert (map g rs) k (new_request node e f))) node_kept
+    ∙ requests_of-insert (map g rs) (new_request node e f) last_in_ranks
     ∙ ap (λ us. finmap.insert (requests_of us) (node, e) f) (sym renumbered)
     ∙ ap (λ k. finmap.insert s'.waiting (node, k) f) (sym number) in
     let sent : option_map (transmission_with_rank_in longer wire node) wire ≡ s'.wire =
-    carried_same rs wire node n f last fits ∙ transmission_alike s rs wire node agree wire in
+    wire_same rs wire node n f last fits ∙ transmission_alike s rs wire node agree wire in
     let counts : next ≡ finmap.insert s'.next node (next_number s' node + 1) =
     new ∙ ap (λ k. finmap.insert s.next node (k + 1)) (sym number) ∙ sym (insert-insert s.next node _ _) in
     let last_test : eqb (next_number s node) last_number ≡ true = let same : next_number s node ≡ last_number = sym is ∙ last in grind (arith, nat_tests) in
@@ -216,16 +223,16 @@ asked-last s rs node n f next set order below is last fits new =
 -- the numbers stay below the next ones
 pub below-last : (s : BusState) (rs : List Waiting) (wire : Option Transmission) (node n : ℕ) (f : FrameFields) (next : FinMap nat_cmp ℕ)
     → All (IsBelowNext s) rs → n ≡ next_number s node → next ≡ finmap.insert s.next node (rank_in rs wire node n + 1)
-    → All (λ (t : Waiting). t.number < unwrap_or (finmap.get next t.node) 0) (map (with_rank_in (asked_list rs node n f) wire node) (asked_list rs node n f))
+    → All (λ (t : Waiting). t.number < unwrap_or (finmap.get next t.node) 0) (map (with_rank_in (list_with_request rs node n f) wire node) (list_with_request rs node n f))
 below-last s rs wire node n f next below is new =
-    let longer : List Waiting = asked_list rs node n f in
+    let longer : List Waiting = list_with_request rs node n f in
     let e : ℕ = rank_in rs wire node n in
     let G : Waiting → Waiting = with_rank_in longer wire node in
     let P : Waiting → Type 0 = λ t. t.number < unwrap_or (finmap.get next t.node) 0 in
     let Q : Waiting → Type 0 = λ u. (u.node ≡ node → u.number ≤ n) × (u.node ≢ node → IsBelowNext s u) in
     let old : All Q rs =
     All-weaker (IsBelowNext s) Q (λ u h. (λ own. let same : next_number s u.node ≡ n = ap (next_number s) own ∙ sym is in omega arith, λ _. h)) rs below in
-    let all : All Q longer = All-insert Q rs (place_behind rs node) (asking node n f) old (λ _. omega arith, λ other. absurd (other refl)) in
+    let all : All Q longer = All-insert Q rs (place_behind rs node) (new_request node n f) old (λ _. omega arith, λ other. absurd (other refl)) in
     All-map P G longer (All-weaker Q (λ u. P (G u)) (λ u h. below_one s rs wire node n f next is new u h.0 h.1) longer all)
 
 -- ---- the number behind a request's own
@@ -235,6 +242,7 @@ following-early rs wire node n early = let test : eqb n last_number ≡ false = 
 following-last : (rs : List Waiting) (wire : Option Transmission) (node n : ℕ) → n ≡ last_number → following_number rs wire node n ≡ rank_in rs wire node n + 1
 following-last rs wire node n last = let test : eqb n last_number ≡ true = grind (arith, nat_tests) in ap (λ b. cond b (rank_in rs wire node n) n + 1) test
 
+-- the place behind a node is in the list
 pub place_behind-le : (rs : List Waiting) (node : ℕ) → place_behind rs node ≤ length rs
 place_behind-le [] node = omega arith
 place_behind-le (r ∷ rs) node =
@@ -243,23 +251,24 @@ place_behind-le (r ∷ rs) node =
 
 -- ---- what the code found, as the lemmas above take it
 -- the number is the node's next one
-pub asked_number : (m : BTreeMap ℕ ℕ) (node n : ℕ) (copied found : Option ℕ) → n ≡ unwrap_or copied 0 → copied ≡ found → found ≡ btree.get nat_cmp m node
+pub number_found : (m : BTreeMap ℕ ℕ) (node n : ℕ) (copied found : Option ℕ) → n ≡ unwrap_or copied 0 → copied ≡ found → found ≡ btree.get nat_cmp m node
     → n ≡ unwrap_or (finmap.get (from_entries {R = nat_cmp} m.entries) node) 0
-asked_number m node n copied found e f g = e ∙ ap (λ o. unwrap_or o 0) (f ∙ g ∙ sym (get-map m node))
+number_found m node n copied found e f g = e ∙ ap (λ o. unwrap_or o 0) (f ∙ g ∙ sym (get-map m node))
 
 -- the list is the one with the request in its place
-pub longer : (rs seen after : List Waiting) (node n place : ℕ) (f : FrameFields) → seen ≡ rs → place ≡ place_behind seen node → after ≡ insert rs place (asking node n f)
-    → after ≡ asked_list rs node n f
-longer rs seen after node n place f same at e = e ∙ ap (λ k. insert rs k (asking node n f)) (at ∙ ap (λ us. place_behind us node) same)
+pub list_found : (rs seen after : List Waiting) (node n place : ℕ) (f : FrameFields) → seen ≡ rs → place ≡ place_behind seen node → after ≡ insert rs place (new_request node n f)
+    → after ≡ list_with_request rs node n f
+list_found rs seen after node n place f same at e = e ∙ ap (λ k. insert rs k (new_request node n f)) (at ∙ ap (λ us. place_behind us node) same)
 
 -- the numbers noted are the old ones with the node's next number
-pub noted-early : (rs : List Waiting) (wire : Option Transmission) (m m' : BTreeMap ℕ ℕ) (node n following : ℕ) → n ≢ last_number → following ≡ following_number rs wire node n → Updates nat_cmp m m' node (Some following)
+pub next_found-early : (rs : List Waiting) (wire : Option Transmission) (m m' : BTreeMap ℕ ℕ) (node n following : ℕ) → n ≢ last_number → following ≡ following_number rs wire node n → Updates nat_cmp m m' node (Some following)
     → from_entries {R = nat_cmp} m'.entries ≡ finmap.insert (from_entries m.entries) node (n + 1)
-noted-early rs wire m m' node n following early e updates =
+next_found-early rs wire m m' node n following early e updates =
     insert-map m m' node following updates ∙ ap (finmap.insert (from_entries m.entries) node) (e ∙ following-early rs wire node n early)
 
-pub noted-last : (rs seen : List Waiting) (wire : Option Transmission) (m m' : BTreeMap ℕ ℕ) (node n following : ℕ) → seen ≡ rs → n ≡ last_number → following ≡ following_number seen wire node n
+-- and where the last number is used up
+pub next_found-last : (rs seen : List Waiting) (wire : Option Transmission) (m m' : BTreeMap ℕ ℕ) (node n following : ℕ) → seen ≡ rs → n ≡ last_number → following ≡ following_number seen wire node n
     → Updates nat_cmp m m' node (Some following) → from_entries {R = nat_cmp} m'.entries ≡ finmap.insert (from_entries m.entries) node (rank_in rs wire node n + 1)
-noted-last rs seen wire m m' node n following same last e updates =
+next_found-last rs seen wire m m' node n following same last e updates =
     insert-map m m' node following updates
     ∙ ap (finmap.insert (from_entries m.entries) node) (e ∙ following-last seen wire node n last ∙ ap (λ us. rank_in us wire node n + 1) same)

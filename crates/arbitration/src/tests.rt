@@ -1,4 +1,4 @@
-// A bus is asked through the trait, as any other would be.
+// The calls of a bus through the trait, as of any other bus.
 
 ghost use Rattle.std.specs.Prelude.{◌≡◌, ◌<◌};
 
@@ -8,8 +8,8 @@ use can_frame::{Frame, Ident};
 use std::process::Abort;
 use std::test::Fail;
 
-/// What is asked for: a node, an identifier, whether the frame is remote, and its data length code.
-type Asked = (u32, Ident, bool, u8);
+/// A node, an identifier, whether the frame is remote, and its data length code.
+type Fields = (u32, Ident, bool, u8);
 
 // Two requests at moment 0 and 2 microseconds a bit. The strongest frame, standard data of
 // identifier 0 with no bytes, has 50 bits, so it ends at 100, and the bus is free from 106 on.
@@ -43,8 +43,8 @@ fn two_requests_go_in_order(rt: HostRuntime) -> Result<(), Fail> {
     for (earlier, later, later_wins, end) in rows {
         let mut bus = PlainBus::make(rt.alloc(), 2);
         assert_eq!(rt; bus.next_time(), None);
-        let earlier = ask(&mut bus, earlier)?;
-        let later = ask(&mut bus, later)?;
+        let earlier = request(&mut bus, earlier)?;
+        let later = request(&mut bus, later)?;
         if later_wins {
             go_in_order(&rt, &mut bus, later, earlier, end);
         } else {
@@ -55,11 +55,11 @@ fn two_requests_go_in_order(rt: HostRuntime) -> Result<(), Fail> {
 }
 
 /// Requests a frame with these fields, and gives it with its node.
-fn ask<B: Bus>(bus: &mut B, asked: Asked) -> Result<Ended, Fail>
-    requires { asked.0 < B.nodes bus.old }
+fn request<B: Bus>(bus: &mut B, fields: Fields) -> Result<Ended, Fail>
+    requires { fields.0 < B.nodes bus.old }
     ensures { B.nodes bus.new ≡ B.nodes bus.old }
 {
-    let (node, ident, remote, dlc) = asked;
+    let (node, ident, remote, dlc) = fields;
     let frame = Frame::make(ident, remote, dlc, [0; 8], 1).ok_or("a frame")?;
     if bus.request(node, &frame).is_err() {
         return Err("memory".into());

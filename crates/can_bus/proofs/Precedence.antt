@@ -21,11 +21,13 @@ key_of r = arbitration_key r.frame
 abbrev pub precedence : Waiting → Waiting → Ordering
 precedence = then_cmp (on key_of nat_cmp) (then_cmp (on (λ r. r.node) nat_cmp) (on (λ r. r.number) nat_cmp))
 
+-- it is a total order
 pub precedence_total : IsTotalOrder precedence
 precedence_total =
     then_total (on_total key_of nat_cmp_total) (then_total (on_total (λ r. r.node) nat_cmp_total) (on_total (λ r. r.number) nat_cmp_total))
 
 -- ---- the test of fields is that of keys
+-- the test of fields decides which field wins
 pub wins-decides : (a b : List Bool) → Decides (wins a b) (Wins a b)
 wins-decides [] b = (λ e. absurd (cc), λ w. absurd w)
 wins-decides (x ∷ a) [] = (λ e. absurd (cc), λ w. absurd w)
@@ -34,6 +36,7 @@ wins-decides (true ∷ a) (false ∷ b) = (λ e. absurd (cc), λ w. absurd w)
 wins-decides (false ∷ a) (false ∷ b) = wins-decides a b
 wins-decides (true ∷ a) (true ∷ b) = wins-decides a b
 
+-- a field wins where its key is less
 pub wins-key : (f g : FrameFields) → wins (arbitration_field f) (arbitration_field g) ≡ ltb (arbitration_key f) (arbitration_key g)
 wins-key f g =
     let order = (KeysOrderFields-all f g).lesser in
@@ -45,6 +48,7 @@ by_numbers : (k l m n p q : ℕ) → cond (ltb k l) true (cond (ltb l k) false (
     ≡ is_lt (ordering_then (nat_cmp k l) (ordering_then (nat_cmp m n) (nat_cmp p q)))
 by_numbers k l m n p q = grind (arith, nat_tests)
 
+-- to go before is to come first by these numbers
 pub goes_before-precedence : (a b : Waiting) → goes_before a b ≡ is_lt (precedence a b)
 unfolding goes_before
 goes_before-precedence a b =
@@ -72,6 +76,7 @@ decided false false c dp dq dc same not_p not_q one =
 same_key : (k l : ℕ) → ltb k l ≡ false → ltb l k ≡ false → k ≡ l
 same_key k l h g = grind (arith, nat_tests)
 
+-- the test decides which request goes before
 pub goes_before-decides : (a b : Waiting) → Decides (goes_before a b) (GoesBefore a b)
 goes_before-decides a b =
     let k : ℕ = key_of a in
@@ -94,11 +99,13 @@ less Less e = refl
 less Equal e = absurd (cc)
 less Greater e = absurd (cc)
 
+-- what goes before one that goes before a third goes before this one
 pub goes_before-trans : (a b c : Waiting) → goes_before a b ≡ true → goes_before b c ≡ true → goes_before a c ≡ true
 goes_before-trans a b c p q =
     goes_before-precedence a c
     ∙ ap is_lt (precedence_total.trans a b c (less _ (sym (goes_before-precedence a b) ∙ p)) (less _ (sym (goes_before-precedence b c) ∙ q)))
 
+-- no request goes before itself
 pub goes_before-self : (a : Waiting) → goes_before a a ≡ false
 goes_before-self a = goes_before-precedence a a ∙ ap is_lt (tied_itself precedence_total a)
 

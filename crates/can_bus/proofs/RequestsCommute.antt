@@ -263,6 +263,7 @@ wires : (a b c d : Transmission → Transmission) → ((w : Transmission) → a 
 wires a b c d same None = refl
 wires a b c d same (Some w) = ap Some (same w)
 
+-- the law of the bus
 pub RequestsCommute-bus : RequestsCommute after_request
 RequestsCommute-bus s m n f g apart =
     let back : n ≢ m = λ e. apart (sym e) in

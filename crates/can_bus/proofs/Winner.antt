@@ -75,6 +75,7 @@ winner-is : (w : Requests) → winner w ≡ find (is_first (members w)) (members
 unfolding winner
 winner-is w = refl
 
+-- a member that none goes before is the winner
 pub IsWinner-from : (w : Requests) (r : Waiting) → Contains (members w) r → NoneBefore (members w) r → IsWinner w r
 IsWinner-from w r in' first = record {
   waits = Waits-members w r in';
@@ -92,6 +93,7 @@ empty_from w (r ∷ rs) is none =
     none_found (is_first (r ∷ rs)) first.0 (r ∷ rs) (ap (λ ms. find (is_first ms) ms) (sym is) ∙ sym (winner-is w) ∙ none) first.1 in
     absurd (cc)
 
+-- what is found is the winner, and where nothing is found the set is empty
 pub winner_law : (w : Requests) → MatchOption (winner w) (w ≡ empty) (IsWinner w)
 winner_law w =
     elim (winner w) as (λ o. winner w ≡ o → MatchOption o (w ≡ empty) (IsWinner w)) [
@@ -121,6 +123,7 @@ same_winner w r s h g =
       ]
     ]
 
+-- a winner is found
 pub winner-from : (w : Requests) (r : Waiting) → IsWinner w r → winner w ≡ Some r
 winner-from w r h =
     elim (winner w) as (λ o. MatchOption o (w ≡ empty) (IsWinner w) → o ≡ Some r) [
@@ -143,12 +146,14 @@ IsFirstAt rs place best = HoldsAt (λ r. NoneBefore (take place rs) r) rs best
 first_at : (rs : List Waiting) (place best : ℕ) (b : Waiting) → b ≡ get_or rs best b → IsFirstAt rs place best → NoneBefore (take place rs) b
 first_at rs place best b e h = let P : Waiting → Type 0 = λ r. NoneBefore (take place rs) r in subst P (sym e) (h b)
 
+-- a request that does not go before the best leaves it
 pub first_passed : (rs : List Waiting) (place best : ℕ) (r b : Waiting) → place < length rs → best < length rs → r ≡ get_or rs place r → b ≡ get_or rs best b
     → goes_before r b ≡ false → IsFirstAt rs place best → IsFirstAt rs (place + 1) best
 first_passed rs place best r b low within e f later h =
     let P : Waiting → Type 0 = λ other. goes_before other b ≡ false in
     at_read rs (λ s. NoneBefore (take (place + 1) rs) s) best b within f (All-more P rs place r low (first_at rs place best b f h) (subst P e later))
 
+-- one that does takes its place
 pub first_moved : (rs : List Waiting) (place best : ℕ) (r b : Waiting) → place < length rs → r ≡ get_or rs place r → b ≡ get_or rs best b
     → goes_before r b ≡ true → IsFirstAt rs place best → IsFirstAt rs (place + 1) place
 first_moved rs place best r b low e f before h =
@@ -157,6 +162,7 @@ first_moved rs place best r b low e f before h =
     at_read rs (λ s. NoneBefore (take (place + 1) rs) s) place r low e
     (All-more P rs place r low (λ k d in'. kept_out r b _ before (earlier k d in')) (subst P e (goes_before-self r)))
 
+-- past the last request the best is the first of all
 pub first_of_all : (rs : List Waiting) (place best : ℕ) → length rs ≤ place → IsFirstAt rs place best → HoldsAt (NoneBefore rs) rs best
 first_of_all rs place best past h =
     let P : List Waiting → Type 0 = λ front. HoldsAt (NoneBefore front) rs best in subst P (take_all place rs past) h

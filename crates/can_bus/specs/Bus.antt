@@ -1,4 +1,5 @@
--- The bus of ISO 11898-1 (arbitration, interframe space) with requests that wait: its state, and what each call makes of it.
+-- The bus of ISO 11898-1 (arbitration, interframe space) with requests that wait: its state, and what
+-- each call makes of it.
 use Rattle.std.specs.Prelude.{ℕ, ◌+◌, ◌-◌, ◌^◌, ◌≤◌, ◌==◌, nat_lt, nat_le, Bool, false, ◌&&◌, if◌then◌else◌, map, Option, None, Some, is_none, is_some, unwrap_or}
 use Rattle.std.specs.Option.{option_map, option_map_or}
 use Rattle.std.specs.Ordering.{nat_cmp}
@@ -73,14 +74,16 @@ with_request s node frame = record s {
 
 -- the bus after a request: under the last number, the node's requests are numbered from 0 first
 abbrev pub after_request : BusState → ℕ → FrameFields → BusState
-after_request s node frame = with_request (if next_number s node == last_number then with_ranks s node else s) node frame
+after_request s node frame =
+    with_request (if next_number s node == last_number then with_ranks s node else s) node frame
 
 -- ---- the wire
 
 -- what ends now of what is on the wire, with its node
 abbrev pub ended_on : Option Transmission → ℕ → Option Ended
 ended_on None now = None
-ended_on (Some t) now = if t.end == now then Some (record { node = t.request.node; frame = t.request.frame }) else None
+ended_on (Some t) now =
+    if t.end == now then Some (record { node = t.request.node; frame = t.request.frame }) else None
 
 -- the frame that ends now, with its node
 abbrev pub ended : BusState → ℕ → Option Ended
@@ -102,11 +105,16 @@ winner_at s now = if is_free s now then winner s.waiting else None
 abbrev pub with_transmission : BusState → ℕ → ℕ → Waiting → BusState
 with_transmission s now duration r =
     let end = now + duration in
-    record s { waiting = remove s.waiting (name_of r); wire = Some (record { request = r; end = end }); free = end + intermission s.bit }
+    record s {
+      waiting = remove s.waiting (name_of r);
+      wire = Some (record { request = r; end = end });
+      free = end + intermission s.bit;
+    }
 
 -- the bus after arbitration: a request that begins now takes the time of its frame
 abbrev pub after_arbitration : BusState → ℕ → BusState
-after_arbitration s now = option_map_or (λ r. with_transmission s now (time_on_wire r.frame s.bit) r) (winner_at s now) s
+after_arbitration s now =
+    option_map_or (λ r. with_transmission s now (time_on_wire r.frame s.bit) r) (winner_at s now) s
 
 -- the moment by what is on the wire, what waits and when the bus is free
 abbrev pub moment_of : Option Transmission → Requests → ℕ → Option ℕ

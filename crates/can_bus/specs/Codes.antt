@@ -12,13 +12,17 @@ use Rattle.can_bus.specs.Bus.{BusState}
 abbrev pub request_code : Coded Waiting
 request_code =
     code_by (ℕ × (ℕ × FrameFields)) (coded× coded_ℕ (coded× coded_ℕ frame_code))
-    (λ r. (r.node, (r.number, r.frame))) (λ p. record { node = p.0; number = p.1.0; frame = p.1.1 }) (λ _. refl)
+    (λ r. (r.node, (r.number, r.frame)))
+    (λ p. record { node = p.0; number = p.1.0; frame = p.1.1 })
+    (λ _. refl)
 
 -- what is on the wire is stored as its request and its end
 abbrev pub transmission_code : Coded Transmission
 transmission_code =
     code_by (Waiting × ℕ) (coded× request_code coded_ℕ)
-    (λ t. (t.request, t.end)) (λ p. record { request = p.0; end = p.1 }) (λ _. refl)
+    (λ t. (t.request, t.end))
+    (λ p. record { request = p.0; end = p.1 })
+    (λ _. refl)
 
 -- a bus is stored as its parts
 abbrev pub bus_code : Coded BusState

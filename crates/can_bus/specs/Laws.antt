@@ -16,8 +16,8 @@ pub record SoundStays {S : Type 0} (sound : S → Type 0) (after_request : S →
   pub arbitrate : (s : S) (now : ℕ) → sound s → sound (after_arbitration s now)
 
 -- the second state comes from the first by requests and calls of `finish` at this moment
-pub data Follows {S : Type 0} (after_request : S → ℕ → FrameFields → S) (after_finish : S → ℕ → S) (now : ℕ) (s : S)
-    : S → Type 0 where
+pub data Follows {S : Type 0} (after_request : S → ℕ → FrameFields → S) (after_finish : S → ℕ → S)
+    (now : ℕ) (s : S) : S → Type 0 where
   nothing : Follows after_request after_finish now s s
   request : (t : S) (node : ℕ) (frame : FrameFields) → Follows after_request after_finish now s t
       → Follows after_request after_finish now s (after_request t node frame)
@@ -26,8 +26,8 @@ pub data Follows {S : Type 0} (after_request : S → ℕ → FrameFields → S) 
 
 -- Where nothing was due before now: `finish` now, then any requests and further calls of `finish`
 -- now, then `arbitrate` now. What is due next is later than now.
-abbrev pub DueLater : {S : Type 0} → (S → Type 0) → (S → Option ℕ) → (S → ℕ → FrameFields → S) → (S → ℕ → S)
-    → (S → ℕ → S) → Type 0
+abbrev pub DueLater : {S : Type 0} → (S → Type 0) → (S → Option ℕ) → (S → ℕ → FrameFields → S)
+    → (S → ℕ → S) → (S → ℕ → S) → Type 0
 DueLater {S} sound next_moment after_request after_finish after_arbitration =
     (s t : S) (now : ℕ) → sound s → IfSome (next_moment s) (λ due. now ≤ due)
     → Follows after_request after_finish now (after_finish s now) t

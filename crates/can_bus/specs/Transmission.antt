@@ -1,4 +1,5 @@
--- How long a frame and the intermission behind it take (ISO 11898-1, data frame, remote frame and interframe space).
+-- How long a frame and the intermission behind it take (ISO 11898-1, data frame, remote frame and
+-- interframe space).
 use Rattle.std.specs.Prelude.{ℕ, ◌*◌}
 use Rattle.can_frame.specs.Frame.{FrameFields}
 use Rattle.frame_bits.specs.Length.{frame_length}

@@ -51,4 +51,5 @@ members requests = map request_at (entries requests)
 
 -- the member that no member goes before, if there is a member
 unfoldable pub winner : Requests → Option Waiting
-winner requests = find (λ r. list_all (λ other. not (goes_before other r)) (members requests)) (members requests)
+winner requests =
+    find (λ r. list_all (λ other. not (goes_before other r)) (members requests)) (members requests)

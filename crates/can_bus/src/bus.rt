@@ -1,4 +1,4 @@
-// What any bus is asked, and what it keeps.
+// The calls of any bus, and what it keeps.
 
 ghost use Rattle.std.specs.Prelude.{◌≡◌, ℕ, ◌<◌, ◌≤◌, ◌^◌, Option, OnOk, OnErr};
 ghost use Rattle.can_frame.specs.Frame.{FrameFields};
@@ -17,10 +17,10 @@ pub struct Ended {
 
 /// A bus to which nodes give frames. Moments are microseconds from the start.
 ///
-/// At each moment a bus is asked to `finish` until no further frame ends, then it takes the requests
-/// of the moment, and last it is asked to `arbitrate`; the moments never fall. An implementation
-/// says what its calls mean, and proves the laws below of these meanings. The laws speak of sound
-/// buses, and each bus that calls make is sound.
+/// At each moment `finish` is called until no further frame ends, then come the requests of the
+/// moment, and last `arbitrate`; the moments never fall. An implementation says what its calls mean,
+/// and proves the laws below of these meanings. The laws speak of sound buses, and each bus that
+/// calls make is sound.
 pub trait Bus {
     /// How many nodes it serves: their numbers are below this. No call changes it.
     ghost nodes: { Self → ℕ };
@@ -31,7 +31,7 @@ pub trait Bus {
     /// The bus after a request of this node.
     ghost after_request: { Self → ℕ → FrameFields → Self };
 
-    /// The next moment at which the bus has to be asked, if there is one.
+    /// The next moment at which something is due, if there is one.
     ghost next_moment: { Self → Option ℕ };
 
     /// The frame that a call of `finish` at this moment gives, if it gives one.
@@ -43,7 +43,7 @@ pub trait Bus {
     /// The bus after arbitration at this moment.
     ghost after_arbitration: { Self → ℕ → Self };
 
-    /// The node asks that the frame be sent. Where there is no memory for it, nothing changes.
+    /// The node requests that the frame be sent. Where there is no memory for it, nothing changes.
     fn request(&mut self, node: u32, f: &Frame) -> Result<(), NoMemory>
         requires { node < nodes self.old }
         ensures ok { OnOk result (self.new ≡ after_request self.old node f.now) }
@@ -51,13 +51,14 @@ pub trait Bus {
         ensures nodes { nodes self.new ≡ nodes self.old }
         ensures sound { sound self.new };
 
-    /// The next moment at which the bus has to be asked, or `None` where nothing waits and the wire
-    /// is empty.
+    /// The next moment at which something is due: a frame ends, or a request that waits may begin.
+    /// `None` where nothing waits and the wire is empty.
     fn next_time(&self) -> Option<u64>
         ensures moment { result ≡ next_moment self.now }
         ensures sound { sound self.now };
 
-    /// Takes a frame that ends at this moment off the wire, or `None` where no further one does.
+    /// Takes what ends at this moment off the wire and gives the frame that was sent, or `None` where
+    /// no further one ends.
     ///
     /// It may be called again at one moment: a bus may hold back a second frame that ends at it.
     fn finish(&mut self, now: u64) -> Option<Ended>
@@ -80,11 +81,11 @@ pub trait Bus {
     /// What each call makes of a sound bus is sound.
     ghost sound_stays: { SoundStays sound after_request after_finish after_arbitration };
 
-    /// Where nothing was due before a moment, and a sound bus is asked to `finish` at it, then takes
-    /// any requests and further calls of `finish`, and last is asked to `arbitrate`, what is due next
-    /// is later than the moment.
+    /// Where nothing was due before a moment on a sound bus, and then come `finish` at it, any requests
+    /// and further calls of `finish`, and last `arbitrate`, what is due next is later than the moment.
     ghost due_later: { DueLater sound next_moment after_request after_finish after_arbitration };
 
     /// The same where nothing is due, with no call of `finish` before the requests.
-    ghost due_later_from_nothing: { DueLaterFromNothing sound next_moment after_request after_finish after_arbitration };
+    ghost due_later_from_nothing: { DueLaterFromNothing sound next_moment after_request after_finish
+        after_arbitration };
 }

@@ -10,11 +10,13 @@ earlier_count rs node number = count_by (λ r. (r.node == node) && nat_lt r.numb
 
 -- how many are, with the one on the wire
 abbrev pub rank_in : List Waiting → Option Transmission → ℕ → ℕ → ℕ
-rank_in rs wire node number = earlier_count rs node number + (if carries_earlier wire node number then 1 else 0)
+rank_in rs wire node number =
+    earlier_count rs node number + (if carries_earlier wire node number then 1 else 0)
 
 -- a request, where it is the node's with its rank for its number
 abbrev pub with_rank_in : List Waiting → Option Transmission → ℕ → Waiting → Waiting
-with_rank_in rs wire node r = if r.node == node then record r { number = rank_in rs wire node r.number } else r
+with_rank_in rs wire node r =
+    if r.node == node then record r { number = rank_in rs wire node r.number } else r
 
 -- and the same of the request on the wire
 abbrev pub transmission_with_rank_in : List Waiting → Option Transmission → ℕ → Transmission → Transmission
@@ -22,7 +24,8 @@ transmission_with_rank_in rs wire node t = record t { request = with_rank_in rs 
 
 -- the number behind a request's own, or behind its rank where its own is the last
 abbrev pub following_number : List Waiting → Option Transmission → ℕ → ℕ → ℕ
-following_number rs wire node number = (if number == last_number then rank_in rs wire node number else number) + 1
+following_number rs wire node number =
+    (if number == last_number then rank_in rs wire node number else number) + 1
 
 -- a request of the node on the wire has a number that can be given
 abbrev pub CarriesInRange : Option Transmission → ℕ → Type 0

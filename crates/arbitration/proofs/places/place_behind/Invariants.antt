@@ -1,3 +1,4 @@
+-- The place behind the node counts on from here.
 use Rattle.std.proofs.Common.{◌≡◌, ◌+◌, ◌-◌, length, drop}
 use Rattle.arbitration.specs.Inside.Places.{place_behind}
 use Rattle.arbitration.proofs.places.place_behind.Given as goal

@@ -1,3 +1,4 @@
+-- One more request in the search for the winner.
 use Rattle.std.proofs.Common.{◌<◌, ◌+◌, ℕ, length, sym, ◌∙◌, subst, arith}
 use Rattle.can_bus.proofs.Winner.{IsFirstAt, first_passed, first_moved, first_of_all}
 use Rattle.arbitration.proofs.places.winner_place.Goals as goal

@@ -1,3 +1,4 @@
+-- No request so far goes before the best one.
 use Rattle.std.proofs.Common.{◌<◌, length}
 use Rattle.can_bus.proofs.Winner.{IsFirstAt}
 use Rattle.arbitration.proofs.places.winner_place.Given as goal

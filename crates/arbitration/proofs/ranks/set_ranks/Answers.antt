@@ -1,3 +1,4 @@
+-- One more request with its rank.
 use Rattle.std.proofs.Common.{◌≡◌, cond, get_or, take, eqb, ap, ◌∙◌, arith, length-take}
 use Rattle.std.proofs.lemmas.List.Sums.{count_by-le-length}
 use Rattle.std.proofs.lemmas.List.{set-get_or}

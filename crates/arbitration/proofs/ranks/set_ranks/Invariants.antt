@@ -1,3 +1,4 @@
+-- The requests so far have their ranks.
 use Rattle.std.proofs.Common.{◌≡◌, ◌++◌, eqb, map, take, drop}
 use Rattle.std.specs.Prelude.{count_by}
 use Rattle.arbitration.specs.Inside.Ranks.{with_rank_in}

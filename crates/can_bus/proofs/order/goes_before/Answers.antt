@@ -1,3 +1,4 @@
+-- The test by keys is the order by fields.
 use Rattle.std.proofs.Common.{arith}
 use Rattle.std.proofs.lemmas.Bool.Decides.{nat_tests}
 use Rattle.can_bus.proofs.Precedence.{goes_before-numbers}

@@ -1,3 +1,4 @@
+-- The winner leaves the list and begins.
 use Rattle.std.proofs.Common.{◌≡◌, ℕ, List, refl, ap, sym, subst, ◌∙◌, length}
 use Rattle.can_bus.specs.declared.waiting.Waiting.{Waiting}
 use Rattle.can_bus.specs.Bus.{is_free, after_arbitration}

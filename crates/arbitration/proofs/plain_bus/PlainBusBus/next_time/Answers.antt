@@ -1,3 +1,4 @@
+-- What is due where the wire is empty.
 use Rattle.std.proofs.Common.{ap, sym, ◌∙◌, arith}
 use Rattle.std.proofs.lemmas.Bool.Decides.{nat_tests}
 use Rattle.can_bus.specs.Bus.{next_moment}
