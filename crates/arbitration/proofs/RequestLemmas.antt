@@ -1,20 +1,20 @@
 -- What a request does to the state of a `PlainBus`.
 use Rattle.std.proofs.Common.{◌≡◌, ◌≢◌, ℕ, ◌+◌, ◌<◌, ◌≤◌, Bool, true, false, cond, List, [], ◌∷◌, length, map, get_or, take, drop, eqb, ltb, refl, sym, ap, subst, ◌∙◌, inl, inr, arith, ◌&&◌}
-use Rattle.std.specs.Prelude.{IsTrue, Option, None, Some, nat_le, unwrap_or, insert, count_by}
+use Rattle.std.specs.Prelude.{Option, None, Some, nat_le, unwrap_or, insert, count_by}
 use Rattle.std.specs.List.{All, Contains}
 use Rattle.std.specs.Option.{option_map}
 use Rattle.std.specs.Ordering.{nat_cmp}
 use Rattle.std.specs.FinMap as finmap
 use Rattle.std.specs.BTreeMap as btree
 use Rattle.std.specs.BTreeMap.{BTreeMap, Updates}
-use Rattle.std.specs.FinMap.{from_entries, FinMap, is_sorted, entries, retain_keys, len, len-entries}
+use Rattle.std.specs.FinMap.{from_entries, FinMap, entries, retain_keys, len, len-entries}
 use Rattle.std.proofs.lemmas.Bool.Decides.{nat_tests, eqb_tells}
 use Rattle.std.proofs.lemmas.List.Elements.{All-append, All-take, All-drop, All-cons, All-weaker, All-map, Contains-get_or}
 use Rattle.std.proofs.lemmas.List.Sums.{length-filter, sum_by-cons}
 use Rattle.can_frame.specs.Frame.{FrameFields}
 use Rattle.can_bus.specs.declared.waiting.Waiting.{Waiting}
 use Rattle.can_bus.specs.declared.transmission.Transmission.{Transmission}
-use Rattle.can_bus.specs.Waiting.{RequestName, name_cmp, name_of, entry_of, requests_of, members}
+use Rattle.can_bus.specs.Waiting.{RequestName, name_of, entry_of, requests_of, members}
 use Rattle.can_bus.specs.Bus.{BusState, next_number, last_number, rank, with_rank, transmission_with_rank, with_ranks, with_request, after_request}
 use Rattle.can_bus.proofs.Requests.{entries-retain_keys, entries-from_entries, members-requests_of}
 use Rattle.can_bus.proofs.NextNumbers.{get-map, insert-map, get-insert_same, get-insert_other, insert-insert}

@@ -1,9 +1,8 @@
 -- No call changes the time of a bit, so a sound bus stays sound.
 use Rattle.std.proofs.Common.{◌≡◌, ℕ, ◌≤◌, true, false, cond, eqb, refl, sym, ap, subst}
-use Rattle.std.specs.Prelude.{Option, None, Some, is_some}
+use Rattle.std.specs.Prelude.{None, Some, is_some}
 use Rattle.std.specs.Option.{option_map_or}
 use Rattle.can_frame.specs.Frame.{FrameFields}
-use Rattle.can_bus.specs.declared.waiting.Waiting.{Waiting}
 use Rattle.can_bus.specs.Transmission.{time_on_wire}
 use Rattle.can_bus.specs.Bus.{BusState, BitTakesTime, next_number, last_number, with_ranks, with_request, after_request, ended, after_finish, winner_at, with_transmission, after_arbitration}
 use Rattle.can_bus.specs.Laws.{SoundStays}

@@ -1,5 +1,5 @@
 -- How the parts of a bus are stored as data.
-use Rattle.std.specs.Prelude.{◌≡◌, ℕ, refl}
+use Rattle.std.specs.Prelude.{ℕ, refl}
 use Rattle.std.specs.Coded.{Coded, code_by, coded×, coded_ℕ, coded_option}
 use Rattle.std.specs.FinMap as map
 use Rattle.can_frame.specs.Frame.{FrameFields}

@@ -1,11 +1,11 @@
 -- A bus logs one list of frames up to an end moment.
 use Rattle.std.proofs.Common.{◌≡◌, ℕ, zero, suc, ◌+◌, ◌-◌, ◌<◌, ◌≤◌, List, [], ◌∷◌, ◌++◌, Option, Some, None, refl, sym, ap, subst, ◌∙◌, append_assoc, arith, inl, inr}
-use Rattle.std.specs.Prelude.{IfSome, Bool, true, false, if◌then◌else◌, ◌==◌, is_some}
+use Rattle.std.specs.Prelude.{IfSome, if◌then◌else◌, ◌==◌}
 use Rattle.std.proofs.lemmas.Bool.{cases_lt}
 use Rattle.std.proofs.lemmas.Grind.{flat_map-append}
 use Rattle.std.proofs.lemmas.List.{append-nil}
 use Rattle.std.specs.Option.{option_map_or}
-use Rattle.can_bus.specs.Bus.{BusState, new_bus, after_request, ended, after_finish, after_arbitration, next_moment}
+use Rattle.can_bus.specs.Bus.{BusState, new_bus, after_request, ended, after_finish, next_moment}
 use Rattle.can_bus.specs.Laws.{Follows}
 use Rattle.can_bus.specs.Waiting.{name_cmp}
 use Rattle.can_bus.proofs.SoundStays.{SoundStays-bus}
