@@ -1,15 +1,19 @@
-//! Lists that contracts see as the lists of their items, and what a search answers.
+//! Lists and boxes that contracts see without their place in memory, and what a search answers.
 //!
 //! A `Vec` is seen with its capacity and its place in memory, so two of them with equal items are two
 //! values. [`Items`] is seen as the list alone: a type that contracts compare, such as the code of a
-//! program or a tree of its source, holds its lists in it. Everything else in this workspace may
-//! stand on this crate.
+//! program or a tree of its source, holds its lists in it. [`Boxed`] is to a `Box` what [`Items`] is to
+//! a `Vec`. A type may hold itself through both. Everything else in this workspace may stand on this
+//! crate.
 #![tactic(auto)]
 
 ghost use Rattle.std.specs.Prelude.{◌≡◌, ◌==◌, [], length, IfOk};
 
+pub use boxed::Boxed;
 use std::alloc::{AllocError, Global};
 use std::marker::Model;
+
+mod boxed;
 
 /// Items in order. Contracts see the list of them.
 #[derive(Debug, Drop)]
@@ -19,8 +23,11 @@ pub struct Items<T> {
 
 impl<T> Model for Items<T> {
     ghost use Rattle.std.specs.Prelude.{List};
+    ghost use Rattle.std.specs.Coded.{coded_list};
 
     ghost Value = { List T };
+
+    ghost coded = { coded_list T.code };
 
     ghost view = { λ items. items.list.items };
 }

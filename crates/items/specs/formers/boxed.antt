@@ -1,0 +1,2 @@
+-- How a box holds a type that holds it.
+pub mod Boxed

@@ -1,0 +1,63 @@
+// A box that contracts see as its value.
+
+ghost use Rattle.std.specs.Prelude.{◌≡◌, IfOk};
+
+use std::alloc::{AllocError, Global};
+use std::marker::Model;
+
+/// A `Box` that contracts see as its value.
+#[derive(Debug, Drop)]
+pub struct Boxed<T> {
+    inner: Box<T>,
+}
+
+impl<T> Model for Boxed<T> {
+    ghost Value = { T };
+
+    ghost coded = { T.code };
+
+    ghost view = { λ boxed. boxed.inner.value };
+}
+
+impl<T> Boxed<T> {
+    /// The value.
+    #[inline]
+    pub fn get(&self) -> &T
+        ensures { result.now ≡ self.now }
+    {
+        &self.inner
+    }
+
+    /// The value, taken out of the box.
+    pub fn into_inner(self) -> T
+        ensures { result ≡ self }
+    {
+        let Boxed { inner } = self;
+        Box::into_inner(inner)
+    }
+}
+
+impl<T: Drop> Boxed<T> {
+    /// A box with this value.
+    pub fn new(alloc: Global, value: T) -> Result<Boxed<T>, AllocError>
+        ensures { IfOk result (λ boxed. boxed ≡ value) }
+    {
+        Ok(Boxed {
+            inner: Box::new(alloc, value)?,
+        })
+    }
+}
+
+#[cfg(test)]
+mod tests {
+    use super::*;
+    use std::test::Fail;
+
+    #[test]
+    fn boxes_hold_their_value(rt: HostRuntime) -> Result<(), Fail> {
+        let boxed = Boxed::new(rt.alloc(), 4u8)?;
+        assert_eq!(rt; *boxed.get(), 4);
+        assert_eq!(rt; boxed.into_inner(), 4);
+        Ok(())
+    }
+}
