@@ -1,0 +1,31 @@
+// Files and programs.
+
+use crate::declaration::Decl;
+use crate::procedure::Proc;
+use items::Items;
+use sim_outside::Text;
+
+/// A part of a file at its outermost level.
+#[derive(Debug, Drop)]
+pub enum TopItem {
+    /// `includes { .. }`, by the names of the files.
+    Includes(Items<Text>),
+    /// `variables { .. }`
+    Variables(Items<Decl>),
+    /// An event procedure or a function.
+    Proc(Proc),
+}
+
+/// The tree of a file.
+#[derive(Debug, Drop)]
+pub struct FileTree {
+    /// Its parts, in order.
+    pub items: Items<TopItem>,
+}
+
+/// The trees of the files of a program.
+#[derive(Debug, Drop)]
+pub struct Program {
+    /// The files in program order: what a file includes stands before it, and each file once.
+    pub files: Items<FileTree>,
+}

@@ -1,0 +1,20 @@
+//! The trees of CAPL sources.
+//!
+//! A [`Program`] holds the tree of each of its files. Each `at` is the number of the first token of its
+//! part in its file. The lists and boxes of a tree are seen as lists and values, so that two trees of
+//! equal parts are one value, wherever they lie in memory.
+#![tactic(auto)]
+
+pub use declaration::{Decl, DeclType, Declr, Init, Item};
+pub use expr::{Expr, Field};
+pub use file::{FileTree, Program, TopItem};
+pub use procedure::{Head, Param, Proc, Sel};
+pub use statement::{Arm, Group, Label, Stmt};
+
+mod declaration;
+mod expr;
+mod file;
+mod procedure;
+mod statement;
+#[cfg(test)]
+mod tests;
