@@ -4,6 +4,7 @@ pub mod Requests
 pub mod Winner
 pub mod NextNumbers
 pub mod Ranks
+pub mod Wire
 pub mod RequestsCommute
 pub mod SoundStays
 pub mod DueLater

@@ -16,6 +16,7 @@ use Rattle.can_bus.specs.Laws.{RequestsCommute}
 use Rattle.can_bus.proofs.Requests.{name_cmp_total, name_cmp-IsAntisymmetric, ties, entries-retain_keys}
 use Rattle.can_bus.proofs.NextNumbers.{get-insert_same, get-insert_other}
 use Rattle.can_bus.proofs.Ranks.{count_on_wire, with_ranks-is}
+use Rattle.can_bus.proofs.Wire.{wire_request, wire-after_request}
 use Rattle.can_bus.proofs.SoundStays.{bit-after_request}
 
 -- ---- tests of names
@@ -85,38 +86,27 @@ module _ (s : BusState) (m : ℕ) where
   other_number f q e = ap (λ o. unwrap_or o 0) (other_next f q e)
 
   -- ---- what is on the wire
-  -- the transmission, numbered with_rank where the last number was used up
-  abbrev carried : Transmission → Transmission
-  carried t = cond (eqb (next_number s m) last_number) (transmission_with_rank s m t) t
-
-  wire_base : (b : Bool) → (cond b (with_ranks s m) s).wire ≡ option_map (λ t. cond b (transmission_with_rank s m t) t) s.wire
-  wire_base true = ap (λ (u : BusState). u.wire) (with_ranks-is s m)
-  wire_base false = elim (s.wire) as (λ w. w ≡ option_map (λ (t : Transmission). t) w) [ None ↦ refl | Some t ↦ refl ]
-
-  wire_after : (f : FrameFields) → (after_request s m f).wire ≡ option_map carried s.wire
-  wire_after f = wire_base (eqb (next_number s m) last_number)
-
-  carried_other : (t : Transmission) → t.request.node ≢ m → carried t ≡ t
-  carried_other t e =
+  wire_request_other : (t : Transmission) → t.request.node ≢ m → wire_request s m t ≡ t
+  wire_request_other t e =
       elim (eqb (next_number s m) last_number) as (λ b. cond b (transmission_with_rank s m t) t ≡ t) [
         | true ↦ λ i. record { request = with_rank_other t.request e i; end = t.end }
         | false ↦ refl
       ]
 
-  carried_node : (t : Transmission) → (carried t).request.node ≡ t.request.node
-  carried_node t = elim (eqb (next_number s m) last_number) as (λ b. (cond b (transmission_with_rank s m t) t).request.node ≡ t.request.node) [ true ↦ with_rank_node t.request | false ↦ refl ]
+  wire_request_node : (t : Transmission) → (wire_request s m t).request.node ≡ t.request.node
+  wire_request_node t = elim (eqb (next_number s m) last_number) as (λ b. (cond b (transmission_with_rank s m t) t).request.node ≡ t.request.node) [ true ↦ with_rank_node t.request | false ↦ refl ]
 
   -- ---- the ranks of another node
   module _ (f : FrameFields) (n : ℕ) (apart : n ≢ m) (number : ℕ) where
     uncounted : (node k : ℕ) → node ≡ m → cond {A = ℕ} (eqb node n && ltb k number) 1 0 ≡ 0
     uncounted node k e = let other : node ≢ n = λ same. apart (sym same ∙ e) in grind (arith, nat_tests)
 
-    counted_carried : (w : Option Transmission) → count_on_wire (option_map carried w) n number ≡ count_on_wire w n number
-    counted_carried None = refl
-    counted_carried (Some t) =
+    counted_on_wire : (w : Option Transmission) → count_on_wire (option_map (wire_request s m) w) n number ≡ count_on_wire w n number
+    counted_on_wire None = refl
+    counted_on_wire (Some t) =
         elim (eqb_tells t.request.node m) [
-          | inl own ↦ uncounted (carried t).request.node (carried t).request.number (carried_node t ∙ own.1) ∙ sym (uncounted t.request.node t.request.number own.1)
-          | inr other ↦ ap (λ (u : Transmission). cond {A = ℕ} (eqb u.request.node n && ltb u.request.number number) 1 0) (carried_other t other.1)
+          | inl own ↦ uncounted (wire_request s m t).request.node (wire_request s m t).request.number (wire_request_node t ∙ own.1) ∙ sym (uncounted t.request.node t.request.number own.1)
+          | inr other ↦ ap (λ (u : Transmission). cond {A = ℕ} (eqb u.request.node n && ltb u.request.number number) 1 0) (wire_request_other t other.1)
         ]
 
     retained_other : retain_keys (after_request s m f).waiting (λ name. eqb name.0 n && ltb name.1 number) ≡ retain_keys s.waiting (λ name. eqb name.0 n && ltb name.1 number)
@@ -134,8 +124,8 @@ module _ (s : BusState) (m : ℕ) where
 
     other_rank : rank (after_request s m f) n number ≡ rank s n number
     other_rank =
-        (λ i. len (retained_other i) + count_on_wire (wire_after f i) n number)
-        ∙ ap (λ k. len (retain_keys s.waiting (λ name. eqb name.0 n && ltb name.1 number)) + k) (counted_carried s.wire)
+        (λ i. len (retained_other i) + count_on_wire (wire-after_request s m f i) n number)
+        ∙ ap (λ k. len (retain_keys s.waiting (λ name. eqb name.0 n && ltb name.1 number)) + k) (counted_on_wire s.wire)
 
   same_free : (f : FrameFields) → (after_request s m f).free ≡ s.free
   same_free f = by_base (λ u. u.free ≡ s.free) s m refl (ap (λ (u : BusState). u.free) (with_ranks-is s m))
@@ -215,8 +205,8 @@ module _ (s t : BusState) (n : ℕ) (waits : (k : ℕ) → get s.waiting (n, k) 
       ∙ ap (λ j. Some (j + 1)) base_number
       ∙ sym (get-insert_same (base t n).next n (next_number (base t n) n + 1))
 
-  same_carried : (w : Transmission) → carried s n w ≡ carried t n w
-  same_carried w =
+  same_wire_request : (w : Transmission) → wire_request s n w ≡ wire_request t n w
+  same_wire_request w =
       ap (λ r. cond (eqb (next_number s n) last_number) (record { request = r; end = w.end }) w) (same_with_rank w.request)
       ∙ ap (λ k. cond (eqb k last_number) (transmission_with_rank t n w) w) number
 
@@ -233,10 +223,10 @@ module _ (s : BusState) (m n : ℕ) (f g : FrameFields) (apart : m ≢ n) where
       let back : n ≢ m = λ e. apart (sym e) in
       own_next (after_request s m f) s n (λ j. other_waits s m f (n, j) back) (other_number s m f n back) (λ j. other_rank s m f n back j) g
 
-  second_carried : (w : Transmission) → carried (after_request s m f) n w ≡ carried s n w
-  second_carried w =
+  second_wire_request : (w : Transmission) → wire_request (after_request s m f) n w ≡ wire_request s n w
+  second_wire_request w =
       let back : n ≢ m = λ e. apart (sym e) in
-      same_carried (after_request s m f) s n (λ j. other_waits s m f (n, j) back) (other_number s m f n back) (λ j. other_rank s m f n back j) w
+      same_wire_request (after_request s m f) s n (λ j. other_waits s m f (n, j) back) (other_number s m f n back) (λ j. other_rank s m f n back j) w
 
   waits_alike : (q : RequestName) → q.0 ≡ n → get (after_request (after_request s m f) n g).waiting q ≡ get (after_request (after_request s n g) m f).waiting q
   waits_alike q own =
@@ -248,15 +238,15 @@ module _ (s : BusState) (m n : ℕ) (f g : FrameFields) (apart : m ≢ n) where
       let P : ℕ → Type 0 = λ j. get (after_request (after_request s m f) n g).next j ≡ get (after_request (after_request s n g) m f).next j in
       subst P (sym own) (second_next ∙ sym (other_next (after_request s n g) m f n (λ e. apart (sym e))))
 
-  carried_alike : (w : Transmission) → carried s n (carried s m w) ≡ carried s m (carried s n w)
-  carried_alike w =
+  wire_requests_commute : (w : Transmission) → wire_request s n (wire_request s m w) ≡ wire_request s m (wire_request s n w)
+  wire_requests_commute w =
       elim (eqb_tells w.request.node m) [
         | inl own ↦
-            carried_other s n (carried s m w) (λ e. apart (sym (carried_node s m w ∙ own.1) ∙ e))
-            ∙ ap (carried s m) (sym (carried_other s n w (λ e. apart (sym own.1 ∙ e))))
+            wire_request_other s n (wire_request s m w) (λ e. apart (sym (wire_request_node s m w ∙ own.1) ∙ e))
+            ∙ ap (wire_request s m) (sym (wire_request_other s n w (λ e. apart (sym own.1 ∙ e))))
         | inr other ↦
-            ap (carried s n) (carried_other s m w other.1)
-            ∙ sym (carried_other s m (carried s n w) (λ e. other.1 (sym (carried_node s n w) ∙ e)))
+            ap (wire_request s n) (wire_request_other s m w other.1)
+            ∙ sym (wire_request_other s m (wire_request s n w) (λ e. other.1 (sym (wire_request_node s n w) ∙ e)))
       ]
 
 wires : (a b c d : Transmission → Transmission) → ((w : Transmission) → a (b w) ≡ c (d w)) → (o : Option Transmission) → option_map a (option_map b o) ≡ option_map c (option_map d o)
@@ -292,11 +282,11 @@ RequestsCommute-bus s m n f g apart =
       ]
     ]) in
     let wire : one.wire ≡ two.wire =
-    wire_after (after_request s m f) n g ∙ ap (option_map (carried (after_request s m f) n)) (wire_after s m f)
-    ∙ wires (carried (after_request s m f) n) (carried s m) (carried (after_request s n g) m) (carried s n)
-    (λ w. second_carried s m n f g apart (carried s m w) ∙ carried_alike s m n f g apart w ∙ sym (second_carried s n m g f back (carried s n w)))
+    wire-after_request (after_request s m f) n g ∙ ap (option_map (wire_request (after_request s m f) n)) (wire-after_request s m f)
+    ∙ wires (wire_request (after_request s m f) n) (wire_request s m) (wire_request (after_request s n g) m) (wire_request s n)
+    (λ w. second_wire_request s m n f g apart (wire_request s m w) ∙ wire_requests_commute s m n f g apart w ∙ sym (second_wire_request s n m g f back (wire_request s n w)))
     s.wire
-    ∙ sym (wire_after (after_request s n g) m f ∙ ap (option_map (carried (after_request s n g) m)) (wire_after s n g)) in
+    ∙ sym (wire-after_request (after_request s n g) m f ∙ ap (option_map (wire_request (after_request s n g) m)) (wire-after_request s n g)) in
     let free : one.free ≡ two.free = same_free (after_request s m f) n g ∙ same_free s m f ∙ sym (same_free (after_request s n g) m f ∙ same_free s n g) in
     let bit : one.bit ≡ two.bit =
     bit-after_request (after_request s m f) n g ∙ bit-after_request s m f
