@@ -124,10 +124,10 @@ pub one_goes_first : (a b : Waiting) → goes_before a b ≡ false → (name_of 
 one_goes_first a b h = by_order a b (precedence a b) refl (sym (goes_before-precedence a b) ∙ h)
 
 -- the test by the numbers that the code compares
-pub goes_before-numbers : (a b : Waiting) (k l : ℕ) → k ≡ key_of a → l ≡ key_of b
-    → goes_before a b ≡ cond (ltb k l) true (cond (ltb l k) false (ltb a.node b.node || (eqb a.node b.node && ltb a.number b.number)))
-goes_before-numbers a b k l p q =
-    goes_before-precedence a b
-    ∙ sym (by_numbers (key_of a) (key_of b) a.node b.node a.number b.number)
-    ∙ ap (λ n. cond (ltb n (key_of b)) true (cond (ltb (key_of b) n) false (comes_first a b))) (sym p)
-    ∙ ap (λ n. cond (ltb k n) true (cond (ltb n k) false (comes_first a b))) (sym q)
+pub goes_before-keys : (a b : Waiting) → goes_before a b
+    ≡ cond (ltb (key_of a) (key_of b)) true (cond (ltb (key_of b) (key_of a)) false (ltb a.node b.node || (eqb a.node b.node && ltb a.number b.number)))
+goes_before-keys a b =
+    goes_before-precedence a b ∙ sym (by_numbers (key_of a) (key_of b) a.node b.node a.number b.number)
+
+-- the tests of numbers that the code makes, and what they decide
+pub ruleset key_tests = (nat_tests, goes_before-keys)

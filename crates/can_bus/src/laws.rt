@@ -6,6 +6,7 @@ ghost use Rattle.can_bus.specs.Waiting.{Requests, winner, IsWinner};
 
 /// The winner of a set of requests is a member and goes before each other one. Only an empty set
 /// has none.
+#[tactic(auto, using(crate::proofs::Winner::winner_law))]
 pub fn winner_goes_first()
     ensures { (requests : Requests) → MatchOption (winner requests) (requests ≡ empty) (IsWinner requests) }
 {}

@@ -8,6 +8,7 @@ use can_frame::arb_key;
 
 /// Whether `a` goes before `b`: by the arbitration fields, of equal fields by the lesser node, and
 /// of one node by the lesser number.
+#[tactic(auto, using(crate::proofs::Precedence::key_tests))]
 pub fn goes_before(a: &Waiting, b: &Waiting) -> bool
     ensures { result ≡ goes_before a.now b.now }
 {
