@@ -1,5 +1,5 @@
 -- The ranks of a node's requests, by the list of those that wait.
-use Rattle.std.proofs.Common.{◌≡◌, ◌≢◌, ℕ, zero, suc, ◌+◌, ◌<◌, ◌≤◌, Bool, true, false, cond, ◌&&◌, ◌⊎◌, List, [], ◌∷◌, ◌++◌, length, map, get_or, set, take, drop, eqb, ltb, refl, sym, ap, subst, ◌∙◌, inl, inr, arith, add-one}
+use Rattle.std.proofs.Common.{◌≡◌, ◌≢◌, ℕ, zero, suc, ◌+◌, ◌<◌, ◌≤◌, Bool, true, false, cond, ◌&&◌, ◌⊎◌, List, [], ◌∷◌, ◌++◌, length, map, get_or, set, take, drop, eqb, ltb, refl, sym, ap, subst, ◌∙◌, inl, inr, arith, add-one, length-take}
 use mir.Val.{bool_byte}
 use Rattle.std.specs.Prelude.{IsTrue, Option, None, Some, nat_le, insert, count_by}
 use Rattle.std.specs.List.{Contains, All}
@@ -7,7 +7,7 @@ use Rattle.std.specs.Ordering.{nat_cmp, ordering_then, is_lt}
 use Rattle.std.specs.FinMap.{is_sorted}
 use Rattle.std.specs.FinMap.Entries.{below_all}
 use Rattle.std.proofs.lemmas.Bool.Decides.{nat_tests, eqb_tells}
-use Rattle.std.proofs.lemmas.List.Sums.{sum_by-cons, sum_by-insert, sum_by-le-sum_by, count_by_more_yes, count_by_more_no}
+use Rattle.std.proofs.lemmas.List.Sums.{sum_by-cons, sum_by-insert, sum_by-le-sum_by, count_by_more_yes, count_by_more_no, count_by-le-length}
 use Rattle.std.proofs.lemmas.List.{set-get_or}
 use Rattle.std.proofs.lemmas.List.Edits.{map_over_more}
 use Rattle.std.proofs.lemmas.List.Elements.{All-head, All-tail, All-contains_itself}
@@ -122,6 +122,9 @@ bool_byte-le false = omega arith
 pub bool_byte-is : (b : Bool) → bool_byte b ≡ cond b 1 0
 bool_byte-is true = refl
 bool_byte-is false = refl
+
+-- what bounds a count in a part of a list
+pub ruleset counts = (count_by-le-length, length-take, bool_byte-le)
 
 -- ---- a further request of the node that is not earlier
 pub same_after : (rs : List Waiting) (i : ℕ) (r : Waiting) (node number : ℕ) → number ≤ r.number → earlier_count (insert rs i r) node number ≡ earlier_count rs node number

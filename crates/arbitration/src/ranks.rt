@@ -71,6 +71,7 @@ pub(crate) fn transmission_with_rank(
 }
 
 /// Gives each waiting request of the node its rank for its number.
+#[tactic(auto, using(crate::proofs::RankLemmas::counts))]
 pub(crate) fn set_ranks(waiting: &mut [Waiting], wire: &Option<Transmission>, node: u32)
     requires { InOrder waiting.old }
     ensures { waiting.new ≡ map (with_rank_in waiting.old wire.now node) waiting.old }

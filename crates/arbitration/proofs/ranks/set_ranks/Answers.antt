@@ -1,29 +1,10 @@
 -- One more request with its rank.
-use Rattle.std.proofs.Common.{◌≡◌, cond, get_or, take, eqb, ap, ◌∙◌, arith, length-take}
-use Rattle.std.proofs.lemmas.List.Sums.{count_by-le-length}
+use Rattle.std.proofs.Common.{◌≡◌, cond, get_or, ap, ◌∙◌}
 use Rattle.std.proofs.lemmas.List.{set-get_or}
-use Rattle.can_bus.specs.declared.waiting.Waiting.{Waiting}
 use Rattle.arbitration.specs.Inside.Ranks.{with_rank_in}
-use Rattle.arbitration.proofs.RankLemmas.{numbered_step, skipped_step, counted_more, counted_same, bool_byte-le, bool_byte-is}
+use Rattle.arbitration.proofs.RankLemmas.{numbered_step, skipped_step, counted_more, counted_same, bool_byte-is}
 use Rattle.arbitration.proofs.ranks.set_ranks.Goals as goal
 use Rattle.arbitration.proofs.ranks.set_ranks.Goals.{then-request-node, else-request-node}
-
-pub overflow_add-request : goal.overflow_add-request
-overflow_add-request c =
-    let front = take c.loop-request.request-index c.args.waiting.now in
-    let few = count_by-le-length (λ (r : Waiting). eqb r.node c.args.node) front in
-    let short = length-take c.loop-request.request-index c.args.waiting.now in
-    let counted = c.loop-request.invariant.1 in
-    let small = bool_byte-le c.carries_earlier.result in
-    omega arith
-
-pub overflow_add-count : goal.overflow_add-count
-overflow_add-count c =
-    let front = take c.loop-request.request-index c.args.waiting.now in
-    let few = count_by-le-length (λ (r : Waiting). eqb r.node c.args.node) front in
-    let short = length-take c.loop-request.request-index c.args.waiting.now in
-    let counted = c.loop-request.invariant.1 in
-    omega arith
 
 pub loop-request-preserved : goal.loop-request-preserved
 loop-request-preserved c =
