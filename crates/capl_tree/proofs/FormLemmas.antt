@@ -12,66 +12,66 @@ use Rattle.capl_tree.specs.declared.statement.Stmt.TheVariants as stmt
 use Rattle.capl_tree.specs.Forms as form
 
 -- an expression between parentheses
-pub Paren-form : (inner : Expr) (at : ℕ) → expr.Paren inner at ≡ form.Paren inner at
+pub paren_form : (inner : Expr) (at : ℕ) → expr.Paren inner at ≡ form.Paren inner at
 unfolding Rattle.capl_tree.specs.declared.expr.Expr.TheBlock.hidden-the_row-Expr-0 denote.Hole.Carrier.hidden
-Paren-form inner at = refl
+paren_form inner at = refl
 
 -- an element
-pub Index-form : (base index : Expr) (at : ℕ) → expr.Index base index at ≡ form.Index base index at
+pub index_form : (base index : Expr) (at : ℕ) → expr.Index base index at ≡ form.Index base index at
 unfolding Rattle.capl_tree.specs.declared.expr.Expr.TheBlock.hidden-the_row-Expr-0 denote.Hole.Carrier.hidden
-Index-form base index at = refl
+index_form base index at = refl
 
 -- a member
-pub Member-form : (base : Expr) (field : Field) (at : ℕ) → expr.Member base field at ≡ form.Member base field at
+pub member_form : (base : Expr) (field : Field) (at : ℕ) → expr.Member base field at ≡ form.Member base field at
 unfolding Rattle.capl_tree.specs.declared.expr.Expr.TheBlock.hidden-the_row-Expr-0 denote.Hole.Carrier.hidden
-Member-form base field at = refl
+member_form base field at = refl
 
 -- bytes of the payload
-pub Bytes-form : (kind : Kind) (index : Expr) (at : ℕ) → field.Bytes kind index at ≡ form.Bytes kind index at
+pub bytes_form : (kind : Kind) (index : Expr) (at : ℕ) → field.Bytes kind index at ≡ form.Bytes kind index at
 unfolding Rattle.capl_tree.specs.declared.expr.Expr.TheBlock.hidden-the_row-Expr-0 denote.Hole.Carrier.hidden
-Bytes-form kind index at = refl
+bytes_form kind index at = refl
 
 -- a cast
-pub Cast-form : (kind : Kind) (inner : Expr) (at : ℕ) → expr.Cast kind inner at ≡ form.Cast kind inner at
+pub cast_form : (kind : Kind) (inner : Expr) (at : ℕ) → expr.Cast kind inner at ≡ form.Cast kind inner at
 unfolding Rattle.capl_tree.specs.declared.expr.Expr.TheBlock.hidden-the_row-Expr-0 denote.Hole.Carrier.hidden
-Cast-form kind inner at = refl
+cast_form kind inner at = refl
 
 -- a prefix operator
-pub Unary-form : (op : UnOp) (inner : Expr) (at : ℕ) → expr.Unary op inner at ≡ form.Unary op inner at
+pub unary_form : (op : UnOp) (inner : Expr) (at : ℕ) → expr.Unary op inner at ≡ form.Unary op inner at
 unfolding Rattle.capl_tree.specs.declared.expr.Expr.TheBlock.hidden-the_row-Expr-0 denote.Hole.Carrier.hidden
-Unary-form op inner at = refl
+unary_form op inner at = refl
 
 -- a postfix operator
-pub Post-form : (up : Bool) (inner : Expr) (at : ℕ) → expr.Post up inner at ≡ form.Post up inner at
+pub post_form : (up : Bool) (inner : Expr) (at : ℕ) → expr.Post up inner at ≡ form.Post up inner at
 unfolding Rattle.capl_tree.specs.declared.expr.Expr.TheBlock.hidden-the_row-Expr-0 denote.Hole.Carrier.hidden
-Post-form up inner at = refl
+post_form up inner at = refl
 
 -- a binary operator
-pub Binary-form : (op : BinOp) (left right : Expr) (at : ℕ) → expr.Binary op left right at ≡ form.Binary op left right at
+pub binary_form : (op : BinOp) (left right : Expr) (at : ℕ) → expr.Binary op left right at ≡ form.Binary op left right at
 unfolding Rattle.capl_tree.specs.declared.expr.Expr.TheBlock.hidden-the_row-Expr-0 denote.Hole.Carrier.hidden
-Binary-form op left right at = refl
+binary_form op left right at = refl
 
 -- a choice
-pub Cond-form : (test one other : Expr) (at : ℕ) → expr.Cond test one other at ≡ form.Cond test one other at
+pub cond_form : (test one other : Expr) (at : ℕ) → expr.Cond test one other at ≡ form.Cond test one other at
 unfolding Rattle.capl_tree.specs.declared.expr.Expr.TheBlock.hidden-the_row-Expr-0 denote.Hole.Carrier.hidden
-Cond-form test one other at = refl
+cond_form test one other at = refl
 
 -- an assignment
-pub Assign-form : (op : Option BinOp) (left right : Expr) (at : ℕ) → expr.Assign op left right at ≡ form.Assign op left right at
+pub assign_form : (op : Option BinOp) (left right : Expr) (at : ℕ) → expr.Assign op left right at ≡ form.Assign op left right at
 unfolding Rattle.capl_tree.specs.declared.expr.Expr.TheBlock.hidden-the_row-Expr-0 denote.Hole.Carrier.hidden
-Assign-form op left right at = refl
+assign_form op left right at = refl
 
 -- `while`
-pub While-form : (test : Expr) (body : Stmt) → stmt.While test body ≡ form.While test body
+pub while_form : (test : Expr) (body : Stmt) → stmt.While test body ≡ form.While test body
 unfolding Rattle.capl_tree.specs.declared.statement.Stmt.TheBlock.hidden-the_row-Stmt-2 denote.Hole.Carrier.hidden
-While-form test body = refl
+while_form test body = refl
 
 -- `do`
-pub Do-form : (body : Stmt) (test : Expr) → stmt.Do body test ≡ form.Do body test
+pub do_form : (body : Stmt) (test : Expr) → stmt.Do body test ≡ form.Do body test
 unfolding Rattle.capl_tree.specs.declared.statement.Stmt.TheBlock.hidden-the_row-Stmt-2 denote.Hole.Carrier.hidden
-Do-form body test = refl
+do_form body test = refl
 
 -- `for`
-pub For-form : (init test step : Option Expr) (body : Stmt) → stmt.For init test step body ≡ form.For init test step body
+pub for_form : (init test step : Option Expr) (body : Stmt) → stmt.For init test step body ≡ form.For init test step body
 unfolding Rattle.capl_tree.specs.declared.statement.Stmt.TheBlock.hidden-the_row-Stmt-2 denote.Hole.Carrier.hidden
-For-form init test step body = refl
+for_form init test step body = refl

@@ -3,7 +3,7 @@
 -- 8 for each expression, each statement other than a declaration, each arm of an `if` after the first,
 -- each label and each procedure. The block of a procedure is no statement. The constants of
 -- declarations and of labels weigh nothing, and neither do the numbers of selectors.
-use Rattle.std.specs.Prelude.{ℕ, ◌+◌, ◌*◌, Option, Some, None, length, sum_by}
+use Rattle.std.specs.Prelude.{ℕ, ◌+◌, ◌-◌, ◌*◌, ◌^◌, Option, Some, None, length, sum_by, nat_lt, if◌then◌else◌}
 use Rattle.capl_tree.specs.declared.expr.Expr.{Expr, Row_of-Expr, end_of-Expr, more_of-Expr}
 use Rattle.capl_tree.specs.declared.expr.Expr.TheVariants as expr
 use Rattle.capl_tree.specs.declared.expr.Field.{Field}
@@ -115,3 +115,7 @@ file_weight file = sum_by top_item_weight file.items
 -- a program
 abbrev pub weight : Program → ℕ
 weight program = sum_by file_weight program.files
+
+-- the number, or the greatest of 64 bits where it is above
+abbrev pub saturated : ℕ → ℕ
+saturated number = if nat_lt number (2 ^ 64) then number else 2 ^ 64 - 1

@@ -2,7 +2,8 @@
 //!
 //! A [`Program`] holds the tree of each of its files. Each `at` is the number of the first token of its
 //! part in its file. The lists and boxes of a tree are seen as lists and values, so that two trees of
-//! equal parts are one value, wherever they lie in memory.
+//! equal parts are one value, wherever they lie in memory. [`weight_of`] bounds the number of
+//! instructions of a program's code.
 #![tactic(auto)]
 
 pub use declaration::{Decl, DeclType, Declr, Init, Item};
@@ -10,6 +11,7 @@ pub use expr::{Expr, Field};
 pub use file::{FileTree, Program, TopItem};
 pub use procedure::{Head, Param, Proc, Sel};
 pub use statement::{Arm, Group, Label, Stmt};
+pub use weight::weight_of;
 
 mod declaration;
 mod expr;
@@ -18,3 +20,4 @@ mod procedure;
 mod statement;
 #[cfg(test)]
 mod tests;
+mod weight;

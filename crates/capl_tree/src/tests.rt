@@ -359,3 +359,33 @@ fn programs_hold_each_form(rt: HostRuntime) -> Result<(), Fail> {
     );
     Ok(())
 }
+
+#[test]
+fn programs_weigh_what_is_in_them(rt: HostRuntime) -> Result<(), Fail> {
+    // Seven procedures, of which each weighs 8 and its statements 208.
+    assert_eq!(rt; weight_of(&program(rt.alloc())?), 7 * 216);
+    Ok(())
+}
+
+#[test]
+fn expressions_weigh_what_is_in_them(rt: HostRuntime) -> Result<(), Fail> {
+    let alloc = rt.alloc();
+    let mut body = Vec::new(alloc);
+    for e in expressions(alloc)? {
+        body.push(Stmt::Expr(e))?;
+    }
+    let procedure = Proc {
+        head: Head::Start,
+        body: Items::from_list(body),
+        at: 0,
+    };
+    let file = FileTree {
+        items: Items::from_list(vec![in alloc; TopItem::Proc(procedure)]?),
+    };
+    let program = Program {
+        files: Items::from_list(vec![in alloc; file]?),
+    };
+    // The procedure, 16 statements and 34 expressions.
+    assert_eq!(rt; weight_of(&program), 8 * (1 + 16 + 34));
+    Ok(())
+}
