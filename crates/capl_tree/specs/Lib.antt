@@ -1,4 +1,6 @@
 -- The definitions of this crate.
 pub mod Forms
 pub mod Weight
+pub mod Grammar
+pub mod Place
 pub mod Inside

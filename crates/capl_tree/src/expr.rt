@@ -1,5 +1,8 @@
 // Expressions.
 
+ghost use Rattle.std.specs.Prelude.{◌≡◌};
+ghost use Rattle.capl_tree.specs.Place.{expression_place, field_place};
+
 use int_kinds::{BinOp, Kind, UnOp};
 use items::{Boxed, Items};
 use sim_outside::Text;
@@ -114,4 +117,40 @@ pub enum Field {
         index: Boxed<Expr>,
         at: u32,
     },
+}
+
+impl Expr {
+    /// The number of its first token in its file.
+    pub fn place(&self) -> u32
+        ensures { result ≡ expression_place self.now }
+    {
+        match self {
+            Expr::Num { at, .. }
+            | Expr::Char { at, .. }
+            | Expr::Str { at, .. }
+            | Expr::This { at }
+            | Expr::Name { at, .. }
+            | Expr::Paren { at, .. }
+            | Expr::Call { at, .. }
+            | Expr::Index { at, .. }
+            | Expr::Member { at, .. }
+            | Expr::Cast { at, .. }
+            | Expr::Unary { at, .. }
+            | Expr::Post { at, .. }
+            | Expr::Binary { at, .. }
+            | Expr::Cond { at, .. }
+            | Expr::Assign { at, .. } => *at,
+        }
+    }
+}
+
+impl Field {
+    /// The number of its first token in its file.
+    pub fn place(&self) -> u32
+        ensures { result ≡ field_place self.now }
+    {
+        match self {
+            Field::Named { at, .. } | Field::Bytes { at, .. } => *at,
+        }
+    }
 }

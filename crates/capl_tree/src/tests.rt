@@ -320,6 +320,8 @@ fn expressions_have_each_form(rt: HostRuntime) -> Result<(), Fail> {
         )
     );
     assert_eq!(rt; *at, 21);
+    assert_eq!(rt; field.place(), 23);
+    assert_eq!(rt; all.get(9).map(|e| e.place()), Some(21));
     Ok(())
 }
 

@@ -1,0 +1,278 @@
+-- Where each part of a tree may stand (CAPL manual, operators, statements and declarations).
+--
+-- An operand that binds weaker than its place wants stands between parentheses, an `else` belongs to the
+-- nearest `if` that has none, and a list that the grammar wants to have an item has one. Whether each `at`
+-- is the number of its token is no part of this.
+use Rattle.std.specs.Prelude.{◌≡◌, ◌≢◌, ◌≤◌, ◌<◌, ℕ, Bool, true, false, List, [], Option, All, ⊤}
+use Rattle.std.specs.Option.{ForSome}
+use Rattle.int_kinds.specs.declared.operators.BinOp.{BinOp}
+use Rattle.int_kinds.specs.declared.operators.BinOp.TheVariants as op
+use Rattle.capl_tree.specs.declared.expr.Expr.{Expr, Row_of-Expr, end_of-Expr, more_of-Expr}
+use Rattle.capl_tree.specs.declared.expr.Expr.TheVariants as expr
+use Rattle.capl_tree.specs.declared.expr.Field.{Field}
+use Rattle.capl_tree.specs.declared.expr.Field.TheVariants.{Named}
+use Rattle.capl_tree.specs.declared.statement.Stmt.{Stmt, Row_of-Stmt, end_of-Stmt, more_of-Stmt}
+use Rattle.capl_tree.specs.declared.statement.Stmt.TheBlock.{Row_of-Arm, end_of-Arm, more_of-Arm, Row_of-Group, end_of-Group, more_of-Group, Held-Stmt-If-1}
+use Rattle.capl_tree.specs.declared.statement.Stmt.TheVariants as stmt
+use Rattle.capl_tree.specs.declared.statement.Label.{Label}
+use Rattle.capl_tree.specs.declared.declaration.Decl.{Decl}
+use Rattle.capl_tree.specs.declared.declaration.Declr.{Declr}
+use Rattle.capl_tree.specs.declared.declaration.Init.{Init}
+use Rattle.capl_tree.specs.declared.declaration.Init.TheVariants.{One, Many}
+use Rattle.capl_tree.specs.declared.declaration.Item.{Item}
+use Rattle.capl_tree.specs.declared.declaration.Item.TheVariants.{Plain, Set}
+use Rattle.capl_tree.specs.declared.procedure.Proc.{Proc}
+use Rattle.capl_tree.specs.declared.procedure.Head.{Head}
+use Rattle.capl_tree.specs.declared.procedure.Head.TheVariants as head
+use Rattle.capl_tree.specs.declared.procedure.Sel.{Sel}
+use Rattle.capl_tree.specs.declared.procedure.Sel.TheVariants as sel
+use Rattle.capl_tree.specs.declared.file.TopItem.{TopItem}
+use Rattle.capl_tree.specs.declared.file.TopItem.TheVariants as top
+use Rattle.capl_tree.specs.declared.file.FileTree.{FileTree}
+use Rattle.capl_tree.specs.Forms as form
+
+-- how strongly a binary operator binds
+abbrev pub operator_level : BinOp → ℕ
+operator_level op.OrElse = 3
+operator_level op.AndAlso = 4
+operator_level op.Or = 5
+operator_level op.Xor = 6
+operator_level op.And = 7
+operator_level op.Equal = 8
+operator_level op.NotEqual = 8
+operator_level op.Less = 9
+operator_level op.LessEqual = 9
+operator_level op.Greater = 9
+operator_level op.GreaterEqual = 9
+operator_level op.Shl = 10
+operator_level op.Shr = 10
+operator_level op.Add = 11
+operator_level op.Sub = 11
+operator_level op.Mul = 12
+operator_level op.Div = 12
+operator_level op.Rem = 12
+
+-- an assignment, which binds weakest
+abbrev pub assignment_level : ℕ
+assignment_level = 1
+
+-- `?:`
+abbrev pub choice_level : ℕ
+choice_level = 2
+
+-- the binary operator that binds weakest
+abbrev pub binary_level : ℕ
+binary_level = 3
+
+-- a prefix operator or a cast
+abbrev pub prefix_level : ℕ
+prefix_level = 13
+
+-- `[`, `.`, `++` and `--` behind an operand
+abbrev pub postfix_level : ℕ
+postfix_level = 14
+
+-- an operand of one piece
+abbrev pub operand_level : ℕ
+operand_level = 15
+
+-- how strongly the outermost operator of an expression binds
+abbrev pub level : Expr → ℕ
+level (form.Assign operator left right at) = assignment_level
+level (form.Cond test one other at) = choice_level
+level (form.Binary operator left right at) = operator_level operator
+level (form.Unary operator inner at) = prefix_level
+level (form.Cast kind inner at) = prefix_level
+level (form.Post up inner at) = postfix_level
+level (form.Index base index at) = postfix_level
+level (form.Member base field at) = postfix_level
+level _ = operand_level
+
+-- the operator has a sign with `=`
+abbrev pub IsCompound : BinOp → Type 0
+IsCompound op.OrElse = ⊥
+IsCompound op.AndAlso = ⊥
+IsCompound op.Equal = ⊥
+IsCompound op.NotEqual = ⊥
+IsCompound op.Less = ⊥
+IsCompound op.LessEqual = ⊥
+IsCompound op.Greater = ⊥
+IsCompound op.GreaterEqual = ⊥
+IsCompound _ = ⊤
+
+-- each operand in an expression binds as strongly as its place wants
+abbrev mutual
+  -- an expression
+  pub IsExpression : Expr → Type 0
+  IsExpression (form.Paren inner at) = IsExpression inner
+  IsExpression (expr.Call' name shape args at) = AreExpressions args
+  IsExpression (form.Index base index at) =
+      IsExpression base × (postfix_level ≤ level base) × IsExpression index
+  IsExpression (form.Member base field at) = IsExpression base × (postfix_level ≤ level base) × IsField field
+  IsExpression (form.Cast kind inner at) = IsExpression inner × (prefix_level ≤ level inner)
+  IsExpression (form.Unary operator inner at) = IsExpression inner × (prefix_level ≤ level inner)
+  IsExpression (form.Post up inner at) = IsExpression inner × (postfix_level ≤ level inner)
+  IsExpression (form.Binary operator left right at) =
+      IsExpression left × (operator_level operator ≤ level left)
+      × IsExpression right × (operator_level operator < level right)
+  IsExpression (form.Cond test one other at) =
+      IsExpression test × (binary_level ≤ level test) × IsExpression one
+      × IsExpression other × (choice_level ≤ level other)
+  IsExpression (form.Assign operator left right at) =
+      ForSome operator IsCompound × IsExpression left × (choice_level ≤ level left) × IsExpression right
+  IsExpression (expr.Num value ext at) = ⊤
+  IsExpression (expr.Char value at) = ⊤
+  IsExpression (expr.Str text at) = ⊤
+  IsExpression (expr.This at) = ⊤
+  IsExpression (expr.Name name at) = ⊤
+
+  -- a field
+  pub IsField : Field → Type 0
+  IsField (Named name at) = ⊤
+  IsField (form.Bytes kind index at) = IsExpression index
+
+  -- expressions in a row
+  pub AreExpressions : {m : _} → Row_of-Expr m → Type 0
+  AreExpressions end_of-Expr = ⊤
+  AreExpressions (more_of-Expr first rest) = IsExpression first × AreExpressions rest
+
+-- an expression that may be missing
+abbrev pub IsPart : Option Expr → Type 0
+IsPart part = ForSome part IsExpression
+
+-- an expression that is no assignment
+abbrev pub IsValue : Expr → Type 0
+IsValue e = IsExpression e × (choice_level ≤ level e)
+
+-- an item between the braces of an initialiser
+abbrev pub IsItem : Item → Type 0
+IsItem (Plain value) = IsValue value
+IsItem (Set field value) = IsField field × IsValue value
+
+-- an initialiser
+abbrev pub IsInitialiser : Init → Type 0
+IsInitialiser (One value) = IsValue value
+IsInitialiser (Many items at) = (items ≢ []) × All IsItem items
+
+-- a declared variable
+abbrev pub IsDeclared : Declr → Type 0
+IsDeclared declared = ForSome declared.size IsValue × ForSome declared.init IsInitialiser
+
+-- a declaration
+abbrev pub IsDeclaration : Decl → Type 0
+IsDeclaration declaration = (declaration.items ≢ []) × All IsDeclared declaration.items
+
+-- a label
+abbrev pub IsLabel : Label → Type 0
+IsLabel label = ForSome label.value IsValue
+
+-- whether an `else` behind the statement would belong to an `if` in it
+abbrev mutual
+  -- a statement
+  pub takes_else : Stmt → Bool
+  takes_else (stmt.If' shape arms other) = last_takes_else other
+  takes_else (form.While test body) = takes_else body
+  takes_else (form.For init test step body) = takes_else body
+  takes_else _ = false
+
+  -- an `if`, by what stands behind its last `else`
+  pub last_takes_else : Held-Stmt-If-1 → Bool
+  last_takes_else form.NoElse = true
+  last_takes_else (form.Else body) = takes_else body
+
+-- no `if`
+abbrev pub IsNoIf : Stmt → Type 0
+IsNoIf (stmt.If' shape arms other) = ⊥
+IsNoIf _ = ⊤
+
+-- the statement may stand before what stands behind a last `else`
+abbrev pub IsClosedBefore : Stmt → Held-Stmt-If-1 → Type 0
+IsClosedBefore body form.NoElse = ⊤
+IsClosedBefore body (form.Else other) = takes_else body ≡ false
+
+-- the labels of a group, at least one
+abbrev pub AreLabels : List Label → Type 0
+AreLabels labels = (labels ≢ []) × All IsLabel labels
+
+-- the row has a statement
+abbrev pub HasStatement : {m : _} → Row_of-Stmt m → Type 0
+HasStatement end_of-Stmt = ⊥
+HasStatement (more_of-Stmt first rest) = ⊤
+
+-- each statement in a statement stands where it may
+abbrev mutual
+  -- a statement that is no declaration
+  pub IsStatement : Stmt → Type 0
+  IsStatement stmt.Empty = ⊤
+  IsStatement (stmt.Block' shape body) = AreStatements body
+  IsStatement (stmt.Decl declaration) = ⊥
+  IsStatement (stmt.Expr e) = IsExpression e
+  IsStatement (stmt.If' shape arms other) = AreArms arms other × IsElse other
+  IsStatement (form.While test body) = IsExpression test × IsStatement body
+  IsStatement (form.Do body test) = IsStatement body × IsExpression test
+  IsStatement (form.For init test step body) = IsPart init × IsPart test × IsPart step × IsStatement body
+  IsStatement (stmt.Switch' on shape groups) = IsExpression on × AreGroups groups
+  IsStatement (stmt.Break at) = ⊤
+  IsStatement (stmt.Continue at) = ⊤
+  IsStatement (stmt.Return value at) = IsPart value
+
+  -- declarations and statements in a row
+  pub AreStatements : {m : _} → Row_of-Stmt m → Type 0
+  AreStatements end_of-Stmt = ⊤
+  AreStatements (more_of-Stmt (stmt.Decl declaration) rest) = IsDeclaration declaration × AreStatements rest
+  AreStatements (more_of-Stmt first rest) = IsStatement first × AreStatements rest
+
+  -- the arms of an `if`, at least one, before what stands behind a last `else`
+  pub AreArms : {m : _} → Row_of-Arm m → Held-Stmt-If-1 → Type 0
+  AreArms end_of-Arm other = ⊥
+  AreArms (more_of-Arm test body end_of-Arm) other =
+      IsExpression test × IsStatement body × IsClosedBefore body other
+  AreArms (more_of-Arm test body rest) other =
+      IsExpression test × IsStatement body × (takes_else body ≡ false) × AreArms rest other
+
+  -- what stands behind a last `else`
+  pub IsElse : Held-Stmt-If-1 → Type 0
+  IsElse form.NoElse = ⊤
+  IsElse (form.Else body) = IsStatement body × IsNoIf body
+
+  -- the groups of a `switch`, of which only the last may be without statements
+  pub AreGroups : {m : _} → Row_of-Group m → Type 0
+  AreGroups end_of-Group = ⊤
+  AreGroups (more_of-Group labels shape body end_of-Group) = AreLabels labels × AreStatements body
+  AreGroups (more_of-Group labels shape body rest) =
+      AreLabels labels × AreStatements body × HasStatement body × AreGroups rest
+
+-- a declaration or a statement
+abbrev pub IsBodyPart : Stmt → Type 0
+IsBodyPart (stmt.Decl declaration) = IsDeclaration declaration
+IsBodyPart statement = IsStatement statement
+
+-- a number
+abbrev pub IsNumeral : Expr → Type 0
+IsNumeral (expr.Num value ext at) = ⊤
+IsNumeral _ = ⊥
+
+-- a selector
+abbrev pub IsSelector : Sel → Type 0
+IsSelector (sel.Any at) = ⊤
+IsSelector (sel.Name name at) = ⊤
+IsSelector (sel.Ids low high at) = IsNumeral low × ForSome high IsNumeral
+
+-- the head of a procedure
+abbrev pub IsHead : Head → Type 0
+IsHead (head.Message selectors) = (selectors ≢ []) × All IsSelector selectors
+IsHead _ = ⊤
+
+-- a procedure
+abbrev pub IsProcedure : Proc → Type 0
+IsProcedure procedure = IsHead procedure.head × All IsBodyPart procedure.body
+
+-- a part of a file
+abbrev pub IsTopItem : TopItem → Type 0
+IsTopItem (top.Includes names) = ⊤
+IsTopItem (top.Variables declarations) = All IsDeclaration declarations
+IsTopItem (top.Proc procedure) = IsProcedure procedure
+
+-- a file
+abbrev pub IsFile : FileTree → Type 0
+IsFile file = All IsTopItem file.items
