@@ -31,17 +31,17 @@ item_below xs i h =
 pub record Rule (code : Code) (number : ℕ) (function : Fun) (place : ℕ) : Type 0 where
   pub instr : Instr
   pub depth : ℕ
-  pub is_instr : slice_get code.instrs.items place ≡ Some instr
+  pub is_instr : slice_get code.instrs place ≡ Some instr
   pub at : IsAt code number function place depth
   pub keeps : KeepsRule code number function place instr depth
 
 pub rule_at : (code : Code) → IsVerified code → (number : ℕ) (function : Fun) (place : ℕ) →
-    slice_get code.functions.items number ≡ Some function → IsIn function place → Rule code number function place
+    slice_get code.functions number ≡ Some function → IsIn function place → Rule code number function place
 rule_at code verified number function place there inside =
     let lies = lies_in_code code number function verified.laid_out there in
-    let below : place < length code.instrs.items = omega (arith, lies.ends, inside.below) in
-    let i = item_below code.instrs.items place below in
-    let d = item_below code.depths.items place (omega (arith, below, verified.laid_out.depths)) in
+    let below : place < length code.instrs = omega (arith, lies.ends, inside.below) in
+    let i = item_below code.instrs place below in
+    let d = item_below code.depths place (omega (arith, below, verified.laid_out.depths)) in
     record {
       instr = i.item;
       depth = d.item;
@@ -51,7 +51,7 @@ rule_at code verified number function place there inside =
     }
 
 -- a function begins with depth 0
-pub begins : (code : Code) → IsVerified code → (number : ℕ) (function : Fun) → slice_get code.functions.items number ≡ Some function →
+pub begins : (code : Code) → IsVerified code → (number : ℕ) (function : Fun) → slice_get code.functions number ≡ Some function →
     IsAt code number function function.start 0
 begins code verified number function there =
     let lies = lies_in_code code number function verified.laid_out there in
@@ -61,8 +61,8 @@ begins code verified number function there =
 
 module _ (code : Code) (verified : IsVerified code) (m : Machine) (number : ℕ) (function : Fun) (depth below : ℕ)
     (at : IsAt code number function m.place depth) (callers : Below code number function m.calls below)
-    (held : IsHeld code m) (height : length m.stack ≡ depth + below) (inside : m.place < length code.instrs.items) where
-  pub StepsWell-call : (f : ℕ) (callee : Fun) (target : Target) → slice_get code.functions.items f ≡ Some callee → f < number →
+    (held : IsHeld code m) (height : length m.stack ≡ depth + below) (inside : m.place < length code.instrs) where
+  pub StepsWell-call : (f : ℕ) (callee : Fun) (target : Target) → slice_get code.functions f ≡ Some callee → f < number →
       target.place ≡ m.place + 1 → target.depth ≡ depth + gives_number (Some callee) → IsReached code function target → (turns : ℕ) → m.turns ≡ turns →
       StepsWell code m (taking_turn turns m (λ after. Goes (record after { place = callee.start; calls = (m.place + 1) ∷ m.calls })))
   StepsWell-call f callee target there earlier p d reached zero e = held.cells

@@ -12,3 +12,4 @@ pub mod Running
 pub mod Apart
 pub mod KindLists
 pub mod Ranks
+pub mod ItemsRead

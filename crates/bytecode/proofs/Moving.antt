@@ -23,7 +23,7 @@ pub StepsWell-if : (code : Code) (m : Machine) (b : Bool) (first second : Next) 
 StepsWell-if code m true first second y n = y refl
 StepsWell-if code m false first second y n = n refl
 
-pub StepsWell-indexing : (code : Code) (m : Machine) (i : ℤ) (len : ℕ) (row : ℕ → Next) → HoldKinds code.cells.items m.cells →
+pub StepsWell-indexing : (code : Code) (m : Machine) (i : ℤ) (len : ℕ) (row : ℕ → Next) → HoldKinds code.cells m.cells →
     ((k : ℕ) → k < len → StepsWell code m (row k)) → StepsWell code m (indexing i len m row)
 StepsWell-indexing code m (negsuc i) len row held h = held
 StepsWell-indexing code m (pos i) len row held h =
@@ -37,17 +37,17 @@ StepsWell-indexing code m (pos i) len row held h =
 -- ---- steps that are left
 
 pub less_to_go : (code : Code) (m after : Machine) → after.calls ≡ m.calls → after.turns ≡ m.turns →
-    m.place < length code.instrs.items → m.place < after.place → steps_left code after < steps_left code m
+    m.place < length code.instrs → m.place < after.place → steps_left code after < steps_left code m
 less_to_go code m after calls turns inside above =
     let s : sum_by (places_left code) after.calls ≡ sum_by (places_left code) m.calls = ap (sum_by (places_left code)) calls in
-    let t : after.turns * (length code.instrs.items + 1) ≡ m.turns * (length code.instrs.items + 1) = ap (λ n. n * (length code.instrs.items + 1)) turns in
+    let t : after.turns * (length code.instrs + 1) ≡ m.turns * (length code.instrs + 1) = ap (λ n. n * (length code.instrs + 1)) turns in
     omega (arith, s, t)
 
 pub turn_taken : (code : Code) (m after : Machine) (turns : ℕ) → m.turns ≡ suc turns → after.turns ≡ turns →
-    places_left code after.place + sum_by (places_left code) after.calls ≤ length code.instrs.items + (places_left code m.place + sum_by (places_left code) m.calls) →
+    places_left code after.place + sum_by (places_left code) after.calls ≤ length code.instrs + (places_left code m.place + sum_by (places_left code) m.calls) →
     steps_left code after < steps_left code m
 turn_taken code m after turns e e' most =
-    let n = length code.instrs.items in
+    let n = length code.instrs in
     let before : m.turns * (n + 1) ≡ turns * (n + 1) + (n + 1) = ap (λ k. k * (n + 1)) e ∙ (let d : suc turns * (n + 1) ≡ turns * (n + 1) + (n + 1) = omega arith in d) in
     let later : after.turns * (n + 1) ≡ turns * (n + 1) = ap (λ k. k * (n + 1)) e' in
     omega (arith, before, later, most)
@@ -56,8 +56,8 @@ turn_taken code m after turns e e' most =
 
 module _ (code : Code) (m : Machine) (number : ℕ) (function : Fun) (depth below : ℕ)
     (at : IsAt code number function m.place depth) (callers : Below code number function m.calls below)
-    (held : HoldKinds code.cells.items m.cells) (timers : length code.timers.items ≤ length m.active)
-    (inside : m.place < length code.instrs.items) where
+    (held : HoldKinds code.cells m.cells) (timers : length code.timers ≤ length m.active)
+    (inside : m.place < length code.instrs) where
   pub arrives : (after : Machine) (target : Target) → after.place ≡ target.place → after.calls ≡ m.calls → IsReached code function target →
       length after.stack ≡ target.depth + below → IsHeld code after → Stands code after
   arrives after target p c reached height held' = record {
@@ -76,7 +76,7 @@ module _ (code : Code) (m : Machine) (number : ℕ) (function : Fun) (depth belo
   -- on to the next place, with changed cells, timers or effects
   pub StepsWell-on : (changed : Machine) (stack : List ℤ) (target : Target) → target.place ≡ m.place + 1 →
       changed.place ≡ m.place → changed.calls ≡ m.calls → changed.turns ≡ m.turns →
-      HoldKinds code.cells.items changed.cells → length code.timers.items ≤ length changed.active →
+      HoldKinds code.cells changed.cells → length code.timers ≤ length changed.active →
       AllByRecursion IsNumber stack → length stack ≡ target.depth + below → IsReached code function target →
       StepsWell code m (goes_on changed stack)
   StepsWell-on changed stack target t p c u cells active numbers height reached = (
@@ -92,7 +92,7 @@ module _ (code : Code) (m : Machine) (number : ℕ) (function : Fun) (depth belo
   StepsWell-on_same stack target t numbers height reached = StepsWell-on m stack target t refl refl refl held timers numbers height reached
 
   -- the same with changed cells
-  pub StepsWell-on_cells : (cells : List ℤ) (stack : List ℤ) (target : Target) → target.place ≡ m.place + 1 → HoldKinds code.cells.items cells →
+  pub StepsWell-on_cells : (cells : List ℤ) (stack : List ℤ) (target : Target) → target.place ≡ m.place + 1 → HoldKinds code.cells cells →
       AllByRecursion IsNumber stack → length stack ≡ target.depth + below → IsReached code function target →
       StepsWell code m (goes_on (record m { cells = cells }) stack)
   StepsWell-on_cells cells stack target t new numbers height reached =

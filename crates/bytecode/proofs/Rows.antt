@@ -50,8 +50,8 @@ arrays_there kinds cells same (a ∷ arrays) h =
 
 module _ (code : Code) (verified : IsVerified code) (closed : Bool) (moment : ℕ) (m : Machine) (number : ℕ) (function : Fun) (depth below : ℕ)
     (at : IsAt code number function m.place depth) (callers : Below code number function m.calls below)
-    (held : HoldKinds code.cells.items m.cells) (timers : length code.timers.items ≤ length m.active)
-    (inside : m.place < length code.instrs.items) where
+    (held : HoldKinds code.cells m.cells) (timers : length code.timers ≤ length m.active)
+    (inside : m.place < length code.instrs) where
   on : (stack : List ℤ) (target : Target) → target.place ≡ m.place + 1 →
       AllByRecursion IsNumber stack → length stack ≡ target.depth + below → IsReached code function target → StepsWell code m (goes_on m stack)
   on = stepping.on code m number function depth below at callers held timers inside
@@ -64,22 +64,22 @@ module _ (code : Code) (verified : IsVerified code) (closed : Bool) (moment : �
   unless_well = stepping.unless_well code m number function depth below at callers held timers inside closed
 
   -- what a row does with a message
-  with_message : (base : ℕ) → IsMessage code.cells.items base → (doing : List ℤ → Next) → StepsWell code m (doing (take 14 (drop base m.cells))) →
+  with_message : (base : ℕ) → IsMessage code.cells base → (doing : List ℤ → Next) → StepsWell code m (doing (take 14 (drop base m.cells))) →
       StepsWell code m (needing (message_at base m.cells) doing)
   with_message base is doing h =
-      StepsWell-needing code m (message_at base m.cells) (take 14 (drop base m.cells)) doing (message_there code.cells.items m.cells base held is) h
+      StepsWell-needing code m (message_at base m.cells) (take 14 (drop base m.cells)) doing (message_there code.cells m.cells base held is) h
 
   -- a field of a message is written
-  field_well : (base f : ℕ) (n : ℤ) (k : Kind) (stack : List ℤ) (target : Target) → target.place ≡ m.place + 1 → IsMessage code.cells.items base → f < 14 →
+  field_well : (base f : ℕ) (n : ℤ) (k : Kind) (stack : List ℤ) (target : Target) → target.place ≡ m.place + 1 → IsMessage code.cells base → f < 14 →
       slice_get message_kinds f ≡ Some k → Holds k n →
       AllByRecursion IsNumber stack → suc (length stack) ≡ target.depth + below → IsReached code function target →
       StepsWell code m (goes_on (record m { cells = slice_set m.cells (base + f) n }) (n ∷ stack))
   field_well base f n k stack target p is small kind holds numbers height reached =
       StepsWell-on_cells code m number function depth below at callers held timers inside (slice_set m.cells (base + f) n) (n ∷ stack) target p
-      (AllZip-set Holds code.cells.items m.cells held (base + f) k n (message_kind code.cells.items base f (base + f) k is small refl kind) holds)
+      (AllZip-set Holds code.cells m.cells held (base + f) k n (message_kind code.cells base f (base + f) k is small refl kind) holds)
       (IsNumber-held k n holds, numbers) height reached
 
-  fields_well : (base f : ℕ) (n : ℤ) (stack : List ℤ) (target : Target) → target.place ≡ m.place + 1 → IsMessage code.cells.items base → f ≤ 3 →
+  fields_well : (base f : ℕ) (n : ℤ) (stack : List ℤ) (target : Target) → target.place ≡ m.place + 1 → IsMessage code.cells base → f ≤ 3 →
       AllByRecursion IsNumber stack → suc (length stack) ≡ target.depth + below → IsReached code function target →
       StepsWell code m (needing (slice_get write_rules f) (λ rule. goes_on (record m { cells = slice_set m.cells (base + f) (pos (rule n)) }) (pos (rule n) ∷ stack)))
   fields_well base zero n stack target p is small numbers height reached =
@@ -94,12 +94,12 @@ module _ (code : Code) (verified : IsVerified code) (closed : Bool) (moment : �
 
   -- a line is written
   writes_well : (format : FormatText) (stack : List ℤ) (target : Target) → target.place ≡ m.place + 1 →
-      numbers_taken format ≤ length stack → All (IsCharArray code.cells.items) (char_arrays format) →
+      numbers_taken format ≤ length stack → All (IsCharArray code.cells) (char_arrays format) →
       AllByRecursion IsNumber stack → length stack ≡ numbers_taken format + (target.depth + below) → IsReached code function target →
       StepsWell code m (writes format m stack)
   writes_well format stack target p enough arrays numbers height reached =
-      let same = AllZip-same_length Holds code.cells.items m.cells held in
-      let there = arrays_there code.cells.items m.cells same (char_arrays format) arrays in
+      let same = AllZip-same_length Holds code.cells m.cells held in
+      let there = arrays_there code.cells m.cells same (char_arrays format) arrays in
       let taken : nat_le (numbers_taken format) (length stack) ≡ true = le-leb (numbers_taken format) (length stack) enough in
       let both : (nat_le (numbers_taken format) (length stack) && list_all (λ array. nat_le (array.0 + array.1) (length m.cells)) (char_arrays format)) ≡ true =
       ap (λ b. b && list_all (λ array. nat_le (array.0 + array.1) (length m.cells)) (char_arrays format)) taken ∙ there in
@@ -147,7 +147,7 @@ module _ (code : Code) (verified : IsVerified code) (closed : Bool) (moment : �
   row_well (SetSig l base) [] r ns h e = absurd (omega (arith, h, r.takes_what_is_there))
   row_well (SetSig l base) (n ∷ stack) r ns h e =
       let payload = payload_of (take 14 (drop base m.cells)) in
-      let is = IsPayload-payload code.cells.items m.cells base held r.names_exist.1 in
+      let is = IsPayload-payload code.cells m.cells base held r.names_exist.1 in
       let len = length-payload_with l payload n r.names_exist.0 is in
       with_message base r.names_exist.1 _
       (stepping.bytes_well code m number function depth below at callers held timers inside base 0 (payload_with l payload n) (signal_value l (payload_with l payload n)) stack (next code (SetSig l base) m.place depth) refl r.names_exist.1
@@ -197,34 +197,34 @@ module _ (code : Code) (verified : IsVerified code) (closed : Bool) (moment : �
       StepsWell-turn_on code m number function depth below at callers held timers inside m.turns refl stack (next code Turn m.place depth) refl ns (omega (arith, h)) r.targets_agree.0
   row_well (Call f) stack r ns h e =
       let laid = verified.laid_out in
-      let small : f < length code.functions.items = omega (arith, r.calls_earlier, slice_get_within code.functions.items number function at.is_there) in
-      let callee = item_below code.functions.items f small in
-      let gives : gives_number (slice_get code.functions.items f) ≡ gives_number (Some callee.item) = ap gives_number callee.is_there in
-      StepsWell-needing code m (slice_get code.functions.items f) callee.item _ callee.is_there
+      let small : f < length code.functions = omega (arith, r.calls_earlier, slice_get_within code.functions number function at.is_there) in
+      let callee = item_below code.functions f small in
+      let gives : gives_number (slice_get code.functions f) ≡ gives_number (Some callee.item) = ap gives_number callee.is_there in
+      StepsWell-needing code m (slice_get code.functions f) callee.item _ callee.is_there
       (StepsWell-call code verified m number function depth below at callers (record { cells = held; numbers = subst (AllByRecursion IsNumber) (sym e) ns; timers = timers })
       (ap length e ∙ h) inside f callee.item (next code (Call f) m.place depth) callee.is_there r.calls_earlier refl (omega (arith, gives)) r.targets_agree.0 m.turns refl)
   row_well Ret stack r ns h e =
       StepsWell-return code verified m number function depth below at callers (record { cells = held; numbers = subst (AllByRecursion IsNumber) (sym e) ns; timers = timers })
       (ap length e ∙ h) inside r.returns_as_it_says m.calls refl callers
   row_well (Write f) stack r ns h e =
-      let format = item_below code.formats.items f r.names_exist in
+      let format = item_below code.formats f r.names_exist in
       let count : numbers_of code f ≡ numbers_taken format.item = ap (λ o. option_map_or numbers_taken o 0) format.is_there in
-      let arrays : All (IsCharArray code.cells.items) (char_arrays format.item) =
-      subst (λ z. All (IsCharArray code.cells.items) (char_arrays z)) (get_or_from_slice_get code.formats.items f format.item format.item format.is_there) (verified.tables.arrays_exist f format.item r.names_exist) in
-      StepsWell-needing code m (slice_get code.formats.items f) format.item _ format.is_there
+      let arrays : All (IsCharArray code.cells) (char_arrays format.item) =
+      subst (λ z. All (IsCharArray code.cells) (char_arrays z)) (get_or_from_slice_get code.formats f format.item format.item format.is_there) (verified.tables.arrays_exist f format.item r.names_exist) in
+      StepsWell-needing code m (slice_get code.formats f) format.item _ format.is_there
       (writes_well format.item stack (next code (Write f) m.place depth) refl (omega (arith, h, count, r.takes_what_is_there)) arrays ns (omega (arith, h, count, r.takes_what_is_there)) r.targets_agree.0)
   row_well (Send base) stack r ns h e =
       with_message base r.names_exist _ (unless_well (after_effect (effect.Send (frame_of (take 14 (drop base m.cells))))) stack (next code (Send base) m.place depth) refl refl refl refl refl refl ns (omega (arith, h)) r.targets_agree.0)
   row_well (Copy to from) stack r ns h e =
       with_message to r.names_exist.0 _ (with_message from r.names_exist.1 _
       (StepsWell-on_cells code m number function depth below at callers held timers inside _ stack (next code (Copy to from) m.place depth) refl
-      (HoldKinds-copy code.cells.items m.cells to from held r.names_exist.0 r.names_exist.1) ns (omega (arith, h)) r.targets_agree.0))
+      (HoldKinds-copy code.cells m.cells to from held r.names_exist.0 r.names_exist.1) ns (omega (arith, h)) r.targets_agree.0))
   row_well Stop stack r ns h e = unless_well (after_effect effect.Stop) stack (next code Stop m.place depth) refl refl refl refl refl refl ns (omega (arith, h)) r.targets_agree.0
   row_well (Set timer cyclic) [] r ns h e = absurd (omega (arith, h, r.takes_what_is_there))
   row_well (Set timer cyclic) (n ∷ stack) r ns h e =
-      let unit = item_below code.timers.items timer r.names_exist in
+      let unit = item_below code.timers timer r.names_exist in
       let active = item_below m.active timer (omega (arith, r.names_exist, timers)) in
-      StepsWell-needing code m (slice_get code.timers.items timer) unit.item _ unit.is_there
+      StepsWell-needing code m (slice_get code.timers timer) unit.item _ unit.is_there
       (StepsWell-needing code m (slice_get m.active timer) active.item _ active.is_there
       (unless_well (after_set timer (micros unit.item n) cyclic) stack (next code (Set timer cyclic) m.place depth) refl refl refl refl refl (length-set m.active timer true) ns.1 (omega (arith, h, r.takes_what_is_there)) r.targets_agree.0))
   row_well (Cancel timer) stack r ns h e =

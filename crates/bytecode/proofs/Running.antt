@@ -20,7 +20,7 @@ step_well code verified closed moment m s =
     let rule = rule_at code verified s.number s.function m.place st.at.is_there st.at.inside in
     let lies = lies_in_code code s.number s.function verified.laid_out st.at.is_there in
     let same : s.depth ≡ rule.depth = (let e : Some s.depth ≡ Some rule.depth = sym st.at.has_depth ∙ rule.at.has_depth in cc) in
-    StepsWell-needing code m (slice_get code.instrs.items m.place) rule.instr _ rule.is_instr
+    StepsWell-needing code m (slice_get code.instrs m.place) rule.instr _ rule.is_instr
     (row_well code verified closed moment m s.number s.function rule.depth s.below rule.at st.callers s.held.cells s.held.timers (omega (arith, lies.ends, st.at.inside.below))
     rule.instr m.stack rule.keeps s.held.numbers (omega (arith, st.height, same)) refl)
 
@@ -42,7 +42,7 @@ start_stands code verified number m s = record {
 -- a state of a run that goes well: it stands in the code, or the run has ended with cells that their kinds hold
 abbrev pub GoesWell : Code → Next → Type 0
 GoesWell code (Goes m) = Stands code m
-GoesWell code (Ends outcome m) = HoldKinds code.cells.items m.cells
+GoesWell code (Ends outcome m) = HoldKinds code.cells m.cells
 GoesWell code Stuck = ⊥
 
 after_well : (code : Code) (m : Machine) (next : Next) (further : Machine → Next) → StepsWell code m next →

@@ -10,9 +10,9 @@ use Rattle.bytecode.specs.Runs.{HoldKinds, steps_left}
 
 -- a place of a function, by the function's number, with the place's depth
 pub record IsAt (code : Code) (number : ℕ) (function : Fun) (place depth : ℕ) : Type 0 where
-  pub is_there : slice_get code.functions.items number ≡ Some function
+  pub is_there : slice_get code.functions number ≡ Some function
   pub inside : IsIn function place
-  pub has_depth : slice_get code.depths.items place ≡ Some depth
+  pub has_depth : slice_get code.depths place ≡ Some depth
 
 -- the open call that a function returns to: a place of a function of a greater number, whose depth counts what the call gives
 pub record ReturnsTo (code : Code) (number : ℕ) (function : Fun) (place below caller : ℕ) (calling : Fun) (depth under : ℕ) : Type 0 where
@@ -34,9 +34,9 @@ pub record Standing (code : Code) (m : Machine) (number : ℕ) (function : Fun) 
 
 -- cells that their kinds hold, numbers on the stack, and as many timers as the code has, or more
 pub record IsHeld (code : Code) (m : Machine) : Type 0 where
-  pub cells : HoldKinds code.cells.items m.cells
+  pub cells : HoldKinds code.cells m.cells
   pub numbers : AllByRecursion IsNumber m.stack
-  pub timers : length code.timers.items ≤ length m.active
+  pub timers : length code.timers ≤ length m.active
 
 -- the machine stands somewhere in the code
 pub record Stands (code : Code) (m : Machine) : Type 0 where
@@ -51,5 +51,5 @@ pub record Stands (code : Code) (m : Machine) : Type 0 where
 -- are held, and it is not stuck
 abbrev pub StepsWell : Code → Machine → Next → Type 0
 StepsWell code m (Goes after) = Stands code after × (steps_left code after < steps_left code m)
-StepsWell code m (Ends outcome after) = HoldKinds code.cells.items after.cells
+StepsWell code m (Ends outcome after) = HoldKinds code.cells after.cells
 StepsWell code m Stuck = ⊥

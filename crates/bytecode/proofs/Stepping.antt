@@ -24,42 +24,42 @@ use Rattle.bytecode.proofs.Standing.{Below, IsAt, StepsWell}
 -- the rows, in a place of a function
 module _ (code : Code) (m : Machine) (number : ℕ) (function : Fun) (depth below : ℕ)
     (at : IsAt code number function m.place depth) (callers : Below code number function m.calls below)
-    (held : HoldKinds code.cells.items m.cells) (timers : length code.timers.items ≤ length m.active)
-    (inside : m.place < length code.instrs.items) where
+    (held : HoldKinds code.cells m.cells) (timers : length code.timers ≤ length m.active)
+    (inside : m.place < length code.instrs) where
   pub on : (stack : List ℤ) (target : Target) → target.place ≡ m.place + 1 →
       AllByRecursion IsNumber stack → length stack ≡ target.depth + below → IsReached code function target → StepsWell code m (goes_on m stack)
   on = StepsWell-on_same code m number function depth below at callers held timers inside
 
   -- a cell is read
-  pub reads_well : (cell : ℕ) (stack : List ℤ) (target : Target) → target.place ≡ m.place + 1 → cell < length code.cells.items →
+  pub reads_well : (cell : ℕ) (stack : List ℤ) (target : Target) → target.place ≡ m.place + 1 → cell < length code.cells →
       AllByRecursion IsNumber stack → suc (length stack) ≡ target.depth + below → IsReached code function target → StepsWell code m (reads cell m stack)
   reads_well cell stack target p within numbers height reached =
-      let k = item_below code.cells.items cell within in
-      let v = AllZip-partner Holds code.cells.items m.cells held cell k.item k.is_there in
+      let k = item_below code.cells cell within in
+      let v = AllZip-partner Holds code.cells m.cells held cell k.item k.is_there in
       StepsWell-needing code m (slice_get m.cells cell) v.item _ v.is_there
       (on (v.item ∷ stack) target p (IsNumber-held k.item v.item v.goes_with, numbers) height reached)
 
   -- a cell is written
-  pub stores_well : (cell : ℕ) (n : ℤ) (stack : List ℤ) (target : Target) → target.place ≡ m.place + 1 → cell < length code.cells.items →
+  pub stores_well : (cell : ℕ) (n : ℤ) (stack : List ℤ) (target : Target) → target.place ≡ m.place + 1 → cell < length code.cells →
       AllByRecursion IsNumber stack → suc (length stack) ≡ target.depth + below → IsReached code function target →
-      StepsWell code m (stores code.cells.items cell n m stack)
+      StepsWell code m (stores code.cells cell n m stack)
   stores_well cell n stack target p within numbers height reached =
-      let k = item_below code.cells.items cell within in
-      let v = AllZip-partner Holds code.cells.items m.cells held cell k.item k.is_there in
+      let k = item_below code.cells cell within in
+      let v = AllZip-partner Holds code.cells m.cells held cell k.item k.is_there in
       StepsWell-needing code m (slice_get m.cells cell) v.item _ v.is_there
-      (StepsWell-needing code m (slice_get code.cells.items cell) k.item _ k.is_there
+      (StepsWell-needing code m (slice_get code.cells cell) k.item _ k.is_there
       (StepsWell-on_cells code m number function depth below at callers held timers inside (slice_set m.cells cell (wrap k.item n)) (wrap k.item n ∷ stack) target p
-      (AllZip-set Holds code.cells.items m.cells held cell k.item (wrap k.item n) k.is_there (Holds-wrap k.item n))
+      (AllZip-set Holds code.cells m.cells held cell k.item (wrap k.item n) k.is_there (Holds-wrap k.item n))
       (IsNumber-wrap k.item n, numbers) height reached))
 
   -- bytes of a payload are written
-  pub bytes_well : (base i : ℕ) (bytes : List ℕ) (given : ℤ) (stack : List ℤ) (target : Target) → target.place ≡ m.place + 1 → IsMessage code.cells.items base →
+  pub bytes_well : (base i : ℕ) (bytes : List ℕ) (given : ℤ) (stack : List ℤ) (target : Target) → target.place ≡ m.place + 1 → IsMessage code.cells base →
       i + length bytes ≤ 8 → AreBytes bytes → IsNumber given →
       AllByRecursion IsNumber stack → suc (length stack) ≡ target.depth + below → IsReached code function target →
       StepsWell code m (stores_bytes base i bytes given m stack)
   bytes_well base i bytes given stack target p message room bytes_are n numbers height reached =
       StepsWell-on_cells code m number function depth below at callers held timers inside _ (given ∷ stack) target p
-      (HoldKinds-bytes code.cells.items m.cells base i bytes held message room bytes_are) (n, numbers) height reached
+      (HoldKinds-bytes code.cells m.cells base i bytes held message room bytes_are) (n, numbers) height reached
 
   -- an operator
   pub gives_well : (op : BinOp) (k : Kind) (a b : ℤ) (stack : List ℤ) (target : Target) → target.place ≡ m.place + 1 →
@@ -86,4 +86,4 @@ module _ (code : Code) (m : Machine) (number : ℕ) (function : Fun) (depth belo
   unless_well true change stack target p a b c d e numbers height reached = on stack target p numbers height reached
   unless_well false change stack target p a b c d e numbers height reached =
       StepsWell-on code m number function depth below at callers held timers inside (change m) stack target p a b c
-      (subst (HoldKinds code.cells.items) (sym d) held) (omega (arith, timers, e)) numbers height reached
+      (subst (HoldKinds code.cells) (sym d) held) (omega (arith, timers, e)) numbers height reached

@@ -16,7 +16,7 @@ use Rattle.bytecode.specs.Message.{message_kinds}
 
 -- how many numbers a line of a format takes
 abbrev pub numbers_of : Code → ℕ → ℕ
-numbers_of code f = option_map_or numbers_taken (slice_get code.formats.items f) 0
+numbers_of code f = option_map_or numbers_taken (slice_get code.formats f) 0
 
 -- the depth after a number is given or not
 abbrev pub gives_number : Option Fun → ℕ
@@ -53,7 +53,7 @@ given_by code Drop = 0
 given_by code (Zero target) = 0
 given_by code (Back target) = 0
 given_by code Turn = 0
-given_by code (Call f) = gives_number (slice_get code.functions.items f)
+given_by code (Call f) = gives_number (slice_get code.functions f)
 given_by code (Write f) = 0
 given_by code (Send at) = 0
 given_by code (Copy to from) = 0
@@ -89,7 +89,7 @@ pub record IsIn (function : Fun) (place : ℕ) : Type 0 where
 -- a target lies in the function, and its place has the depth with which it is reached
 pub record IsReached (code : Code) (function : Fun) (target : Target) : Type 0 where
   pub inside : IsIn function target.place
-  pub depth : slice_get code.depths.items target.place ≡ Some target.depth
+  pub depth : slice_get code.depths target.place ≡ Some target.depth
 
 -- jumps go above their place, but for `Back`, which takes a turn and goes to its place or below
 abbrev pub GoesTheRightWay : Instr → ℕ → Type 0
@@ -127,23 +127,23 @@ IsOperation _ = ⊤
 -- all that an instruction names exists
 abbrev pub NamesWhatExists : Code → Instr → Type 0
 NamesWhatExists code (Push n) = IsNumber n
-NamesWhatExists code (Load cell) = cell < length code.cells.items
-NamesWhatExists code (Store cell) = cell < length code.cells.items
-NamesWhatExists code (Elem base len) = IsArray code.cells.items base len
-NamesWhatExists code (SetElem base len) = IsArray code.cells.items base len
-NamesWhatExists code (Bytes k at) = IsMessage code.cells.items at
-NamesWhatExists code (SetBytes k at) = IsMessage code.cells.items at
-NamesWhatExists code (Sig l at) = IsUsable l × IsMessage code.cells.items at
-NamesWhatExists code (SetSig l at) = IsUsable l × IsMessage code.cells.items at
-NamesWhatExists code (SetField f at) = (f ≤ 3) × IsMessage code.cells.items at
+NamesWhatExists code (Load cell) = cell < length code.cells
+NamesWhatExists code (Store cell) = cell < length code.cells
+NamesWhatExists code (Elem base len) = IsArray code.cells base len
+NamesWhatExists code (SetElem base len) = IsArray code.cells base len
+NamesWhatExists code (Bytes k at) = IsMessage code.cells at
+NamesWhatExists code (SetBytes k at) = IsMessage code.cells at
+NamesWhatExists code (Sig l at) = IsUsable l × IsMessage code.cells at
+NamesWhatExists code (SetSig l at) = IsUsable l × IsMessage code.cells at
+NamesWhatExists code (SetField f at) = (f ≤ 3) × IsMessage code.cells at
 NamesWhatExists code (Bin op k) = IsOperation op
 NamesWhatExists code (Case label target) = IsNumber label
-NamesWhatExists code (Write f) = f < length code.formats.items
-NamesWhatExists code (Send at) = IsMessage code.cells.items at
-NamesWhatExists code (Copy to from) = IsMessage code.cells.items to × IsMessage code.cells.items from
-NamesWhatExists code (Set timer cyclic) = timer < length code.timers.items
-NamesWhatExists code (Cancel timer) = timer < length code.timers.items
-NamesWhatExists code (Active timer) = timer < length code.timers.items
+NamesWhatExists code (Write f) = f < length code.formats
+NamesWhatExists code (Send at) = IsMessage code.cells at
+NamesWhatExists code (Copy to from) = IsMessage code.cells to × IsMessage code.cells from
+NamesWhatExists code (Set timer cyclic) = timer < length code.timers
+NamesWhatExists code (Cancel timer) = timer < length code.timers
+NamesWhatExists code (Active timer) = timer < length code.timers
 NamesWhatExists code _ = ⊤
 
 -- the rule of a place with an instruction and a depth, in the function of a number

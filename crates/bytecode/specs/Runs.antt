@@ -18,13 +18,13 @@ HoldKinds kinds cells = AllZip Holds kinds cells
 pub record IsStartOf (code : Code) (number : ℕ) (m : Machine) : Type 0 where
   pub handler : Handler
   pub function : Fun
-  pub is_handler : slice_get code.handlers.items number ≡ Some handler
-  pub is_function : slice_get code.functions.items handler.function ≡ Some function
+  pub is_handler : slice_get code.handlers number ≡ Some handler
+  pub is_function : slice_get code.functions handler.function ≡ Some function
   pub at_start : m.place ≡ function.start
   pub no_numbers : m.stack ≡ []
   pub no_calls : m.calls ≡ []
-  pub cells_held : HoldKinds code.cells.items m.cells
-  pub timers_exist : length code.timers.items ≤ length m.active
+  pub cells_held : HoldKinds code.cells m.cells
+  pub timers_exist : length code.timers ≤ length m.active
 
 -- a run that has ended, and was not stuck
 abbrev pub HasEnded : Next → Type 0
@@ -34,12 +34,12 @@ HasEnded Stuck = ⊥
 
 -- how many places are left from this one on
 abbrev pub places_left : Code → ℕ → ℕ
-places_left code place = length code.instrs.items - place
+places_left code place = length code.instrs - place
 
 -- At least as many steps as a run may still take: for each turn one more than there are places, and the places that are left in
 -- the function and in each open call.
 abbrev pub steps_left : Code → Machine → ℕ
-steps_left code m = m.turns * (length code.instrs.items + 1) + (places_left code m.place + sum_by (places_left code) m.calls)
+steps_left code m = m.turns * (length code.instrs + 1) + (places_left code m.place + sum_by (places_left code) m.calls)
 
 -- a run from this state, in a measurement that has ended or not and at any moment, is never stuck and ends
 pub record RunsToItsEnd (code : Code) (m : Machine) : Type 0 where

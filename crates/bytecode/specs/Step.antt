@@ -105,10 +105,10 @@ after_cancel timer m = after_effect (effect.Cancel timer) (record m { active = s
 abbrev pub row : Code → Bool → ℕ → Machine → Instr → List ℤ → Next
 row code closed moment m (Push n) stack = goes_on m (n ∷ stack)
 row code closed moment m (Load cell) stack = reads cell m stack
-row code closed moment m (Store cell) (n ∷ stack) = stores code.cells.items cell n m stack
+row code closed moment m (Store cell) (n ∷ stack) = stores code.cells cell n m stack
 row code closed moment m (Check len) (i ∷ stack) = indexing i len m (λ _. goes_on m (i ∷ stack))
 row code closed moment m (Elem base len) (i ∷ stack) = indexing i len m (λ k. reads (base + k) m stack)
-row code closed moment m (SetElem base len) (n ∷ i ∷ stack) = indexing i len m (λ k. stores code.cells.items (base + k) n m stack)
+row code closed moment m (SetElem base len) (n ∷ i ∷ stack) = indexing i len m (λ k. stores code.cells (base + k) n m stack)
 row code closed moment m (Bytes k at) (i ∷ stack) = needing (message_at at m.cells) (λ message.
     indexing i (9 - size k) m (λ byte. goes_on m (number_at k byte (payload_of message) ∷ stack)))
 row code closed moment m (SetBytes k at) (n ∷ i ∷ stack) = needing (message_at at m.cells) (λ _.
@@ -130,16 +130,16 @@ row code closed moment m (Zero target) (n ∷ stack) = if int_eq n (pos 0) then 
 row code closed moment m (Case label target) (n ∷ stack) = if int_eq n label then goes_to target m stack else goes_on m (n ∷ stack)
 row code closed moment m (Back target) (n ∷ stack) = if int_eq n (pos 0) then goes_on m stack else taking_turn m.turns m (λ after. goes_to target after stack)
 row code closed moment m Turn stack = taking_turn m.turns m (λ after. goes_on after stack)
-row code closed moment m (Call f) stack = needing (slice_get code.functions.items f) (λ function.
+row code closed moment m (Call f) stack = needing (slice_get code.functions f) (λ function.
     taking_turn m.turns m (λ after. Goes (record after { place = function.start; calls = (m.place + 1) ∷ m.calls })))
 row code closed moment m Ret stack = returns_to m.calls m
-row code closed moment m (Write f) stack = needing (slice_get code.formats.items f) (λ format. writes format m stack)
+row code closed moment m (Write f) stack = needing (slice_get code.formats f) (λ format. writes format m stack)
 row code closed moment m (Send at) stack = needing (message_at at m.cells) (λ message.
     goes_on (unless closed (after_effect (effect.Send (frame_of message))) m) stack)
 row code closed moment m (Copy to from) stack = needing (message_at to m.cells) (λ _. needing (message_at from m.cells) (λ message.
     goes_on (record m { cells = splice m.cells to (to + 14) message }) stack))
 row code closed moment m Stop stack = goes_on (unless closed (after_effect effect.Stop) m) stack
-row code closed moment m (Set timer cyclic) (n ∷ stack) = needing (slice_get code.timers.items timer) (λ unit. needing (slice_get m.active timer) (λ _.
+row code closed moment m (Set timer cyclic) (n ∷ stack) = needing (slice_get code.timers timer) (λ unit. needing (slice_get m.active timer) (λ _.
     goes_on (unless closed (after_set timer (micros unit n) cyclic) m) stack))
 row code closed moment m (Cancel timer) stack = needing (slice_get m.active timer) (λ _. goes_on (unless closed (after_cancel timer) m) stack)
 row code closed moment m (Active timer) stack = needing (slice_get m.active timer) (λ active. goes_on m (truth active ∷ stack))
@@ -148,7 +148,7 @@ row code closed moment m _ _ = Stuck
 
 -- one step, where the measurement has ended or not, at a moment in microseconds: the row of the instruction at the place
 abbrev pub step : Code → Bool → ℕ → Machine → Next
-step code closed moment m = needing (slice_get code.instrs.items m.place) (λ instr. row code closed moment m instr m.stack)
+step code closed moment m = needing (slice_get code.instrs m.place) (λ instr. row code closed moment m instr m.stack)
 
 -- what comes after a step, if the machine goes on
 abbrev pub continuing : Next → (Machine → Next) → Next

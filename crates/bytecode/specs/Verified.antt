@@ -14,40 +14,40 @@ Cover from (function ∷ rest) end = (function.start ≡ from) × (from < functi
 
 -- the functions cover the instructions, and there are as many depths
 pub record IsLaidOut (code : Code) : Type 0 where
-  pub covered : Cover 0 code.functions.items (length code.instrs.items)
-  pub depths : length code.depths.items ≡ length code.instrs.items
+  pub covered : Cover 0 code.functions (length code.instrs)
+  pub depths : length code.depths ≡ length code.instrs
 
 -- the rule of a place holds, in the function that has it
 abbrev pub KeepsRuleAt : Code → ℕ → Type 0
 KeepsRuleAt code place = (number : ℕ) (function : Fun) (instr : Instr) (depth : ℕ) →
-    slice_get code.functions.items number ≡ Some function → IsIn function place →
-    slice_get code.instrs.items place ≡ Some instr → slice_get code.depths.items place ≡ Some depth →
+    slice_get code.functions number ≡ Some function → IsIn function place →
+    slice_get code.instrs place ≡ Some instr → slice_get code.depths place ≡ Some depth →
     KeepsRule code number function place instr depth
 
 -- code that keeps every rule of the verifier
 pub record IsVerified (code : Code) : Type 0 where
   pub laid_out : IsLaidOut code
-  pub places : (place : ℕ) → place < length code.instrs.items → KeepsRuleAt code place
+  pub places : (place : ℕ) → place < length code.instrs → KeepsRuleAt code place
   pub tables : KeepsTables code
 
 -- The first place whose rule fails. Where the functions do not cover the instructions, or the depths are not as many, it
 -- is the place after the last instruction, and no other rule is asked. A rule of the tables has this place too.
 pub data FailsFirstAt (code : Code) (place : ℕ) : Type 0 where
-  layout : ¬ (IsLaidOut code) → place ≡ length code.instrs.items → FailsFirstAt code place
-  rule : IsLaidOut code → place < length code.instrs.items → ¬ (KeepsRuleAt code place) →
+  layout : ¬ (IsLaidOut code) → place ≡ length code.instrs → FailsFirstAt code place
+  rule : IsLaidOut code → place < length code.instrs → ¬ (KeepsRuleAt code place) →
       ((earlier : ℕ) → earlier < place → KeepsRuleAt code earlier) → FailsFirstAt code place
-  tables : IsLaidOut code → ((earlier : ℕ) → earlier < length code.instrs.items → KeepsRuleAt code earlier) →
-      ¬ (KeepsTables code) → place ≡ length code.instrs.items → FailsFirstAt code place
+  tables : IsLaidOut code → ((earlier : ℕ) → earlier < length code.instrs → KeepsRuleAt code earlier) →
+      ¬ (KeepsTables code) → place ≡ length code.instrs → FailsFirstAt code place
 
 -- no list of the code, at any depth, has 2^32 items or more
 pub record IsShortCode (code : Code) : Type 0 where
-  pub instrs : length code.instrs.items < 2 ^ 32
-  pub depths : length code.depths.items < 2 ^ 32
-  pub functions : length code.functions.items < 2 ^ 32
-  pub handlers : length code.handlers.items < 2 ^ 32
-  pub selectors : All (λ handler. length (selectors_of handler.event) < 2 ^ 32) code.handlers.items
-  pub cells : length code.cells.items < 2 ^ 32
-  pub starts : length code.starts.items < 2 ^ 32
-  pub timers : length code.timers.items < 2 ^ 32
-  pub formats : length code.formats.items < 2 ^ 32
-  pub texts : All IsShort code.formats.items
+  pub instrs : length code.instrs < 2 ^ 32
+  pub depths : length code.depths < 2 ^ 32
+  pub functions : length code.functions < 2 ^ 32
+  pub handlers : length code.handlers < 2 ^ 32
+  pub selectors : All (λ handler. length (selectors_of handler.event) < 2 ^ 32) code.handlers
+  pub cells : length code.cells < 2 ^ 32
+  pub starts : length code.starts < 2 ^ 32
+  pub timers : length code.timers < 2 ^ 32
+  pub formats : length code.formats < 2 ^ 32
+  pub texts : All IsShort code.formats

@@ -2,6 +2,7 @@
 
 use crate::instr::Instr;
 use int_kinds::Kind;
+use items::Items;
 use vm_host::Event;
 use write_format::Format;
 
@@ -36,19 +37,19 @@ pub struct Handler {
 #[derive(Debug, Drop)]
 pub struct Code {
     /// The instructions.
-    pub instrs: Vec<Instr>,
+    pub instrs: Items<Instr>,
     /// For each instruction how many numbers of its function are on the stack when it is reached.
-    pub depths: Vec<u32>,
+    pub depths: Items<u32>,
     /// The functions, in the order of their places.
-    pub functions: Vec<Fun>,
+    pub functions: Items<Fun>,
     /// The event procedures.
-    pub handlers: Vec<Handler>,
+    pub handlers: Items<Handler>,
     /// The kind of each cell.
-    pub cells: Vec<Kind>,
+    pub cells: Items<Kind>,
     /// Cells with their initial values. All other cells begin with 0.
-    pub starts: Vec<(u32, i128)>,
+    pub starts: Items<(u32, i128)>,
     /// The unit of each timer in microseconds.
-    pub timers: Vec<u64>,
+    pub timers: Items<u64>,
     /// The formats of the lines that it writes.
-    pub formats: Vec<Format>,
+    pub formats: Items<Format>,
 }

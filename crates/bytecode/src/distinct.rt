@@ -4,22 +4,24 @@ ghost use Rattle.std.specs.Prelude.{◌≡◌, ◌≢◌, ◌↔◌, ◌≤◌, 
 ghost use Rattle.std.specs.List.Sorted.{IsNonDecreasing, IsNonDecreasingBy};
 ghost use Rattle.bytecode.specs.Tables.{AreApart, AreApartIn};
 
+use vm_host::Selector;
+
 /// How many ranks there are.
 const RANKS: u8 = 3;
 
 /// Whether no two selectors of one rank have a key in common.
-pub(crate) fn selectors_are_apart(mut selectors: Vec<(u8, u32, u32)>) -> bool
-    requires { All (λ selector. selector.0 ≤ 2) selectors.items }
+pub(crate) fn selectors_are_apart(mut selectors: Vec<Selector>) -> bool
+    requires { All (λ selector. selector.rank ≤ 2) selectors.items }
     ensures { IsTrue result ↔ AllPairs AreApart selectors.items }
 {
-    selectors.sort_unstable_by_key(|selector| selector.1);
+    selectors.sort_unstable_by_key(|selector| selector.low);
     ranks_are_apart(&selectors)
 }
 
 /// The same where the selectors stand by their least keys.
-fn ranks_are_apart(selectors: &[(u8, u32, u32)]) -> bool
-    requires ranks { All (λ selector. selector.0 ≤ 2) selectors.now }
-    requires rises { IsNonDecreasingBy (λ selector. selector.1) selectors.now }
+fn ranks_are_apart(selectors: &[Selector]) -> bool
+    requires ranks { All (λ selector. selector.rank ≤ 2) selectors.now }
+    requires rises { IsNonDecreasingBy (λ selector. selector.low) selectors.now }
     ensures { IsTrue result ↔ AllPairs AreApart selectors.now }
 {
     for rank in 0..RANKS {
@@ -32,19 +34,19 @@ fn ranks_are_apart(selectors: &[(u8, u32, u32)]) -> bool
 
 /// Whether no two selectors of this rank have a key in common, where the selectors stand by their
 /// least keys.
-fn rank_is_apart(selectors: &[(u8, u32, u32)], rank: u8) -> bool
-    requires { IsNonDecreasingBy (λ selector. selector.1) selectors.now }
+fn rank_is_apart(selectors: &[Selector], rank: u8) -> bool
+    requires { IsNonDecreasingBy (λ selector. selector.low) selectors.now }
     ensures { IsTrue result ↔ AllPairs (AreApartIn rank) selectors.now }
 {
     let mut reached = None;
     for selector in selectors {
-        if selector.0 != rank || selector.1 > selector.2 {
+        if selector.rank != rank || selector.low > selector.high {
             continue;
         }
-        if is_reached(reached, selector.1) {
+        if is_reached(reached, selector.low) {
             return false;
         }
-        reached = Some(selector.2);
+        reached = Some(selector.high);
     }
     true
 }

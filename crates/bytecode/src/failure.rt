@@ -34,7 +34,7 @@ pub(crate) fn first_failure(alloc: Global, code: &Code) -> Result<Option<u32>, N
 fn is_laid_out(code: &Code) -> bool
     ensures { IsTrue result ↔ IsLaidOut code.now }
 {
-    covers(&code.functions, code.instrs.len()) && code.depths.len() == code.instrs.len()
+    covers(code.functions.as_slice(), code.instrs.len()) && code.depths.len() == code.instrs.len()
 }
 
 /// Whether the functions cover so many places from 0 on, in order and without a gap, and none of
@@ -55,9 +55,9 @@ fn covers(functions: &[Fun], places: usize) -> bool
 /// The first place that breaks its rule.
 fn first_broken(code: &Code) -> Option<u32>
     requires { IsLaidOut code.now }
-    ensures { MatchOption result ((place : ℕ) → place < length code.now.instrs.items → KeepsRuleAt code.now place) (FailsFirstOfAll code.now) }
+    ensures { MatchOption result ((place : ℕ) → place < length code.now.instrs → KeepsRuleAt code.now place) (FailsFirstOfAll code.now) }
 {
-    for (number, function) in code.functions.iter().enumerate() {
+    for (number, function) in code.functions.as_slice().iter().enumerate() {
         if let Some(place) = first_broken_of(code, number, *function) {
             return Some(place);
         }
@@ -68,12 +68,14 @@ fn first_broken(code: &Code) -> Option<u32>
 /// The first place of a function that breaks its rule.
 fn first_broken_of(code: &Code, number: usize, function: Fun) -> Option<u32>
     requires laid_out { IsLaidOut code.now }
-    requires is_there { slice_get code.now.functions.items number ≡ Some function }
+    requires is_there { slice_get code.now.functions number ≡ Some function }
     ensures { MatchOption result (KeepsRulesOf code.now number function) (FailsFirstIn code.now number function) }
 {
+    let instrs = code.instrs.as_slice();
+    let depths = code.depths.as_slice();
     for place in function.start..function.end {
-        let instr = code.instrs[place as usize];
-        let depth = code.depths[place as usize];
+        let instr = instrs[place as usize];
+        let depth = depths[place as usize];
         if !keeps_rule(code, number, function, place, instr, depth) {
             return Some(place);
         }

@@ -62,6 +62,7 @@ fn taken_by(code: &Code, instr: Instr) -> usize
         Instr::SetElem(_, _) | Instr::SetBytes(_, _) | Instr::Bin(_, _) => 2,
         Instr::Write(format) => code
             .formats
+            .as_slice()
             .get(format as usize)
             .map_or(0, |format| format.numbers_taken()),
         Instr::Store(_)
@@ -100,7 +101,7 @@ fn given_by(code: &Code, instr: Instr) -> usize
         | Instr::Stop
         | Instr::Set(_, _)
         | Instr::Cancel(_) => 0,
-        Instr::Call(function) => match code.functions.get(function as usize) {
+        Instr::Call(function) => match code.functions.as_slice().get(function as usize) {
             Some(function) if function.gives => 1,
             _ => 0,
         },
@@ -136,6 +137,7 @@ fn is_reached(code: &Code, function: Fun, place: usize, depth: usize) -> bool
         && place < function.end as usize
         && code
             .depths
+            .as_slice()
             .get(place)
             .is_some_and(|there| *there as usize == depth)
 }
@@ -179,15 +181,20 @@ fn names_exist(code: &Code, instr: Instr) -> bool
         Instr::Push(n) => is_number(n),
         Instr::Case(label, _) => is_number(label),
         Instr::Load(cell) | Instr::Store(cell) => (cell as usize) < code.cells.len(),
-        Instr::Elem(base, len) | Instr::SetElem(base, len) => is_array(&code.cells, base, len),
+        Instr::Elem(base, len) | Instr::SetElem(base, len) => is_array(
+            code.cells.as_slice(),
+            base,
+            len,
+        ),
         Instr::Sig(layout, at) | Instr::SetSig(layout, at) => {
-            usable(&layout) && is_message(&code.cells, at)
+            usable(&layout) && is_message(code.cells.as_slice(), at)
         }
-        Instr::SetField(field, at) => field <= 3 && is_message(&code.cells, at),
+        Instr::SetField(field, at) => field <= 3 && is_message(code.cells.as_slice(), at),
         Instr::Bytes(_, at) | Instr::SetBytes(_, at) | Instr::Send(at) => {
-            is_message(&code.cells, at)
+            is_message(code.cells.as_slice(), at)
         }
-        Instr::Copy(to, from) => is_message(&code.cells, to) && is_message(&code.cells, from),
+        Instr::Copy(to, from) => is_message(code.cells.as_slice(), to)
+            && is_message(code.cells.as_slice(), from),
         Instr::Bin(op, _) => is_operation(op),
         Instr::Write(format) => (format as usize) < code.formats.len(),
         Instr::Set(timer, _) | Instr::Cancel(timer) | Instr::Active(timer) => {

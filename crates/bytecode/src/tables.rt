@@ -13,7 +13,7 @@ use crate::rule::is_number;
 use int_kinds::{Kind, holds};
 use sim_outside::NoMemory;
 use std::alloc::Global;
-use vm_host::Event;
+use vm_host::{Event, Selector};
 use write_format::Format;
 
 /// The kinds of the event's cells.
@@ -42,9 +42,9 @@ pub(crate) fn keeps_tables(alloc: Global, code: &Code) -> Result<bool, NoMemory>
     if !keeps_lists(code) {
         return Ok(false);
     }
-    let selectors = selectors_of(alloc, &code.handlers)?;
-    let timers = timers_of(alloc, &code.handlers)?;
-    let keys = keys_of(alloc, &code.handlers)?;
+    let selectors = selectors_of(alloc, code.handlers.as_slice())?;
+    let timers = timers_of(alloc, code.handlers.as_slice())?;
+    let keys = keys_of(alloc, code.handlers.as_slice())?;
     Ok(keeps_events(selectors, timers, &keys, code.timers.len()))
 }
 
@@ -54,15 +54,15 @@ fn keeps_lists(code: &Code) -> bool
 {
     let kinds = code.cells.as_slice();
     begins_with_event(kinds)
-        && starts_are_held(kinds, &code.starts)
-        && handlers_give_nothing(&code.functions, &code.handlers)
-        && units_are_known(&code.timers)
-        && arrays_exist(kinds, &code.formats)
+        && starts_are_held(kinds, code.starts.as_slice())
+        && handlers_give_nothing(code.functions.as_slice(), code.handlers.as_slice())
+        && units_are_known(code.timers.as_slice())
+        && arrays_exist(kinds, code.formats.as_slice())
 }
 
 /// Whether the selectors, timers and keys of the handlers keep their rules, with so many timers.
 fn keeps_events(
-    selectors: Vec<(u8, u32, u32)>,
+    selectors: Vec<Selector>,
     timers: Vec<u32>,
     keys: &[Option<u8>],
     count: usize,
@@ -140,13 +140,13 @@ fn arrays_exist(kinds: &[Kind], formats: &[Format]) -> bool
 }
 
 /// All selectors of the handlers.
-fn selectors_of(alloc: Global, handlers: &[Handler]) -> Result<Vec<(u8, u32, u32)>, NoMemory>
+fn selectors_of(alloc: Global, handlers: &[Handler]) -> Result<Vec<Selector>, NoMemory>
     ensures { IfOk result (λ selectors. selectors.items ≡ all_selectors handlers.now) }
 {
     let mut selectors = Vec::new(alloc);
     for handler in handlers {
         if let Event::Message(own) = &handler.event {
-            selectors.extend_from_slice(own.list())?;
+            selectors.extend_from_slice(own.as_slice())?;
         }
     }
     Ok(selectors)
@@ -179,10 +179,10 @@ fn keys_of(alloc: Global, handlers: &[Handler]) -> Result<Vec<Option<u8>>, NoMem
 }
 
 /// Whether each rank is 0 to 2.
-fn ranks_are_known(selectors: &[(u8, u32, u32)]) -> bool
-    ensures { IsTrue result ↔ All (λ selector. selector.0 ≤ 2) selectors.now }
+fn ranks_are_known(selectors: &[Selector]) -> bool
+    ensures { IsTrue result ↔ All (λ selector. selector.rank ≤ 2) selectors.now }
 {
-    selectors.iter().all(|selector| selector.0 <= 2)
+    selectors.iter().all(|selector| selector.rank <= 2)
 }
 
 /// Whether each timer is below the number of timers.

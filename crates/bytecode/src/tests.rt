@@ -4,10 +4,11 @@ ghost use Rattle.bytecode.specs.Verified.{IsShortCode};
 
 use super::*;
 use int_kinds::{BinOp, Kind};
+use items::Items;
 use std::alloc::{AllocError, Global};
 use std::process::Abort;
 use std::test::Fail;
-use vm_host::{Event, Selectors};
+use vm_host::{Event, Selector};
 
 /// No list is as long as this.
 const LIMIT: usize = 0x1_0000_0000;
@@ -50,20 +51,20 @@ fn code(
         })?;
     }
     Ok(Code {
-        instrs: instrs.to_vec(alloc)?,
-        depths: depths.to_vec(alloc)?,
-        functions: vec![in alloc;
+        instrs: Items::from_list(instrs.to_vec(alloc)?),
+        depths: Items::from_list(depths.to_vec(alloc)?),
+        functions: Items::from_list(vec![in alloc;
             Fun {
                 start: 0,
                 end,
                 gives: false
             },
-        ]?,
-        handlers,
-        cells: KINDS.to_vec(alloc)?,
-        starts: vec![in alloc; (15, 0)]?,
-        timers: vec![in alloc; 1000, 1_000_000]?,
-        formats: Vec::new(alloc),
+        ]?),
+        handlers: Items::from_list(handlers),
+        cells: Items::from_list(KINDS.to_vec(alloc)?),
+        starts: Items::from_list(vec![in alloc; (15, 0)]?),
+        timers: Items::from_list(vec![in alloc; 1000, 1_000_000]?),
+        formats: Items::new(alloc),
     })
 }
 
@@ -71,7 +72,7 @@ fn has_few_selectors(event: &Event) -> bool
     ensures { IsTrue result → length (selectors_of event.now) < 2 ^ 32 }
 {
     match event {
-        Event::Message(selectors) => selectors.list().len() < LIMIT,
+        Event::Message(selectors) => selectors.len() < LIMIT,
         _ => true,
     }
 }
@@ -85,6 +86,7 @@ fn is_short(code: &Code) -> bool
         && code.handlers.len() < LIMIT
         && code
             .handlers
+            .as_slice()
             .iter()
             .all(|handler| has_few_selectors(&handler.event))
         && code.cells.len() < LIMIT
@@ -157,7 +159,7 @@ fn verify_finds_the_first_place_that_fails(rt: HostRuntime) -> Result<(), Fail> 
 fn handlers_share_nothing(rt: HostRuntime) -> Result<(), Fail> {
     let alloc = rt.alloc();
     let selectors = |rank: u8, low: u32, high: u32| -> Result<Event, AllocError> {
-        Ok(Event::Message(Selectors::new(vec![in alloc; (rank, low, high)]?)))
+        Ok(Event::Message(Items::from_list(vec![in alloc; Selector { rank, low, high }]?)))
     };
     let rows = [
         (vec![in alloc; Event::Timer(0), Event::Timer(1)]?, None),

@@ -29,12 +29,12 @@ there_when : {X : Type 0} (xs : List X) (i : ℕ) (P : X → Type 0) (o : Option
 there_when xs i P None e h = absurd h
 there_when xs i P (Some x) e h = slice_get_within xs i x e
 
-function_there : (code : Code) → IsVerified code → (number : ℕ) (handler : Handler) → number < length code.handlers.items →
-    handler ≡ get_or code.handlers.items number handler → handler.function < length code.functions.items
+function_there : (code : Code) → IsVerified code → (number : ℕ) (handler : Handler) → number < length code.handlers →
+    handler ≡ get_or code.handlers number handler → handler.function < length code.functions
 function_there code verified number handler h e =
-    let there = there_when code.functions.items (get_or code.handlers.items number handler).function (λ function. function.gives ≡ false)
-    (slice_get code.functions.items (get_or code.handlers.items number handler).function) refl (verified.tables.handlers_give_nothing number handler h) in
-    subst (λ (x : Handler). x.function < length code.functions.items) (sym e) there
+    let there = there_when code.functions (get_or code.handlers number handler).function (λ function. function.gives ≡ false)
+    (slice_get code.functions (get_or code.handlers number handler).function) refl (verified.tables.handlers_give_nothing number handler h) in
+    subst (λ (x : Handler). x.function < length code.functions) (sym e) there
 
 -- a handler of code begins in a state, in the memory that the state belongs to
 pub record Begun {S : Type 0} (timers : S → List Bool) (code : Code) (number turns : ℕ) (memory : MemoryState) (host : S) (start : RunState) : Type 0 where
@@ -43,9 +43,9 @@ pub record Begun {S : Type 0} (timers : S → List Bool) (code : Code) (number t
   pub calls : start.calls_room ≡ memory.calls_room
 
 begun_in : {S : Type 0} (timers : S → List Bool) (code : Code) → IsVerified code → (number : ℕ) (handler : Handler) (function : Fun) (turns : ℕ)
-    (before : RunState) (memory : MemoryState) (host : S) (start : RunState) → number < length code.handlers.items →
-    handler ≡ get_or code.handlers.items number handler → function ≡ get_or code.functions.items handler.function function →
-    memory_of before ≡ memory → IsMemoryOf code memory → length code.timers.items ≤ length (timers host) → start ≡ at_start before function turns →
+    (before : RunState) (memory : MemoryState) (host : S) (start : RunState) → number < length code.handlers →
+    handler ≡ get_or code.handlers number handler → function ≡ get_or code.functions handler.function function →
+    memory_of before ≡ memory → IsMemoryOf code memory → length code.timers ≤ length (timers host) → start ≡ at_start before function turns →
     Begun timers code number turns memory host start
 begun_in timers code verified number handler function turns before memory host start h eh ef view is exist e =
     let cells : start.cells ≡ memory.cells = ap (λ (s : RunState). s.cells) e ∙ ap (λ (m : MemoryState). m.cells) view in
@@ -54,12 +54,12 @@ begun_in timers code verified number handler function turns before memory host s
         is_start = record {
           handler = handler;
           function = function;
-          is_handler = item_read code.handlers.items refl h eh;
-          is_function = item_read code.functions.items refl (function_there code verified number handler h eh) ef;
+          is_handler = item_read code.handlers refl h eh;
+          is_function = item_read code.functions refl (function_there code verified number handler h eh) ef;
           at_start = ap (λ (s : RunState). s.place) e;
           no_numbers = ap (λ (s : RunState). s.stack) e;
           no_calls = ap (λ (s : RunState). s.calls) e;
-          cells_held = subst (HoldKinds code.cells.items) (sym cells) is.cells_held;
+          cells_held = subst (HoldKinds code.cells) (sym cells) is.cells_held;
           timers_exist = exist;
         };
         cells = cells;
@@ -71,14 +71,14 @@ begun_in timers code verified number handler function turns before memory host s
 
 -- the same where the code was read from a verified one
 pub begun : {S : Type 0} (timers : S → List Bool) (host : S) (before : RunState) {read code : Code} → read ≡ code → IsVerified read →
-    {number : ℕ} {handler : Handler} {function : Fun} {turns : ℕ} {memory : MemoryState} {start : RunState} → number < length code.handlers.items →
-    handler ≡ get_or read.handlers.items number handler → function ≡ get_or read.functions.items handler.function function →
-    memory_of before ≡ memory → IsMemoryOf code memory → length code.timers.items ≤ length (timers host) → start ≡ at_start before function turns →
+    {number : ℕ} {handler : Handler} {function : Fun} {turns : ℕ} {memory : MemoryState} {start : RunState} → number < length code.handlers →
+    handler ≡ get_or read.handlers number handler → function ≡ get_or read.functions handler.function function →
+    memory_of before ≡ memory → IsMemoryOf code memory → length code.timers ≤ length (timers host) → start ≡ at_start before function turns →
     Begun timers code number turns memory host start
 begun timers host before {read} {code} same verified {number} {handler} {function} {turns} {memory} {start} h eh ef view is exist e =
     begun_in timers code (subst IsVerified same verified) number handler function turns before memory host start h
-    (subst (λ (z : Code). handler ≡ get_or z.handlers.items number handler) same eh)
-    (subst (λ (z : Code). function ≡ get_or z.functions.items handler.function function) same ef) view is exist e
+    (subst (λ (z : Code). handler ≡ get_or z.handlers number handler) same eh)
+    (subst (λ (z : Code). function ≡ get_or z.functions handler.function function) same ef) view is exist e
 
 -- there is room for every state that the run reaches
 pub room_of_begun : {S : Type 0} {timers : S → List Bool} {read code : Code} {number turns : ℕ} {memory : MemoryState} {host : S} {start : RunState} → read ≡ code →
@@ -91,13 +91,13 @@ room_of_begun {timers = timers} {number = number} {host = host} {start = start} 
 
 -- a state that the run leaves belongs to a memory of the same code
 pub left_of_begun : {S : Type 0} {timers : S → List Bool} {read code : Code} {number turns : ℕ} {memory : MemoryState} {host : S} {start after : RunState} → read ≡ code →
-    IsMemoryOf code memory → Begun timers code number turns memory host start → HasSameRoom start after → HoldKinds read.cells.items after.cells →
+    IsMemoryOf code memory → Begun timers code number turns memory host start → HasSameRoom start after → HoldKinds read.cells after.cells →
     IsMemoryOf code (memory_of after)
 left_of_begun {memory = memory} {after = after} e is b same held =
     let numbers : after.numbers_room ≡ memory.numbers_room = same.numbers ∙ b.numbers in
     let calls : after.calls_room ≡ memory.calls_room = same.calls ∙ b.calls in
     record {
-      cells_held = subst (λ (z : Code). HoldKinds z.cells.items after.cells) e held;
+      cells_held = subst (λ (z : Code). HoldKinds z.cells after.cells) e held;
       room = λ handler from reached closed moment steps starts goes.
           let room = is.room handler from reached closed moment steps starts goes in record { numbers = rw (numbers) room.numbers; calls = rw (calls) room.calls };
     }

@@ -53,10 +53,10 @@ module _ (code : Code) (closed : Bool) (moment : ℕ) (m : Machine) where
   pub load_row : (cell : ℕ) (stack : List ℤ) → cell < length m.cells → row code closed moment m (Load cell) stack ≡ goes_on m (get_or m.cells cell (pos 0) ∷ stack)
   load_row cell stack h = reads_is cell m stack h
 
-  pub store_row : (cell : ℕ) (k : Kind) (stack : List ℤ) → 1 ≤ length stack → cell < length m.cells → slice_get code.cells.items cell ≡ Some k →
+  pub store_row : (cell : ℕ) (k : Kind) (stack : List ℤ) → 1 ≤ length stack → cell < length m.cells → slice_get code.cells cell ≡ Some k →
       row code closed moment m (Store cell) stack ≡ goes_on (record m { cells = slice_set m.cells cell (wrap k (get_or stack 0 (pos 0))) }) (wrap k (get_or stack 0 (pos 0)) ∷ drop 1 stack)
   store_row cell k [] t h e = absurd (omega arith)
-  store_row cell k (n ∷ stack) t h e = stores_is code.cells.items cell k n m stack h e
+  store_row cell k (n ∷ stack) t h e = stores_is code.cells cell k n m stack h e
 
   pub element_row : (base len i : ℕ) (stack : List ℤ) → 1 ≤ length stack → index_of (get_or stack 0 (pos 0)) len ≡ Some i → base + i < length m.cells →
       row code closed moment m (Elem base len) stack ≡ goes_on m (get_or m.cells (base + i) (pos 0) ∷ drop 1 stack)
@@ -64,13 +64,13 @@ module _ (code : Code) (closed : Bool) (moment : ℕ) (m : Machine) where
   element_row base len i (n ∷ stack) t e h = (index_is n len i m _ e).does ∙ reads_is (base + i) m stack h
 
   pub set_element_row : (base len i : ℕ) (k : Kind) (stack : List ℤ) → 2 ≤ length stack → index_of (get_or stack 1 (pos 0)) len ≡ Some i → base + i < length m.cells →
-      slice_get code.cells.items (base + i) ≡ Some k →
+      slice_get code.cells (base + i) ≡ Some k →
       row code closed moment m (SetElem base len) stack ≡ goes_on (record m { cells = slice_set m.cells (base + i) (wrap k (get_or stack 0 (pos 0))) }) (wrap k (get_or stack 0 (pos 0)) ∷ drop 2 stack)
   set_element_row base len i k [] t e h there = absurd (omega arith)
   set_element_row base len i k (n ∷ []) t e h there = absurd (omega arith)
-  set_element_row base len i k (n ∷ j ∷ stack) t e h there = (index_is j len i m _ e).does ∙ stores_is code.cells.items (base + i) k n m stack h there
+  set_element_row base len i k (n ∷ j ∷ stack) t e h there = (index_is j len i m _ e).does ∙ stores_is code.cells (base + i) k n m stack h there
 
-  pub call_row : (f : ℕ) (function : Fun) (turns : ℕ) (stack : List ℤ) → slice_get code.functions.items f ≡ Some function → m.turns ≡ suc turns →
+  pub call_row : (f : ℕ) (function : Fun) (turns : ℕ) (stack : List ℤ) → slice_get code.functions f ≡ Some function → m.turns ≡ suc turns →
       row code closed moment m (Call f) stack ≡ Goes (record m { place = function.start; calls = (m.place + 1) ∷ m.calls; turns = turns })
   call_row f function turns stack there e =
       ap (λ (o : Option Fun). needing o (λ g. taking_turn m.turns m (λ after. Goes (record after { place = g.start; calls = (m.place + 1) ∷ m.calls })))) there

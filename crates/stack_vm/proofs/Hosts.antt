@@ -45,7 +45,7 @@ module _ {S : Type 0} (takes : S → Effect → S → Type 0) (timers : S → Li
 
 -- a timer is set
 pub set_row : (code : Code) (closed : Bool) (moment : ℕ) (m : Machine) (timer unit : ℕ) (cyclic : Bool) (stack : List ℤ) → 1 ≤ length stack →
-    slice_get code.timers.items timer ≡ Some unit → timer < length m.active →
+    slice_get code.timers timer ≡ Some unit → timer < length m.active →
     row code closed moment m (Set timer cyclic) stack ≡ goes_on (unless closed (after_set timer (micros unit (get_or stack 0 (pos 0))) cyclic) m) (drop 1 stack)
 set_row code closed moment m timer unit cyclic [] h there exists = absurd (omega arith)
 set_row code closed moment m timer unit cyclic (n ∷ stack) h there exists =

@@ -35,7 +35,7 @@ go_one_more code closed moment (suc n) start m e =
     (λ after e'. go_one_more code closed moment n after m e')
 
 -- the step at a place is the row of its instruction
-pub step_is_row : (code : Code) (closed : Bool) (moment : ℕ) (m : Machine) (instr : Instr) → slice_get code.instrs.items m.place ≡ Some instr →
+pub step_is_row : (code : Code) (closed : Bool) (moment : ℕ) (m : Machine) (instr : Instr) → slice_get code.instrs m.place ≡ Some instr →
     step code closed moment m ≡ row code closed moment m instr m.stack
 step_is_row code closed moment m instr e = ap (λ (o : Option Instr). needing o (λ (i : Instr). row code closed moment m i m.stack)) e
 
@@ -47,7 +47,7 @@ takes_further takes (e ∷ first) second a b c (between, t, h) k = (between, t, 
 
 -- where the machine stands in verified code, what its instruction asks for is there
 pub ready_at : (code : Code) → IsVerified code → (s : RunState) (closed : Bool) (moment : ℕ) (active : List Bool) (effects : List Effect) → Stands code (machine s active effects) →
-    (instr : Instr) → slice_get code.instrs.items s.place ≡ Some instr → s.place + 1 < 2 ^ 64 →
+    (instr : Instr) → slice_get code.instrs s.place ≡ Some instr → s.place + 1 < 2 ^ 64 →
     ((after : Machine) → step code closed moment (machine s active effects) ≡ Goes after → HasRoomFor s.numbers_room s.calls_room after) → IsReady code instr s
 ready_at code verified s closed moment active effects stands instr there next room =
     let st = stands.standing in

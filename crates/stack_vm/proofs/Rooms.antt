@@ -22,13 +22,13 @@ use Rattle.stack_vm.specs.Room.{deepest, greatest, numbers_room}
 
 pub record Lies (code : Code) (function : Fun) : Type 0 where
   pub order : function.start ≤ function.end
-  pub inside : function.end ≤ length code.depths.items
+  pub inside : function.end ≤ length code.depths
 
-pub lies_at : (code : Code) → IsVerified code → (i : ℕ) (d : Fun) → i < length code.functions.items → Lies code (get_or code.functions.items i d)
+pub lies_at : (code : Code) → IsVerified code → (i : ℕ) (d : Fun) → i < length code.functions → Lies code (get_or code.functions i d)
 lies_at code verified i d h =
-    let f = item_below code.functions.items i h in
+    let f = item_below code.functions i h in
     let lies = lies_in_code code i f.item verified.laid_out f.is_there in
-    subst (Lies code) (sym (get_or_from_slice_get code.functions.items i f.item d f.is_there))
+    subst (Lies code) (sym (get_or_from_slice_get code.functions i f.item d f.is_there))
     (record { order = omega (arith, lies.nonempty); inside = omega (arith, lies.ends, verified.laid_out.depths) })
 
 -- ---- the depths of a function
@@ -58,33 +58,33 @@ sum_later f xs i j h =
 -- ---- what the callers of a function have on the stack
 
 below_room : (code : Code) (number : ℕ) (function : Fun) (calls : List ℕ) (below : ℕ) → Below code number function calls below →
-    below ≤ sum_by (deepest code.depths.items) (drop (number + 1) code.functions.items)
+    below ≤ sum_by (deepest code.depths) (drop (number + 1) code.functions)
 below_room code number function [] below h = omega arith
 below_room code number function (place ∷ calls) below (caller, calling, depth, under, returns, rest) =
     let r = below_room code caller calling calls under rest in
-    let d = deepest_at code.depths.items calling place depth returns.at.inside returns.at.has_depth in
-    let s = sum_from (deepest code.depths.items) code.functions.items caller calling returns.at.is_there in
-    let m = sum_later (deepest code.depths.items) code.functions.items (number + 1) caller (omega (arith, returns.greater)) in
+    let d = deepest_at code.depths calling place depth returns.at.inside returns.at.has_depth in
+    let s = sum_from (deepest code.depths) code.functions caller calling returns.at.is_there in
+    let m = sum_later (deepest code.depths) code.functions (number + 1) caller (omega (arith, returns.greater)) in
     omega (arith, r, d, s, m, returns.height)
 
-calls_room : (code : Code) (number : ℕ) (function : Fun) (calls : List ℕ) (below : ℕ) → slice_get code.functions.items number ≡ Some function →
-    Below code number function calls below → length calls + number < length code.functions.items
-calls_room code number function [] below there h = let w = slice_get_within code.functions.items number function there in omega (arith, w)
+calls_room : (code : Code) (number : ℕ) (function : Fun) (calls : List ℕ) (below : ℕ) → slice_get code.functions number ≡ Some function →
+    Below code number function calls below → length calls + number < length code.functions
+calls_room code number function [] below there h = let w = slice_get_within code.functions number function there in omega (arith, w)
 calls_room code number function (place ∷ calls) below there (caller, calling, depth, under, returns, rest) =
     let r = calls_room code caller calling calls under returns.at.is_there rest in
     omega (arith, r, returns.greater)
 
-room_standing : (code : Code) (m : Machine) → Stands code m → HasRoomFor (numbers_room code) (length code.functions.items) m
+room_standing : (code : Code) (m : Machine) → Stands code m → HasRoomFor (numbers_room code) (length code.functions) m
 room_standing code m s =
     let st = s.standing in
     let b = below_room code s.number s.function m.calls s.below st.callers in
-    let d = deepest_at code.depths.items s.function m.place s.depth st.at.inside st.at.has_depth in
-    let f = sum_from (deepest code.depths.items) code.functions.items s.number s.function st.at.is_there in
-    let l = sum_later (deepest code.depths.items) code.functions.items 0 s.number (omega arith) in
+    let d = deepest_at code.depths s.function m.place s.depth st.at.inside st.at.has_depth in
+    let f = sum_from (deepest code.depths) code.functions s.number s.function st.at.is_there in
+    let l = sum_later (deepest code.depths) code.functions 0 s.number (omega arith) in
     let c = calls_room code s.number s.function m.calls s.below st.at.is_there st.callers in
     record { numbers = omega (arith, b, d, f, l, st.height); calls = omega (arith, c) }
 
 pub room_enough : (code : Code) → IsVerified code → (handler : ℕ) (start reached : Machine) (closed : _) (moment steps : ℕ) → IsStartOf code handler start →
-    go code closed moment steps start ≡ Goes reached → HasRoomFor (numbers_room code) (length code.functions.items) reached
+    go code closed moment steps start ≡ Goes reached → HasRoomFor (numbers_room code) (length code.functions) reached
 room_enough code verified handler start reached closed moment steps is e =
     room_standing code reached (subst (GoesWell code) e (go_well code verified closed moment steps start (start_stands code verified handler start is)))

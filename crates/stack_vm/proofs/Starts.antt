@@ -34,17 +34,17 @@ pub record PutsIn (kinds : List Kind) (cells : List ℤ) (starts : List (ℕ × 
   pub reads : cast_signed w128 (cast_unsigned w128 start.1) ≡ start.1
   pub rest : with_starts (slice_set cells start.0 start.1) (drop (i + 1) starts) ≡ with_starts cells (drop i starts)
 
-pub puts_in : (code : Code) → IsVerified code → (cells : List ℤ) → HoldKinds code.cells.items cells → (i : ℕ) → i < length code.starts.items →
-    PutsIn code.cells.items cells code.starts.items i (get_or code.starts.items i (0, pos 0))
+pub puts_in : (code : Code) → IsVerified code → (cells : List ℤ) → HoldKinds code.cells cells → (i : ℕ) → i < length code.starts →
+    PutsIn code.cells cells code.starts i (get_or code.starts i (0, pos 0))
 puts_in code verified cells held i h =
-    let start = get_or code.starts.items i (0, pos 0) in
-    let s = held_start code.cells.items start (slice_get code.cells.items start.0) refl (verified.tables.starts_held i (0, pos 0) h) in
-    let w = slice_get_within code.cells.items start.0 s.kind s.is_there in
-    let n = AllZip-same_length Holds code.cells.items cells held in
-    let d : drop i code.starts.items ≡ start ∷ drop (i + 1) code.starts.items = rw add-one (drop-cons code.starts.items i (0, pos 0) h) in
+    let start = get_or code.starts i (0, pos 0) in
+    let s = held_start code.cells start (slice_get code.cells start.0) refl (verified.tables.starts_held i (0, pos 0) h) in
+    let w = slice_get_within code.cells start.0 s.kind s.is_there in
+    let n = AllZip-same_length Holds code.cells cells held in
+    let d : drop i code.starts ≡ start ∷ drop (i + 1) code.starts = rw add-one (drop-cons code.starts i (0, pos 0) h) in
     record {
       is_cell = omega (arith, w, n);
-      held = AllZip-set Holds code.cells.items cells held start.0 s.kind start.1 s.is_there s.held;
+      held = AllZip-set Holds code.cells cells held start.0 s.kind start.1 s.is_there s.held;
       reads = read_back_held s.kind start.1 s.held;
       rest = sym (ap (with_starts cells) d);
     }

@@ -22,7 +22,7 @@ use Rattle.stack_vm.specs.Run.{CallsWhatExists, HasSameRoom, IsReady, answered, 
 use Rattle.stack_vm.specs.State.{RunState}
 use Rattle.stack_vm.proofs.Loop.{go_one_more, ready_at, step_is_row, takes_further}
 
-calls_exist : (code : Code) (number : ℕ) (instr : Instr) → number ≤ length code.functions.items → CallsEarlier instr number → CallsWhatExists code instr
+calls_exist : (code : Code) (number : ℕ) (instr : Instr) → number ≤ length code.functions → CallsEarlier instr number → CallsWhatExists code instr
 calls_exist code number (Push n) h e = tt
 calls_exist code number (Load cell) h e = tt
 calls_exist code number (Store cell) h e = tt
@@ -59,7 +59,7 @@ calls_exist code number Now h e = tt
 
 -- a row that gives a number leads to a state with room for it
 answer_fits : (code : Code) (closed : Bool) (moment : ℕ) (s : RunState) (active : List Bool) (effects : List Effect) (instr : Instr) →
-    length code.timers.items ≤ length active → IsReady code instr s →
+    length code.timers ≤ length active → IsReady code instr s →
     ((after : Machine) → row code closed moment (machine s active effects) instr s.stack ≡ Goes after → HasRoomFor s.numbers_room s.calls_room after) → HasRoomForAnswer instr s
 answer_fits code closed moment s active effects (Push n) h r fits = tt
 answer_fits code closed moment s active effects (Load cell) h r fits = tt
@@ -116,13 +116,13 @@ module _ {S : Type 0} {takes : S → Effect → S → Type 0} {timers : S → Li
   stands = subst (GoesWell code) comes.goes (go_well code verified closed moment comes.steps (machine start (timers host) []) (start_stands code verified handler (machine start (timers host) []) begins))
 
   -- its place is one of the code's
-  pub place_there : s.place < length code.instrs.items
+  pub place_there : s.place < length code.instrs
   place_there =
       let at = stands.standing.at in
       let lies = lies_in_code code stands.number stands.function verified.laid_out at.is_there in
       omega (arith, lies.ends, at.inside.below)
 
-  pub timers_there : length code.timers.items ≤ length (timers h)
+  pub timers_there : length code.timers ≤ length (timers h)
   timers_there = stands.held.timers
 
   next_step : go code closed moment (suc comes.steps) (machine start (timers host) []) ≡ step code closed moment (machine s (timers h) comes.effects)
@@ -133,7 +133,7 @@ module _ {S : Type 0} {takes : S → Effect → S → Type 0} {timers : S → Li
       let f = room (suc comes.steps) after (next_step ∙ e) in
       record { numbers = omega (arith, f.numbers, comes.room.numbers); calls = omega (arith, f.calls, comes.room.calls) }
 
-  module _ {instr : Instr} (there : slice_get code.instrs.items s.place ≡ Some instr) where
+  module _ {instr : Instr} (there : slice_get code.instrs s.place ≡ Some instr) where
     -- what its instruction asks for is there
     pub ready : s.place + 1 < 2 ^ 64 → IsReady code instr s
     ready next = ready_at code verified s closed moment (timers h) comes.effects stands instr there next fits_next
@@ -144,7 +144,7 @@ module _ {S : Type 0} {takes : S → Effect → S → Type 0} {timers : S → Li
         let rule = rule_at code verified stands.number stands.function s.place at.is_there at.inside in
         let same : rule.instr ≡ instr = (let e : Some rule.instr ≡ Some instr = sym rule.is_instr ∙ there in cc) in
         let keeps = subst (λ (i : Instr). CallsEarlier i stands.number) same rule.keeps.calls_earlier in
-        calls_exist code stands.number instr (let below = slice_get_within code.functions.items stands.number stands.function at.is_there in omega (arith, below)) keeps
+        calls_exist code stands.number instr (let below = slice_get_within code.functions stands.number stands.function at.is_there in omega (arith, below)) keeps
 
     pub answer_room : s.place + 1 < 2 ^ 64 → HasRoomForAnswer instr s
     answer_room next = answer_fits code closed moment s (timers h) comes.effects instr timers_there (ready next)
@@ -183,7 +183,7 @@ module _ {S : Type 0} {takes : S → Effect → S → Type 0} {timers : S → Li
       }
 
       -- its cells hold numbers of their kinds, and it has the room that it had
-      pub cells_then : {outcome : Outcome} → answer ≡ Some outcome → HoldKinds code.cells.items after.cells
+      pub cells_then : {outcome : Outcome} → answer ≡ Some outcome → HoldKinds code.cells after.cells
       cells_then {outcome} e = subst (StepsWell code (machine s (timers h) comes.effects)) (step_leads ∙ ap (λ (a : Option Outcome). answered a (machine after (timers host_after) (comes.effects ++ does.new))) e)
           (step_well code verified closed moment (machine s (timers h) comes.effects) stands)
 
@@ -193,7 +193,7 @@ module _ {S : Type 0} {takes : S → Effect → S → Type 0} {timers : S → Li
 -- a refusal in the state that the run has come to
 pub refused_there : {S X E : Type 0} (r : Result X E) {takes : S → Effect → S → Type 0} (refuses : S → S → Type 0) {timers : S → List Bool} {closed : Bool} {moment : ℕ}
     {code : Code} {start : RunState} {host : S} {at : RunState} {between : S} → ComesTo takes timers closed moment code start host at between →
-    {instr : Instr} → slice_get code.instrs.items at.place ≡ Some instr → MayBeRefused instr → {host_after : S} → (host_after ≡ between) ⊎ refuses between host_after →
+    {instr : Instr} → slice_get code.instrs at.place ≡ Some instr → MayBeRefused instr → {host_after : S} → (host_after ≡ between) ⊎ refuses between host_after →
     OnErr r (IsRefused takes refuses timers closed moment code start host host_after)
 refused_there (Ok x) refuses comes there may refused = tt
 refused_there (Err e) refuses {at = at} {between = between} comes {instr} there may refused =

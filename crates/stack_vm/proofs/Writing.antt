@@ -40,7 +40,7 @@ abbrev pub line_of : FormatText → List ℤ → List ℤ → Effect
 line_of format stack cells = effect.Line (rendered format (reverse (take (numbers_taken format) stack)) cells)
 
 -- a line is written, where its numbers are there
-pub write_row : (code : Code) (closed : Bool) (moment : ℕ) (m : Machine) (f : ℕ) (format : FormatText) (stack : List ℤ) → slice_get code.formats.items f ≡ Some format →
+pub write_row : (code : Code) (closed : Bool) (moment : ℕ) (m : Machine) (f : ℕ) (format : FormatText) (stack : List ℤ) → slice_get code.formats f ≡ Some format →
     numbers_taken format ≤ length stack → row code closed moment m (Write f) stack ≡ goes_on (after_effect (line_of format stack m.cells) m) (drop (numbers_taken format) stack)
 write_row code closed moment m f format stack e enough =
     let there : Bool = list_all (λ array. nat_le (array.0 + array.1) (length m.cells)) (char_arrays format) in

@@ -60,7 +60,7 @@ pub record IsRefused {S : Type 0} (takes : S → Effect → S → Type 0) (refus
   pub at : RunState
   pub between : S
   pub instr : Instr
-  pub is_there : slice_get code.instrs.items at.place ≡ Some instr
+  pub is_there : slice_get code.instrs at.place ≡ Some instr
   pub may_be : MayBeRefused instr
   pub comes : ComesTo takes timers closed moment code start host at between
   pub refused : (host_after ≡ between) ⊎ refuses between host_after

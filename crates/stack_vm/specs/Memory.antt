@@ -23,6 +23,6 @@ pub record HasRoomFor (numbers_room calls_room : ℕ) (m : Machine) : Type 0 whe
 
 -- a memory of this code: its cells hold numbers of their kinds, and there is room for every state that a run reaches
 pub record IsMemoryOf (code : Code) (memory : MemoryState) : Type 0 where
-  pub cells_held : HoldKinds code.cells.items memory.cells
+  pub cells_held : HoldKinds code.cells memory.cells
   pub room : (handler : ℕ) (start reached : Machine) (closed : Bool) (moment steps : ℕ) → IsStartOf code handler start →
       go code closed moment steps start ≡ Goes reached → HasRoomFor memory.numbers_room memory.calls_room reached

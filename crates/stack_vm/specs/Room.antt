@@ -15,4 +15,4 @@ deepest depths function = greatest (take (function.end - function.start) (drop f
 
 -- as many numbers as all functions together have at their greatest depths, since no function calls itself
 abbrev pub numbers_room : Code → ℕ
-numbers_room code = sum_by (deepest code.depths.items) code.functions.items
+numbers_room code = sum_by (deepest code.depths) code.functions

@@ -38,7 +38,7 @@ Does code instr before answer after = HasSameRoom before after × ((closed : Boo
 -- next place, and room for the state that it leads to.
 pub record IsReady (code : Code) (instr : Instr) (s : RunState) : Type 0 where
   pub numbers : AllByRecursion IsNumber s.stack
-  pub cells_held : HoldKinds code.cells.items s.cells
+  pub cells_held : HoldKinds code.cells s.cells
   pub taken : taken_by code instr ≤ length s.stack
   pub exist : NamesWhatExists code instr
   pub next : s.place + 1 < 2 ^ 64
@@ -50,7 +50,7 @@ pub record IsReady (code : Code) (instr : Instr) (s : RunState) : Type 0 where
 
 -- the function that an instruction calls exists
 abbrev pub CallsWhatExists : Code → Instr → Type 0
-CallsWhatExists code (Call f) = f < length code.functions.items
+CallsWhatExists code (Call f) = f < length code.functions
 CallsWhatExists code _ = ⊤
 
 -- an instruction that asks nothing of the host

@@ -27,13 +27,13 @@ pub(crate) fn turn(state: &mut State) -> Option<Outcome>
 #[inline]
 pub(crate) fn call(state: &mut State, code: &Code, f: u32) -> Option<Outcome>
     requires ready { IsReady code.now (Call f) state.old }
-    requires exists { f < length code.now.functions.items }
+    requires exists { f < length code.now.functions }
     ensures { Does code.now (Call f) state.old result state.new }
 {
     if state.turns() == 0 {
         return Some(Outcome::Cut);
     }
-    let start = code.functions[f as usize].start;
+    let start = code.functions.as_slice()[f as usize].start;
     state.take_turn();
     state.call(start as usize);
     None

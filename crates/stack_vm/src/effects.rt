@@ -86,7 +86,7 @@ pub(crate) fn set<H: Host>(state: &mut State, code: &Code, host: &mut H, timer: 
     ensures timers_stay { length (H.active_timers host.new) ≡ length (H.active_timers host.old) }
     ensures faults_stay { H.faults host.old ≤ H.faults host.new }
 {
-    let unit = code.timers[timer as usize];
+    let unit = code.timers.as_slice()[timer as usize];
     let duration = micros(unit, state.top());
     host.set_timer(timer, duration, cyclic);
     state.forget(1);
@@ -171,7 +171,7 @@ pub(crate) fn write<H: Host>(
     ensures faults_stay { H.faults host.old ≤ H.faults host.new }
     ensures rooms { (state.new.numbers_room ≡ state.old.numbers_room) × (state.new.calls_room ≡ state.old.calls_room) }
 {
-    let format = &code.formats[f as usize];
+    let format = &code.formats.as_slice()[f as usize];
     let text = line(state, format)?;
     host.line(text.bytes())?;
     state.forget(format.numbers_taken());

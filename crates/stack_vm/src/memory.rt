@@ -44,15 +44,15 @@ impl Memory {
     /// has several, and 0 where it has none. Takes time and memory linear in the code, but for the
     /// room for numbers, which is as large as the greatest depths of all functions together.
     pub fn make(alloc: Global, code: &Verified) -> Result<Memory, NoMemory>
-        ensures cells { IfOk result (λ memory. memory.cells ≡ with_starts (replicate (length code.now.cells.items) (pos 0)) code.now.starts.items) }
+        ensures cells { IfOk result (λ memory. memory.cells ≡ with_starts (replicate (length code.now.cells) (pos 0)) code.now.starts) }
         ensures of_code { IfOk result (IsMemoryOf code.now) }
     {
         let code = code.code();
         let numbers = numbers_room(code)?;
-        let cells = code.cells.as_slice().len();
-        let functions = code.functions.as_slice().len();
+        let cells = code.cells.len();
+        let functions = code.functions.len();
         let mut state = State::make(alloc, cells, numbers, functions)?;
-        for start in &code.starts {
+        for start in code.starts.as_slice() {
             state.set_cell(start.0 as usize, start.1);
         }
         Ok(Memory { state })

@@ -27,7 +27,7 @@ pub(crate) fn store(state: &mut State, code: &Code, cell: u32)
     requires { IsReady code.now (Store cell) state.old }
     ensures { Does code.now (Store cell) state.old None state.new }
 {
-    let kind = code.cells[cell as usize];
+    let kind = code.cells.as_slice()[cell as usize];
     let n = wrap(kind, state.top());
     state.set_cell(cell as usize, n);
     state.replace(n);
@@ -74,7 +74,7 @@ pub(crate) fn set_element(state: &mut State, code: &Code, base: u32, len: u32) -
         None => Some(Outcome::Trapped(TrapKind::Index)),
         Some(i) => {
             let cell = base as usize + i;
-            let kind = code.cells[cell];
+            let kind = code.cells.as_slice()[cell];
             let n = wrap(kind, state.top());
             state.set_cell(cell, n);
             state.replace_two(n);

@@ -14,8 +14,8 @@ pub(crate) fn numbers_room(code: &Code) -> Result<usize, NoMemory>
     ensures { IfOk result (λ room. room ≡ numbers_room code.now) }
 {
     let mut room = 0usize;
-    for function in &code.functions {
-        let most = deepest(&code.depths, function) as usize;
+    for function in code.functions.as_slice() {
+        let most = deepest(code.depths.as_slice(), function) as usize;
         room = room.checked_add(most).ok_or(NoMemory)?;
     }
     Ok(room)

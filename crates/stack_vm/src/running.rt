@@ -40,9 +40,9 @@ pub fn run<H: Host>(
     meter: &mut Meter,
     row: usize,
 ) -> Result<Outcome, RecordFault>
-    requires handler { handler < length code.now.handlers.items }
+    requires handler { handler < length code.now.handlers }
     requires memory { IsMemoryOf code.now memory.old }
-    requires timers { length code.now.timers.items ≤ length (H.active_timers host.old) }
+    requires timers { length code.now.timers ≤ length (H.active_timers host.old) }
     requires row { row < length meter.old }
     ensures ends { IfOk result (λ outcome. Runs H.takes H.active_timers (H.is_closed host.old) (H.moment host.old) code.now handler turns row memory.old host.old meter.old outcome memory.new host.new meter.new) }
     ensures of_code { IsMemoryOf code.now memory.new }
@@ -52,8 +52,8 @@ pub fn run<H: Host>(
     ensures faults_stay { H.faults host.old ≤ H.faults host.new }
 {
     let code = code.code();
-    let function = code.handlers[handler as usize].function;
-    let start = code.functions[function as usize].start;
+    let function = code.handlers.as_slice()[handler as usize].function;
+    let start = code.functions.as_slice()[function as usize].start;
     memory.state.begin(start as usize, turns);
     let outcome = run_on(&mut memory.state, code, host)?;
     meter.add_run(row, turns.saturating_sub(memory.state.turns()));
@@ -67,13 +67,13 @@ fn run_on<H: Host>(state: &mut State, code: &Code, host: &mut H) -> Result<Outco
     requires room { (steps : ℕ) (reached : Machine) → go code.now (H.is_closed host.old) (H.moment host.old) steps (machine state.old (H.active_timers host.old) []) ≡ Goes reached → HasRoomFor state.old.numbers_room state.old.calls_room reached }
     ensures ends { IfOk result (λ outcome. RunsTo H.takes H.active_timers (H.is_closed host.old) (H.moment host.old) code.now state.old host.old outcome state.new host.new) }
     ensures refused { OnErr result (IsRefused H.takes H.refuses H.active_timers (H.is_closed host.old) (H.moment host.old) code.now state.old host.old host.new) }
-    ensures cells_held { HoldKinds code.now.cells.items state.new.cells }
+    ensures cells_held { HoldKinds code.now.cells state.new.cells }
     ensures same_room { HasSameRoom state.old state.new }
     ensures sink { IsErrOf result RecordFault.Sink → HasRisen (H.faults host.old) (H.faults host.new) }
     ensures faults_stay { H.faults host.old ≤ H.faults host.new }
 {
     loop {
-        let instr = &code.instrs[state.place()];
+        let instr = &code.instrs.as_slice()[state.place()];
         if let Some(outcome) = step(state, code, host, instr)? {
             return Ok(outcome);
         }

@@ -22,7 +22,7 @@ pub(crate) fn step<H: Host>(
     requires verified { IsVerified code.now }
     requires ready { IsReady code.now instr.now state.old }
     requires called { CallsWhatExists code.now instr.now }
-    requires timers { length code.now.timers.items ≤ length (H.active_timers host.old) }
+    requires timers { length code.now.timers ≤ length (H.active_timers host.old) }
     requires room { HasRoomForAnswer instr.now state.old }
     ensures does { IfOk result (λ answer. DoesTo H.takes H.active_timers (H.is_closed host.old) (H.moment host.old) code.now instr.now state.old host.old answer state.new host.new) }
     ensures refused { OnErr result ((host.new ≡ host.old) ⊎ H.refuses host.old host.new) }

@@ -8,6 +8,7 @@ use super::*;
 use bytecode::{Code, Fun, Handler, Instr, Verified, VerifyRefusal, verify};
 use can_frame::{Frame, Ident};
 use int_kinds::{BinOp, Kind};
+use items::Items;
 use sim_outside::NoMemory;
 use std::alloc::{AllocError, Global};
 use std::process::Abort;
@@ -109,7 +110,7 @@ const MESSAGE: [Kind; 14] = [
 /// Code of one function, which runs when the measurement begins. After the event's cells there are a
 /// long, which begins with 7, and a message from cell 16 on. Format 0 is the line `go`.
 fn code(alloc: Global, instrs: &[Instr], depths: &[u32]) -> Result<Code, AllocError>
-    ensures { IfOk result (λ code. All IsShort code.formats.items) }
+    ensures { IfOk result (λ code. All IsShort code.formats) }
 {
     let end = u32::try_from(instrs.len()).unwrap_or(u32::MAX);
     let mut cells = MESSAGE.to_vec(alloc)?;
@@ -117,27 +118,27 @@ fn code(alloc: Global, instrs: &[Instr], depths: &[u32]) -> Result<Code, AllocEr
     cells.extend_from_slice(&MESSAGE)?;
     let format = Format::read(alloc, b"go", &[]).map_err(|_| AllocError)?;
     Ok(Code {
-        instrs: instrs.to_vec(alloc)?,
-        depths: depths.to_vec(alloc)?,
-        functions: vec![in alloc;
+        instrs: Items::from_list(instrs.to_vec(alloc)?),
+        depths: Items::from_list(depths.to_vec(alloc)?),
+        functions: Items::from_list(vec![in alloc;
             Fun {
                 start: 0,
                 end,
                 gives: false
             },
-        ]?,
-        handlers: vec![in alloc;
+        ]?),
+        handlers: Items::from_list(vec![in alloc;
             Handler {
                 event: Event::Start,
                 function: 0,
                 file: 0,
                 line: 1
             },
-        ]?,
-        cells,
-        starts: vec![in alloc; (15, 7)]?,
-        timers: vec![in alloc; 1000, 1_000_000]?,
-        formats: vec![in alloc; format]?,
+        ]?),
+        cells: Items::from_list(cells),
+        starts: Items::from_list(vec![in alloc; (15, 7)]?),
+        timers: Items::from_list(vec![in alloc; 1000, 1_000_000]?),
+        formats: Items::from_list(vec![in alloc; format]?),
     })
 }
 
@@ -145,7 +146,7 @@ fn code(alloc: Global, instrs: &[Instr], depths: &[u32]) -> Result<Code, AllocEr
 const LIMIT: usize = 0x1_0000_0000;
 
 fn is_short(code: &Code) -> bool
-    requires { All IsShort code.now.formats.items }
+    requires { All IsShort code.now.formats }
     ensures { IsTrue result → IsShortCode code.now }
 {
     code.instrs.len() < LIMIT
@@ -154,6 +155,7 @@ fn is_short(code: &Code) -> bool
         && code.handlers.len() < LIMIT
         && code
             .handlers
+            .as_slice()
             .iter()
             .all(|handler| matches!(handler.event, Event::Start))
         && code.cells.len() < LIMIT

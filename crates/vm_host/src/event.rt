@@ -1,41 +1,23 @@
 // What an event procedure reacts to.
 
-ghost use Rattle.std.specs.Prelude.{◌≡◌};
+ghost use Rattle.std.specs.Prelude.{◌≡◌, IfOk};
 
-use std::marker::Model;
+use items::Items;
+use sim_outside::NoMemory;
 
-/// Which frames a message procedure is for: a list of ranks, each with the least and the greatest
-/// selection key of a frame's identifier.
+/// Which frames a message procedure is for: those whose identifier's selection key is from `low` to
+/// `high`.
 ///
 /// The rank is 0 for one identifier or a database name, 1 for a range and 2 for `*`, whose keys are
 /// 0 to 0xFFFF_FFFF. A procedure of a lesser rank goes before one of a greater.
-#[derive(Debug, Drop)]
-pub struct Selectors {
-    list: Vec<(u8, u32, u32)>,
-}
-
-impl Model for Selectors {
-    ghost use Rattle.std.specs.Prelude.{List, ℕ};
-
-    ghost Value = { List (ℕ × ℕ × ℕ) };
-
-    ghost view = { λ selectors. selectors.list.items };
-}
-
-impl Selectors {
-    /// The selectors of this list.
-    pub fn new(list: Vec<(u8, u32, u32)>) -> Selectors
-        ensures { result ≡ list.items }
-    {
-        Selectors { list }
-    }
-
-    /// The list.
-    pub fn list(&self) -> &[(u8, u32, u32)]
-        ensures { result.now ≡ self.now }
-    {
-        self.list.as_slice()
-    }
+#[derive(Clone, Copy, Debug, PartialEq, Eq)]
+pub struct Selector {
+    /// Whose turn it is among the selectors that hold a frame: 0, 1 or 2.
+    pub rank: u8,
+    /// The least selection key.
+    pub low: u32,
+    /// The greatest selection key.
+    pub high: u32,
 }
 
 /// What an event procedure reacts to.
@@ -48,9 +30,25 @@ pub enum Event {
     /// `on stopMeasurement`: when it has ended.
     Stop,
     /// `on message`: when a frame of these selectors was on the bus.
-    Message(Selectors),
+    Message(Items<Selector>),
     /// `on timer`: when the timer of this number is due.
     Timer(u32),
     /// `on key`: when this key is pressed, or with `None` (`*`) a key that has no procedure.
     Key(Option<u8>),
+}
+
+impl Event {
+    /// The same event once more. Takes time and memory linear in the selectors.
+    pub fn copy(&self) -> Result<Event, NoMemory>
+        ensures { IfOk result (λ event. event ≡ self.now) }
+    {
+        Ok(match self {
+            Event::PreStart => Event::PreStart,
+            Event::Start => Event::Start,
+            Event::Stop => Event::Stop,
+            Event::Message(selectors) => Event::Message(selectors.copy()?),
+            Event::Timer(timer) => Event::Timer(*timer),
+            Event::Key(key) => Event::Key(*key),
+        })
+    }
 }

@@ -5,7 +5,7 @@
 //! does with an effect is the relation `takes`, and what a refused call leaves is `refuses`.
 #![tactic(auto)]
 
-pub use event::{Event, Selectors};
+pub use event::{Event, Selector};
 pub use host::{Host, RecordFault};
 pub use outcome::{Outcome, TrapKind};
 

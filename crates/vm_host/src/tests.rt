@@ -2,6 +2,7 @@ ghost use Rattle.std.specs.Prelude.{◌≡◌, ◌<◌, ◌≤◌, length};
 
 use super::*;
 use can_frame::{Frame, Ident};
+use items::Items;
 use sim_outside::NoMemory;
 use std::test::Fail;
 
@@ -118,8 +119,14 @@ fn a_closed_host_takes_lines_alone(rt: HostRuntime) -> Result<(), Fail> {
 }
 
 #[test]
-fn selectors_show_their_list(rt: HostRuntime) -> Result<(), Fail> {
-    let selectors = Selectors::new(vec![in rt.alloc(); (0, 5, 5), (2, 0, u32::MAX)]?);
-    assert_eq!(rt; selectors.list(), [(0, 5, 5), (2, 0, u32::MAX)].as_slice());
+fn events_are_copied(rt: HostRuntime) -> Result<(), Fail> {
+    let selector = Selector {
+        rank: 0,
+        low: 5,
+        high: 5,
+    };
+    let selectors = Items::from_list(vec![in rt.alloc(); selector]?);
+    let event = Event::Message(selectors).copy().ok().ok_or("memory")?;
+    assert!(rt; matches!(event, Event::Message(own) if own.as_slice() == [selector].as_slice()));
     Ok(())
 }

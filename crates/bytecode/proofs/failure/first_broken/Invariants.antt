@@ -4,4 +4,4 @@ use Rattle.bytecode.specs.Failure.{KeepsRulesOf}
 use Rattle.bytecode.proofs.failure.first_broken.Given as goal
 
 abbrev pub invariant-loop-number : goal.invariant-loop-number
-invariant-loop-number l = (earlier : ℕ) (function : Fun) → earlier < l.number → slice_get l.code.functions.items earlier ≡ Some function → KeepsRulesOf l.code earlier function
+invariant-loop-number l = (earlier : ℕ) (function : Fun) → earlier < l.number → slice_get l.code.functions earlier ≡ Some function → KeepsRulesOf l.code earlier function

@@ -1,6 +1,5 @@
-use Rattle.std.proofs.Common.{arith, refl, ◌≡◌, ◌≤◌, ℕ, true, false, length, slice_get, Some, sym, ◌∙◌, subst}
+use Rattle.std.proofs.Common.{arith, refl, ◌≡◌, ◌≤◌, ℕ, true, false, length, slice_get, Some, ap, sym, ◌∙◌, subst}
 use borrow.Author.Count.{below_more}
-use Rattle.std.proofs.lemmas.Option.{slice_get_read}
 use Rattle.bytecode.specs.declared.code.Code.{Code}
 use Rattle.bytecode.specs.declared.code.Fun.{Fun}
 use Rattle.bytecode.specs.declared.instr.Instr.{Instr}
@@ -8,26 +7,27 @@ use Rattle.bytecode.specs.Rule.{KeepsRule}
 use Rattle.bytecode.specs.Verified.{IsLaidOut}
 use Rattle.bytecode.specs.Failure.{KeepsRuleIn}
 use Rattle.bytecode.proofs.Covered.{Cover-between, LiesBetween}
+use Rattle.bytecode.proofs.ItemsRead.{read_there}
 use Rattle.bytecode.proofs.failure.first_broken_of.Goals as goal
 
 -- a function of laid out code lies among its instructions
-lies : (code : Code) (number : ℕ) (function : Fun) → IsLaidOut code → slice_get code.functions.items number ≡ Some function →
-    LiesBetween 0 (length code.instrs.items) function
-lies code number function laid there = Cover-between 0 code.functions.items (length code.instrs.items) laid.covered number function there
+lies : (code : Code) (number : ℕ) (function : Fun) → IsLaidOut code → slice_get code.functions number ≡ Some function →
+    LiesBetween 0 (length code.instrs) function
+lies code number function laid there = Cover-between 0 code.functions (length code.instrs) laid.covered number function there
 
-pub index-instr-requires : goal.index-instr-requires
-index-instr-requires c =
+pub bounds-instrs-place : goal.bounds-instrs-place
+bounds-instrs-place c =
     let l = lies c.args.code.now c.args.number c.args.function c.requires.laid_out c.requires.is_there in
-    omega (arith, l.ends)
+    omega (arith, l.ends, ap length c.as_slice-instrs.ensures)
 
-pub index-depth-requires : goal.index-depth-requires
-index-depth-requires c =
+pub bounds-depths-place : goal.bounds-depths-place
+bounds-depths-place c =
     let l = lies c.args.code.now c.args.number c.args.function c.requires.laid_out c.requires.is_there in
-    omega (arith, l.ends)
+    omega (arith, l.ends, ap length c.as_slice-depths.ensures)
 
 -- the instruction and the depth that were read at a place are those of its rule
 read : (code : Code) (number : ℕ) (function : Fun) (place : ℕ) (instr : Instr) (depth : ℕ) →
-    slice_get code.instrs.items place ≡ Some instr → slice_get code.depths.items place ≡ Some depth →
+    slice_get code.instrs place ≡ Some instr → slice_get code.depths place ≡ Some depth →
     KeepsRule code number function place instr depth → KeepsRuleIn code number function place
 read code number function place instr depth ei ed keeps instr' depth' ei' ed' =
     let i : instr ≡ instr' = cc in
@@ -38,8 +38,8 @@ read code number function place instr depth ei ed keeps instr' depth' ei' ed' =
 pub returns-then-not-keeps_rule : goal.returns-then-not-keeps_rule
 returns-then-not-keeps_rule c =
     let l = lies c.args.code.now c.args.number c.args.function c.requires.laid_out c.requires.is_there in
-    let ei = slice_get_read c.args.code.now.instrs.items _ c.loop-place.place c.index-instr.result.now refl (omega (arith, l.ends)) c.index-instr.ensures in
-    let ed = slice_get_read c.args.code.now.depths.items _ c.loop-place.place c.index-depth.result.now (sym c.requires.laid_out.depths) (omega (arith, l.ends)) c.index-depth.ensures in
+    let ei = read_there c.as_slice-instrs.result.now c.args.code.now.instrs c.as_slice-instrs.ensures c.loop-place.place _ (omega (arith, l.ends)) in
+    let ed = read_there c.as_slice-depths.result.now c.args.code.now.depths c.as_slice-depths.ensures c.loop-place.place _ (omega (arith, l.ends, c.requires.laid_out.depths)) in
     record {
       inside = record { from = c.loop-place.auto.place; below = c.loop-place-test.true };
       breaks = λ keeps. (let t : true ≡ false = sym (c.keeps_rule.ensures.1 (keeps _ _ ei ed)) ∙ c.if-not-keeps_rule.true in cc);
@@ -49,8 +49,8 @@ returns-then-not-keeps_rule c =
 pub loop-place-preserved : goal.loop-place-preserved
 loop-place-preserved c =
     let l = lies c.args.code.now c.args.number c.args.function c.requires.laid_out c.requires.is_there in
-    let ei = slice_get_read c.args.code.now.instrs.items _ c.loop-place.place c.index-instr.result.now refl (omega (arith, l.ends)) c.index-instr.ensures in
-    let ed = slice_get_read c.args.code.now.depths.items _ c.loop-place.place c.index-depth.result.now (sym c.requires.laid_out.depths) (omega (arith, l.ends)) c.index-depth.ensures in
+    let ei = read_there c.as_slice-instrs.result.now c.args.code.now.instrs c.as_slice-instrs.ensures c.loop-place.place _ (omega (arith, l.ends)) in
+    let ed = read_there c.as_slice-depths.result.now c.args.code.now.depths c.as_slice-depths.ensures c.loop-place.place _ (omega (arith, l.ends, c.requires.laid_out.depths)) in
     let keeps = read c.args.code.now c.args.number c.args.function c.loop-place.place _ _ ei ed (c.keeps_rule.ensures.0 c.if-not-keeps_rule.false) in
     λ earlier low high. below_more (λ p. c.args.function.start ≤ p → KeepsRuleIn c.args.code.now c.args.number c.args.function p) c.loop-place.place
     (λ p b from. c.loop-place.invariant p from b) (λ _. keeps) earlier high low

@@ -2,16 +2,17 @@ use Rattle.std.proofs.Common.{◌≡◌, ◌≢◌, ◌≤◌, ◌<◌, ◌↔�
 use Rattle.std.specs.Prelude.{All, AllPairs}
 use Rattle.bytecode.specs.Failure.{KeepsEvents}
 use Rattle.bytecode.specs.Tables.{AreApart}
+use Rattle.vm_host.specs.declared.event.Selector.{Selector}
 use Rattle.bytecode.proofs.tables.keeps_events.Goals as goal
 
 -- where all other rules hold, the keys decide
-keys_decide : (selectors read_selectors : List (ℕ × ℕ × ℕ)) (timers read_timers : List ℕ) (keys : List (Option ℕ)) (count : ℕ) →
-    read_selectors ≡ selectors → read_timers ≡ timers → All (λ s. s.0 ≤ 2) read_selectors → All (λ t. t < count) read_timers →
+keys_decide : (selectors read_selectors : List Selector) (timers read_timers : List ℕ) (keys : List (Option ℕ)) (count : ℕ) →
+    read_selectors ≡ selectors → read_timers ≡ timers → All (λ s. s.rank ≤ 2) read_selectors → All (λ t. t < count) read_timers →
     AllPairs AreApart selectors → AllPairs (λ a b. a ≢ b) timers → (r : Bool) → IsTrue r ↔ AllPairs (λ a b. a ≢ b) keys →
     IsTrue r ↔ KeepsEvents selectors timers keys count
 keys_decide selectors read_selectors timers read_timers keys count es et ranks exist apart differ r h = (
   λ t. record {
-    ranks = subst (λ (xs : List (ℕ × ℕ × ℕ)). All (λ s. s.0 ≤ 2) xs) es ranks;
+    ranks = subst (λ (xs : List Selector). All (λ s. s.rank ≤ 2) xs) es ranks;
     timers_exist = subst (λ (xs : List ℕ). All (λ t. t < count) xs) et exist;
     selectors_apart = apart;
     timers_differ = differ;

@@ -14,7 +14,7 @@ call-requires-clause-room c =
     let r = c.requires.ready in
     let g : Fun = c.index.result.now in
     let t : s.turns ≡ suc (s.turns - 1) = omega (arith, c.turns.ensures) in
-    let f = r.fits _ (call_row c.args.code.now r.closed r.moment (machine s r.active r.effects) c.args.f g (s.turns - 1) s.stack (item_read c.args.code.now.functions.items refl c.requires.exists c.index.ensures) t) in
+    let f = r.fits _ (call_row c.args.code.now r.closed r.moment (machine s r.active r.effects) c.args.f g (s.turns - 1) s.stack (item_read c.args.code.now.functions refl c.requires.exists c.index.ensures) t) in
     omega (arith, f.calls, ap (λ (z : RunState). length z.calls) c.take_turn.ensures, ap (λ (z : RunState). z.calls_room) c.take_turn.ensures)
 
 pub returns : goal.returns
@@ -24,5 +24,5 @@ returns c =
     let t : s.turns ≡ suc (s.turns - 1) = omega (arith, c.turns.ensures) in
     let there : RunState = record s { place = g.start; calls = (s.place + 1) ∷ s.calls; turns = s.turns - 1 } in
     does c.args.code.now (Call c.args.f) s None c.call.new.self there refl refl
-    (λ closed moment active effects. call_row c.args.code.now closed moment (machine s active effects) c.args.f g (s.turns - 1) s.stack (item_read c.args.code.now.functions.items refl c.requires.exists c.index.ensures) t)
+    (λ closed moment active effects. call_row c.args.code.now closed moment (machine s active effects) c.args.f g (s.turns - 1) s.stack (item_read c.args.code.now.functions refl c.requires.exists c.index.ensures) t)
     (c.call.ensures ∙ ap (λ (z : RunState). record z { place = g.start; calls = (z.place + 1) ∷ z.calls }) c.take_turn.ensures)

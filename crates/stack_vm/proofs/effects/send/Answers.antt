@@ -12,7 +12,7 @@ use Rattle.stack_vm.specs.Run.{machine}
 use Rattle.stack_vm.proofs.effects.send.Goals as goal
 
 pub frame-requires : goal.frame-requires
-frame-requires g c = message_in c.requires.0.cells.items c.args.state.now.cells c.args.at c.requires.1.cells_held c.requires.1.exist
+frame-requires g c = message_in c.requires.0.cells c.args.state.now.cells c.args.at c.requires.1.cells_held c.requires.1.exist
 
 pub returns-clause-does : goal.returns-clause-does
 returns-clause-does g c =
@@ -21,7 +21,7 @@ returns-clause-does g c =
     let at : ℕ = c.args.at in
     let moment : ℕ = g.H.Host.moment host in
     let timers : List Bool = g.H.Host.active_timers host in
-    let is = message_there c.requires.0.cells.items s.cells at c.requires.1.cells_held c.requires.1.exist in
+    let is = message_there c.requires.0.cells s.cells at c.requires.1.cells_held c.requires.1.exist in
     let there : RunState = record s { place = s.place + 1 } in
     λ code. does_either g.H.Host.takes g.H.Host.active_timers moment code (Send at) s host c.forget.new.self c.send.new.self (g.H.Host.is_closed host)
     (λ closed. does_quietly g.H.Host.takes g.H.Host.active_timers moment code (Send at) s host c.forget.new.self c.send.new.self true there refl refl

@@ -14,7 +14,7 @@ use Rattle.stack_vm.proofs.Ready.{does}
 use Rattle.stack_vm.proofs.messages.bytes.Goals as goal
 
 pub payload-requires : goal.payload-requires
-payload-requires c = message_in c.requires.0.cells.items c.args.state.now.cells c.args.at c.requires.1.cells_held c.requires.1.exist
+payload-requires c = message_in c.requires.0.cells c.args.state.now.cells c.args.at c.requires.1.cells_held c.requires.1.exist
 
 pub returns-in-None : goal.returns-in-None
 returns-in-None c =
@@ -24,7 +24,7 @@ returns-in-None c =
     let raw : ℤ = cast_signed w128 (cast_unsigned w128 c.top.result) in
     let is : index_of (get_or s.stack 0 (pos 0)) (9 - size k) ≡ None =
     ap (λ (z : ℤ). index_of z (9 - size k)) (sym top) ∙ ap (λ (n : ℕ). index_of raw (9 - n)) (sym c.size.ensures) ∙ sym c.in-None.ensures in
-    let there = message_there c.requires.0.cells.items s.cells c.args.at c.requires.1.cells_held c.requires.1.exist in
+    let there = message_there c.requires.0.cells s.cells c.args.at c.requires.1.cells_held c.requires.1.exist in
     λ code. (
       record { numbers = refl; calls = refl },
       λ closed moment active effects. bytes_row code closed moment (machine s active effects) k c.args.at s.stack c.requires.1.taken there
@@ -40,7 +40,7 @@ returns-in-Some c =
     let raw : ℤ = cast_signed w128 (cast_unsigned w128 c.top.result) in
     let is : index_of (get_or s.stack 0 (pos 0)) (9 - size k) ≡ Some first =
     ap (λ (z : ℤ). index_of z (9 - size k)) (sym top) ∙ ap (λ (n : ℕ). index_of raw (9 - n)) (sym c.size.ensures) ∙ sym c.in-Some.ensures in
-    let there' = message_there c.requires.0.cells.items s.cells c.args.at c.requires.1.cells_held c.requires.1.exist in
+    let there' = message_there c.requires.0.cells s.cells c.args.at c.requires.1.cells_held c.requires.1.exist in
     let v : ℤ = number_at k first (payload_of (cells_at c.args.at s.cells)) in
     let n = got c.number_at-n.result v (record { sfits = c.number_at-n.type_inv }) (c.number_at-n.ensures ∙ ap (λ (payload : List ℕ). number_at k first payload) c.payload.ensures) in
     let there : ℤ → RunState = λ z. record s { place = s.place + 1; stack = z ∷ drop 1 s.stack } in

@@ -10,12 +10,12 @@ use Rattle.stack_vm.proofs.Ready.{does}
 use Rattle.stack_vm.proofs.messages.copy.Goals as goal
 
 pub message-message-requires : goal.message-message-requires
-message-message-requires c = message_in c.requires.0.cells.items c.args.state.now.cells c.args.from c.requires.1.cells_held c.requires.1.exist.1
+message-message-requires c = message_in c.requires.0.cells c.args.state.now.cells c.args.from c.requires.1.cells_held c.requires.1.exist.1
 
 pub put-requires : goal.put-requires
 put-requires c =
     let s : RunState = c.args.state.now in
-    let kinds = c.requires.0.cells.items in
+    let kinds = c.requires.0.cells in
     let n = length-cells_at s.cells c.args.from (message_in kinds s.cells c.args.from c.requires.1.cells_held c.requires.1.exist.1) in
     let len : length c.message-message.result ≡ 14 = ap length c.message-message.ensures ∙ n in
     omega (arith, len, message_in kinds s.cells c.args.to c.requires.1.cells_held c.requires.1.exist.0)
@@ -23,7 +23,7 @@ put-requires c =
 pub returns : goal.returns
 returns c =
     let s : RunState = c.args.state.now in
-    let kinds = c.requires.0.cells.items in
+    let kinds = c.requires.0.cells in
     let held = c.requires.1.cells_held in
     let is_to = c.requires.1.exist.0 in
     let is_from = c.requires.1.exist.1 in

@@ -29,7 +29,7 @@ put-requires c =
     let is : index_of (get_or s.stack 1 (pos 0)) (9 - size k) ≡ Some c.in-Some.first =
     ap (λ (z : ℤ). index_of z (9 - size k)) (sym under) ∙ ap (λ (n : ℕ). index_of raw (9 - n)) (sym c.size.ensures) ∙ sym c.in-Some.ensures in
     let below : c.in-Some.first < 9 - size k = (index_is (get_or s.stack 1 (pos 0)) (9 - size k) c.in-Some.first (machine s c.requires.1.active c.requires.1.effects) (λ _. Stuck) is).below in
-    let within = message_in c.requires.0.cells.items s.cells c.args.at c.requires.1.cells_held c.requires.1.exist in
+    let within = message_in c.requires.0.cells s.cells c.args.at c.requires.1.cells_held c.requires.1.exist in
     omega (arith, below, within, c.size-in-Some.ensures, length-take c.size-in-Some.result c.cells_of-cells.result)
 
 pub wrap-requires : goal.wrap-requires
@@ -46,7 +46,7 @@ returns-in-None c =
     let raw : ℤ = cast_signed w128 (cast_unsigned w128 c.under.result) in
     let is : index_of (get_or s.stack 1 (pos 0)) (9 - size k) ≡ None =
     ap (λ (z : ℤ). index_of z (9 - size k)) (sym under) ∙ ap (λ (n : ℕ). index_of raw (9 - n)) (sym c.size.ensures) ∙ sym c.in-None.ensures in
-    let there = message_there c.requires.0.cells.items s.cells c.args.at c.requires.1.cells_held c.requires.1.exist in
+    let there = message_there c.requires.0.cells s.cells c.args.at c.requires.1.cells_held c.requires.1.exist in
     λ code. (
       record { numbers = refl; calls = refl },
       λ closed moment active effects. set_bytes_row code closed moment (machine s active effects) k c.args.at s.stack c.requires.1.taken there
@@ -64,7 +64,7 @@ returns-in-Some c =
     let raw : ℤ = cast_signed w128 (cast_unsigned w128 c.under.result) in
     let is : index_of (get_or s.stack 1 (pos 0)) (9 - size k) ≡ Some first =
     ap (λ (z : ℤ). index_of z (9 - size k)) (sym under) ∙ ap (λ (j : ℕ). index_of raw (9 - j)) (sym c.size.ensures) ∙ sym c.in-Some.ensures in
-    let there' = message_there c.requires.0.cells.items s.cells c.args.at c.requires.1.cells_held c.requires.1.exist in
+    let there' = message_there c.requires.0.cells s.cells c.args.at c.requires.1.cells_held c.requires.1.exist in
     let top = got c.top-n.result n (record { sfits = c.top-n.type_inv }) c.top-n.ensures in
     let wrapped = passed c.wrap.result (wrap k n) (c.wrap.ensures ∙ ap (wrap k) top) (IsNumber-wrap k n) in
     let word : List ℕ = to_le_bytes w64 (residue Qword n) in

@@ -13,7 +13,7 @@ use Rattle.stack_vm.proofs.messages.set_field.Goals as goal
 
 pub set_cell-requires : goal.set_cell-requires
 set_cell-requires c =
-    let within = message_in c.requires.0.cells.items c.args.state.now.cells c.args.at c.requires.1.cells_held c.requires.1.exist.1 in
+    let within = message_in c.requires.0.cells c.args.state.now.cells c.args.at c.requires.1.cells_held c.requires.1.exist.1 in
     omega (arith, c.from.ensures, c.requires.1.exist.0, within)
 
 pub returns : goal.returns
@@ -21,7 +21,7 @@ returns c =
     let s : RunState = c.args.state.now in
     let f : ℕ = c.args.field in
     let top = got c.top.result (get_or s.stack 0 (pos 0)) (record { sfits = c.top.type_inv }) c.top.ensures in
-    let is = message_there c.requires.0.cells.items s.cells c.args.at c.requires.1.cells_held c.requires.1.exist.1 in
+    let is = message_there c.requires.0.cells s.cells c.args.at c.requires.1.cells_held c.requires.1.exist.1 in
     let v : ℤ = pos (slice_index_or write_rules f written_can (get_or s.stack 0 (pos 0))) in
     let n = got c.from-n.result v (record { sfits = c.from-n.type_inv }) (c.from-n.ensures ∙ ap pos (c.written.ensures ∙ ap (λ (z : ℤ). slice_index_or write_rules f written_can z) top)) in
     let there : ℕ → ℤ → RunState = λ i z. record s { place = s.place + 1; stack = z ∷ drop 1 s.stack; cells = slice_set s.cells (c.args.at + i) z } in

@@ -15,11 +15,11 @@ use Rattle.stack_vm.proofs.Ready.{does}
 use Rattle.stack_vm.proofs.messages.set_signal.Goals as goal
 
 pub payload-bytes-requires : goal.payload-bytes-requires
-payload-bytes-requires c = message_in c.requires.0.cells.items c.args.state.now.cells c.args.at c.requires.1.cells_held c.requires.1.exist.1
+payload-bytes-requires c = message_in c.requires.0.cells c.args.state.now.cells c.args.at c.requires.1.cells_held c.requires.1.exist.1
 
 pub put-requires-2 : goal.put-requires-2
 put-requires-2 c =
-    let within = message_in c.requires.0.cells.items c.args.state.now.cells c.args.at c.requires.1.cells_held c.requires.1.exist.1 in
+    let within = message_in c.requires.0.cells c.args.state.now.cells c.args.at c.requires.1.cells_held c.requires.1.exist.1 in
     let n : length c.cells_of.result ≡ 8 = ap length c.cells_of.ensures ∙ length-map c.put.new.payload pos ∙ c.put.array_long in
     omega (arith, n, within)
 
@@ -29,7 +29,7 @@ returns c =
     let l = c.args.layout in
     let bytes : List ℕ = c.put.new.payload in
     let top = got c.top.result (get_or s.stack 0 (pos 0)) (record { sfits = c.top.type_inv }) c.top.ensures in
-    let is = message_there c.requires.0.cells.items s.cells c.args.at c.requires.1.cells_held c.requires.1.exist.1 in
+    let is = message_there c.requires.0.cells s.cells c.args.at c.requires.1.cells_held c.requires.1.exist.1 in
     let old : List ℕ = payload_of (cells_at c.args.at s.cells) in
     let after : bytes ≡ payload_with l old (get_or s.stack 0 (pos 0)) =
     c.put.ensures.payload ∙ ap (λ (payload : List ℕ). payload_with l payload (cast_signed w128 (cast_unsigned w128 c.top.result))) c.payload-bytes.ensures ∙ ap (λ (z : ℤ). payload_with l old z) top in

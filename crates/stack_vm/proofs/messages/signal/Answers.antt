@@ -12,13 +12,13 @@ use Rattle.stack_vm.proofs.Ready.{does, room_to_give}
 use Rattle.stack_vm.proofs.messages.signal.Goals as goal
 
 pub payload-requires : goal.payload-requires
-payload-requires c = message_in c.requires.0.cells.items c.args.state.now.cells c.args.at c.requires.1.cells_held c.requires.1.exist.1
+payload-requires c = message_in c.requires.0.cells c.args.state.now.cells c.args.at c.requires.1.cells_held c.requires.1.exist.1
 
 pub give-requires-clause-room : goal.give-requires-clause-room
 give-requires-clause-room c =
     let s : RunState = c.args.state.now in
     let r = c.requires.1 in
-    let is = message_there c.requires.0.cells.items s.cells c.args.at r.cells_held r.exist.1 in
+    let is = message_there c.requires.0.cells s.cells c.args.at r.cells_held r.exist.1 in
     room_to_give c.requires.0 (Sig c.args.layout c.args.at) s r (signal_value c.args.layout (payload_of (cells_at c.args.at s.cells)) ∷ s.stack)
     (signal_row c.requires.0 r.closed r.moment (machine s r.active r.effects) c.args.layout c.args.at s.stack is)
 
@@ -26,7 +26,7 @@ pub returns : goal.returns
 returns c =
     let s : RunState = c.args.state.now in
     let l = c.args.layout in
-    let is = message_there c.requires.0.cells.items s.cells c.args.at c.requires.1.cells_held c.requires.1.exist.1 in
+    let is = message_there c.requires.0.cells s.cells c.args.at c.requires.1.cells_held c.requires.1.exist.1 in
     let there : ℤ → RunState = λ z. record s { place = s.place + 1; stack = z ∷ s.stack } in
     let v : ℤ = signal_value l (payload_of (cells_at c.args.at s.cells)) in
     let n = got c.get-n.result v (record { sfits = c.get-n.type_inv }) (c.get-n.ensures.value ∙ ap (λ (payload : List ℕ). signal_value l payload) c.payload.ensures) in

@@ -9,20 +9,20 @@ use Rattle.stack_vm.proofs.Ready.{does, room_to_give}
 use Rattle.stack_vm.proofs.places.load.Goals as goal
 
 pub cell-n-requires : goal.cell-n-requires
-cell-n-requires c = cell_there c.requires.0.cells.items c.args.state.now.cells c.args.cell c.requires.1.cells_held c.requires.1.exist
+cell-n-requires c = cell_there c.requires.0.cells c.args.state.now.cells c.args.cell c.requires.1.cells_held c.requires.1.exist
 
 pub give-requires-clause-room : goal.give-requires-clause-room
 give-requires-clause-room c =
     let s : RunState = c.args.state.now in
     let r = c.requires.1 in
-    let there = cell_there c.requires.0.cells.items s.cells c.args.cell r.cells_held r.exist in
+    let there = cell_there c.requires.0.cells s.cells c.args.cell r.cells_held r.exist in
     room_to_give c.requires.0 (Load c.args.cell) s r (get_or s.cells c.args.cell (pos 0) ∷ s.stack)
     (load_row c.requires.0 r.closed r.moment (machine s r.active r.effects) c.args.cell s.stack there)
 
 pub returns : goal.returns
 returns c =
     let s : RunState = c.args.state.now in
-    let there' = cell_there c.requires.0.cells.items s.cells c.args.cell c.requires.1.cells_held c.requires.1.exist in
+    let there' = cell_there c.requires.0.cells s.cells c.args.cell c.requires.1.cells_held c.requires.1.exist in
     let there : ℤ → RunState = λ z. record s { place = s.place + 1; stack = z ∷ s.stack } in
     let n = got c.cell-n.result (get_or s.cells c.args.cell (pos 0)) (record { sfits = c.cell-n.type_inv }) c.cell-n.ensures in
     λ code. does code (Load c.args.cell) s None c.give.new.self (there (get_or s.cells c.args.cell (pos 0))) refl refl

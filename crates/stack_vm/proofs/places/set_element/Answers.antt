@@ -21,12 +21,12 @@ set_cell-requires c =
     let top = got c.under.result (get_or s.stack 1 (pos 0)) (record { sfits = c.under.type_inv }) c.under.ensures in
     let is : index_of (get_or s.stack 1 (pos 0)) c.args.len ≡ Some c.in-Some.i = ap (λ (z : ℤ). index_of z c.args.len) (sym top) ∙ sym c.in-Some.ensures in
     let i = index_is (get_or s.stack 1 (pos 0)) c.args.len c.in-Some.i (machine s c.requires.active c.requires.effects) (λ _. Stuck) is in
-    cell_there c.args.code.now.cells.items s.cells (c.args.base + c.in-Some.i) c.requires.cells_held (omega (arith, i.below, c.requires.exist.there))
+    cell_there c.args.code.now.cells s.cells (c.args.base + c.in-Some.i) c.requires.cells_held (omega (arith, i.below, c.requires.exist.there))
 
 pub returns-in-Some : goal.returns-in-Some
 returns-in-Some c =
     let s : RunState = c.args.state.now in
-    let kinds : List Kind = c.args.code.now.cells.items in
+    let kinds : List Kind = c.args.code.now.cells in
     let k : Kind = c.index-kind.result.now in
     let cell : ℕ = c.args.base + c.in-Some.i in
     let under = got c.under.result (get_or s.stack 1 (pos 0)) (record { sfits = c.under.type_inv }) c.under.ensures in

@@ -14,12 +14,12 @@ use Rattle.stack_vm.proofs.Ready.{does}
 use Rattle.stack_vm.proofs.places.store.Goals as goal
 
 pub set_cell-requires : goal.set_cell-requires
-set_cell-requires c = cell_there c.args.code.now.cells.items c.args.state.now.cells c.args.cell c.requires.cells_held c.requires.exist
+set_cell-requires c = cell_there c.args.code.now.cells c.args.state.now.cells c.args.cell c.requires.cells_held c.requires.exist
 
 pub returns : goal.returns
 returns c =
     let s : RunState = c.args.state.now in
-    let kinds : List Kind = c.args.code.now.cells.items in
+    let kinds : List Kind = c.args.code.now.cells in
     let k : Kind = c.index-kind.result.now in
     let there' = cell_there kinds s.cells c.args.cell c.requires.cells_held c.requires.exist in
     let top = got c.top.result (get_or s.stack 0 (pos 0)) (record { sfits = c.top.type_inv }) c.top.ensures in

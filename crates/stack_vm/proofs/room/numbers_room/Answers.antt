@@ -7,7 +7,7 @@ pub deepest-most-requires : goal.deepest-most-requires
 deepest-most-requires c =
     let i = c.loop-function.function-index in
     let e = c.deref-function-items.ensures.value in
-    let h : i < length c.args.code.now.functions.items = omega (arith, c.loop-function-test.true, c.deref-function-items.ensures.len, ap length e) in
+    let h : i < length c.args.code.now.functions = omega (arith, c.loop-function-test.true, c.deref-function-items.ensures.len, ap length e) in
     let none : Fun = record { start = 0; end = 0; gives = false } in
     let lies : Lies c.args.code.now (get_or c.deref-function-items.result.now i none) =
     subst (λ (fs : List Fun). Lies c.args.code.now (get_or fs i none)) (sym e) (lies_at c.args.code.now c.requires i none h) in

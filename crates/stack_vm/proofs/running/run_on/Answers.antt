@@ -14,14 +14,14 @@ index-instr-requires g c = let i = place_there c.requires.verified c.requires.st
 pub step-requires-clause-ready : goal.step-requires-clause-ready
 step-requires-clause-ready g c =
     let below = place_there c.requires.verified c.requires.starts.1 c.requires.room c.loop-outcome.invariant.0 in
-    let there = item_read c.args.code.now.instrs.items c.place.ensures below c.index-instr.ensures in
+    let there = item_read c.args.code.now.instrs c.place.ensures below c.index-instr.ensures in
     let next : c.loop-outcome.state.place + 1 < 2 ^ 64 = omega (arith, below, c.args.code.now.instrs.small) in
     ready c.requires.verified c.requires.starts.1 c.requires.room c.loop-outcome.invariant.0 there next
 
 pub step-requires-clause-called : goal.step-requires-clause-called
 step-requires-clause-called g c =
     let below = place_there c.requires.verified c.requires.starts.1 c.requires.room c.loop-outcome.invariant.0 in
-    let there = item_read c.args.code.now.instrs.items c.place.ensures below c.index-instr.ensures in
+    let there = item_read c.args.code.now.instrs c.place.ensures below c.index-instr.ensures in
     called c.requires.verified c.requires.starts.1 c.requires.room c.loop-outcome.invariant.0 there
 
 pub step-requires-clause-timers : goal.step-requires-clause-timers
@@ -30,42 +30,42 @@ step-requires-clause-timers g c = timers_there c.requires.verified c.requires.st
 pub step-requires-clause-room : goal.step-requires-clause-room
 step-requires-clause-room g c =
     let below = place_there c.requires.verified c.requires.starts.1 c.requires.room c.loop-outcome.invariant.0 in
-    let there = item_read c.args.code.now.instrs.items c.place.ensures below c.index-instr.ensures in
+    let there = item_read c.args.code.now.instrs c.place.ensures below c.index-instr.ensures in
     let next : c.loop-outcome.state.place + 1 < 2 ^ 64 = omega (arith, below, c.args.code.now.instrs.small) in
     answer_room c.requires.verified c.requires.starts.1 c.requires.room c.loop-outcome.invariant.0 there next
 
 pub returns-in-Some-clause-ends : goal.returns-in-Some-clause-ends
 returns-in-Some-clause-ends g c =
     let below = place_there c.requires.verified c.requires.starts.1 c.requires.room c.loop-outcome.invariant.0 in
-    let there = item_read c.args.code.now.instrs.items c.place.ensures below c.index-instr.ensures in
+    let there = item_read c.args.code.now.instrs c.place.ensures below c.index-instr.ensures in
     let does = does_then c.loop-outcome.invariant.1.1.0 c.loop-outcome.invariant.1.0 c.in_ok-outcome.ensures.does in
     ends_here c.requires.verified c.requires.starts.1 c.requires.room c.loop-outcome.invariant.0 there does c.in-Some.is
 
 pub returns-in-Some-clause-cells_held : goal.returns-in-Some-clause-cells_held
 returns-in-Some-clause-cells_held g c =
     let below = place_there c.requires.verified c.requires.starts.1 c.requires.room c.loop-outcome.invariant.0 in
-    let there = item_read c.args.code.now.instrs.items c.place.ensures below c.index-instr.ensures in
+    let there = item_read c.args.code.now.instrs c.place.ensures below c.index-instr.ensures in
     let does = does_then c.loop-outcome.invariant.1.1.0 c.loop-outcome.invariant.1.0 c.in_ok-outcome.ensures.does in
     cells_then c.requires.verified c.requires.starts.1 c.requires.room c.loop-outcome.invariant.0 there does c.in-Some.is
 
 pub returns-in-Some-clause-same_room : goal.returns-in-Some-clause-same_room
 returns-in-Some-clause-same_room g c =
     let below = place_there c.requires.verified c.requires.starts.1 c.requires.room c.loop-outcome.invariant.0 in
-    let there = item_read c.args.code.now.instrs.items c.place.ensures below c.index-instr.ensures in
+    let there = item_read c.args.code.now.instrs c.place.ensures below c.index-instr.ensures in
     let does = does_then c.loop-outcome.invariant.1.1.0 c.loop-outcome.invariant.1.0 c.in_ok-outcome.ensures.does in
     room_then c.requires.verified c.requires.starts.1 c.requires.room c.loop-outcome.invariant.0 there does
 
 pub loop-outcome-smaller : goal.loop-outcome-smaller
 loop-outcome-smaller g c =
     let below = place_there c.requires.verified c.requires.starts.1 c.requires.room c.loop-outcome.invariant.0 in
-    let there = item_read c.args.code.now.instrs.items c.place.ensures below c.index-instr.ensures in
+    let there = item_read c.args.code.now.instrs c.place.ensures below c.index-instr.ensures in
     let does = does_then c.loop-outcome.invariant.1.1.0 c.loop-outcome.invariant.1.0 c.in_ok-outcome.ensures.does in
     fewer_left c.requires.verified c.requires.starts.1 c.requires.room c.loop-outcome.invariant.0 there does c.in_default.is [] []
 
 pub loop-outcome-preserved : goal.loop-outcome-preserved
 loop-outcome-preserved g c =
     let below = place_there c.requires.verified c.requires.starts.1 c.requires.room c.loop-outcome.invariant.0 in
-    let there = item_read c.args.code.now.instrs.items c.place.ensures below c.index-instr.ensures in
+    let there = item_read c.args.code.now.instrs c.place.ensures below c.index-instr.ensures in
     let does = does_then c.loop-outcome.invariant.1.1.0 c.loop-outcome.invariant.1.0 c.in_ok-outcome.ensures.does in
     let e = c.in_ok-outcome.ensures in
     (goes_further c.requires.verified c.requires.starts.1 c.requires.room c.loop-outcome.invariant.0 there does c.in_default.is, (e.moment_stays ∙ c.loop-outcome.invariant.1.0, (e.closing_stays ∙ c.loop-outcome.invariant.1.1.0, omega (arith, e.faults_stay, c.loop-outcome.invariant.1.1.1))))
@@ -73,10 +73,10 @@ loop-outcome-preserved g c =
 pub returns-in_err-outcome-clause-cells_held : goal.returns-in_err-outcome-clause-cells_held
 returns-in_err-outcome-clause-cells_held g c =
     let held = (stands c.requires.verified c.requires.starts.1 c.requires.room c.loop-outcome.invariant.0).held.cells in
-    subst (λ (s : RunState). HoldKinds c.args.code.now.cells.items s.cells) (sym c.in_err-outcome.ensures.stays) held
+    subst (λ (s : RunState). HoldKinds c.args.code.now.cells s.cells) (sym c.in_err-outcome.ensures.stays) held
 
 pub returns-in_err-outcome-clause-refused : goal.returns-in_err-outcome-clause-refused
 returns-in_err-outcome-clause-refused g c =
     let below = place_there c.requires.verified c.requires.starts.1 c.requires.room c.loop-outcome.invariant.0 in
-    let there = item_read c.args.code.now.instrs.items c.place.ensures below c.index-instr.ensures in
+    let there = item_read c.args.code.now.instrs c.place.ensures below c.index-instr.ensures in
     refused_there c.from_residual.result g.H.Host.refuses c.loop-outcome.invariant.0 there c.in_err-outcome.ensures.may_be c.in_err-outcome.ensures.refused

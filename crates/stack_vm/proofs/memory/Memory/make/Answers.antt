@@ -15,13 +15,13 @@ pub loop-start-init : goal.loop-start-init
 loop-start-init c =
     let code = c.args.code.now in
     let made : c.in_ok-state.state ≡ record { place = 0; stack = []; calls = []; cells = replicate (length c.as_slice-cells.result.now) (pos 0); turns = 0; numbers_room = c.in_ok-numbers.numbers; calls_room = (length c.as_slice-functions.result.now) } = c.in_ok-state.ensures in
-    let len : length c.code-code.result.now.cells.items ≡ length code.cells.items = ap (λ (z : Code). length z.cells.items) c.code-code.ensures.same in
-    let zeros : c.in_ok-state.state.cells ≡ replicate (length code.cells.items) (pos 0) = ap (λ (z : RunState). z.cells) made ∙ ap (λ (n : ℕ). replicate n (pos 0)) (ap length c.as_slice-cells.ensures.value ∙ len) in
+    let len : length c.code-code.result.now.cells ≡ length code.cells = ap (λ (z : Code). length z.cells) c.code-code.ensures.same in
+    let zeros : c.in_ok-state.state.cells ≡ replicate (length code.cells) (pos 0) = ap (λ (z : RunState). z.cells) made ∙ ap (λ (n : ℕ). replicate n (pos 0)) (ap length c.as_slice-cells.ensures.value ∙ len) in
     record {
-      starts = ap (λ (cells : List ℤ). with_starts cells code.starts.items) zeros;
-      held = subst (λ (cells : List ℤ). HoldKinds code.cells.items cells) (sym zeros) (HoldKinds-zeros code.cells.items);
+      starts = ap (λ (cells : List ℤ). with_starts cells code.starts) zeros;
+      held = subst (λ (cells : List ℤ). HoldKinds code.cells cells) (sym zeros) (HoldKinds-zeros code.cells);
       numbers = ap (λ (z : RunState). z.numbers_room) made ∙ c.in_ok-numbers.ensures ∙ ap numbers_room c.code-code.ensures.same;
-      calls = ap (λ (z : RunState). z.calls_room) made ∙ ap length c.as_slice-functions.ensures.value ∙ ap (λ (z : Code). length z.functions.items) c.code-code.ensures.same;
+      calls = ap (λ (z : RunState). z.calls_room) made ∙ ap length c.as_slice-functions.ensures.value ∙ ap (λ (z : Code). length z.functions) c.code-code.ensures.same;
     }
 
 pub set_cell-requires : goal.set_cell-requires
@@ -30,8 +30,8 @@ set_cell-requires c =
     let code = c.code-code.result.now in
     let e = c.deref-start-items.ensures.value in
     let v : IsVerified code = c.code-code.ensures.verified in
-    let k : HoldKinds code.cells.items c.loop-start.state.cells = subst (λ (z : Code). HoldKinds z.cells.items c.loop-start.state.cells) (sym c.code-code.ensures.same) c.loop-start.invariant.held in
-    let h : i < length code.starts.items = omega (arith, c.loop-start-test.true, ap length e) in
+    let k : HoldKinds code.cells c.loop-start.state.cells = subst (λ (z : Code). HoldKinds z.cells c.loop-start.state.cells) (sym c.code-code.ensures.same) c.loop-start.invariant.held in
+    let h : i < length code.starts = omega (arith, c.loop-start-test.true, ap length e) in
     let p = puts_in code v c.loop-start.state.cells k i h in
     subst (λ (xs : List (ℕ × ℤ)). (get_or xs i (0, pos 0)).0 < length c.loop-start.state.cells) (sym e) p.is_cell
 
@@ -41,20 +41,20 @@ loop-start-preserved c =
     let code = c.code-code.result.now in
     let e = c.deref-start-items.ensures.value in
     let v : IsVerified code = c.code-code.ensures.verified in
-    let k : HoldKinds code.cells.items c.loop-start.state.cells = subst (λ (z : Code). HoldKinds z.cells.items c.loop-start.state.cells) (sym c.code-code.ensures.same) c.loop-start.invariant.held in
-    let h : i < length code.starts.items = omega (arith, c.loop-start-test.true, ap length e) in
+    let k : HoldKinds code.cells c.loop-start.state.cells = subst (λ (z : Code). HoldKinds z.cells c.loop-start.state.cells) (sym c.code-code.ensures.same) c.loop-start.invariant.held in
+    let h : i < length code.starts = omega (arith, c.loop-start-test.true, ap length e) in
     let q = puts_in code v c.loop-start.state.cells k i h in
-    let q' : PutsIn code.cells.items c.loop-start.state.cells code.starts.items i (get_or c.deref-start-items.result.now i (0, pos 0)) =
-    subst (λ (xs : List (ℕ × ℤ)). PutsIn code.cells.items c.loop-start.state.cells code.starts.items i (get_or xs i (0, pos 0))) (sym e) q in
-    let p : PutsIn c.args.code.now.cells.items c.loop-start.state.cells c.args.code.now.starts.items i (get_or c.deref-start-items.result.now i (0, pos 0)) =
-    subst (λ (z : Code). PutsIn z.cells.items c.loop-start.state.cells z.starts.items i (get_or c.deref-start-items.result.now i (0, pos 0))) c.code-code.ensures.same q' in
+    let q' : PutsIn code.cells c.loop-start.state.cells code.starts i (get_or c.deref-start-items.result.now i (0, pos 0)) =
+    subst (λ (xs : List (ℕ × ℤ)). PutsIn code.cells c.loop-start.state.cells code.starts i (get_or xs i (0, pos 0))) (sym e) q in
+    let p : PutsIn c.args.code.now.cells c.loop-start.state.cells c.args.code.now.starts i (get_or c.deref-start-items.result.now i (0, pos 0)) =
+    subst (λ (z : Code). PutsIn z.cells c.loop-start.state.cells z.starts i (get_or c.deref-start-items.result.now i (0, pos 0))) c.code-code.ensures.same q' in
     let s = c.set_cell.ensures in
     let start = get_or c.deref-start-items.result.now i (0, pos 0) in
     let cells : c.set_cell.new.self.cells ≡ slice_set c.loop-start.state.cells start.0 start.1 =
     ap (λ (z : RunState). z.cells) s ∙ ap (λ (n : ℤ). slice_set c.loop-start.state.cells start.0 n) p.reads in
     record {
-      starts = ap (λ (cells : List ℤ). with_starts cells (drop (i + 1) c.args.code.now.starts.items)) cells ∙ p.rest ∙ c.loop-start.invariant.starts;
-      held = subst (λ (cells : List ℤ). HoldKinds c.args.code.now.cells.items cells) (sym cells) p.held;
+      starts = ap (λ (cells : List ℤ). with_starts cells (drop (i + 1) c.args.code.now.starts)) cells ∙ p.rest ∙ c.loop-start.invariant.starts;
+      held = subst (λ (cells : List ℤ). HoldKinds c.args.code.now.cells cells) (sym cells) p.held;
       numbers = ap (λ (z : RunState). z.numbers_room) s ∙ c.loop-start.invariant.numbers;
       calls = ap (λ (z : RunState). z.calls_room) s ∙ c.loop-start.invariant.calls;
     }

@@ -7,8 +7,8 @@ use Rattle.stack_vm.proofs.memory.Memory.make.Given as goal
 
 abbrev pub invariant-loop-start : goal.invariant-loop-start
 invariant-loop-start l = record {
-  starts : with_starts l.state.cells (drop l.start-index l.code.starts.items) ≡ with_starts (replicate (length l.code.cells.items) (pos 0)) l.code.starts.items;
-  held : HoldKinds l.code.cells.items l.state.cells;
+  starts : with_starts l.state.cells (drop l.start-index l.code.starts) ≡ with_starts (replicate (length l.code.cells) (pos 0)) l.code.starts;
+  held : HoldKinds l.code.cells l.state.cells;
   numbers : l.state.numbers_room ≡ numbers_room l.code;
-  calls : l.state.calls_room ≡ length l.code.functions.items;
+  calls : l.state.calls_room ≡ length l.code.functions;
 }
