@@ -7,8 +7,9 @@ use Rattle.bytecode.specs.declared.code.Code.{Code}
 use Rattle.bytecode.specs.declared.code.Fun.{Fun}
 use Rattle.bytecode.specs.declared.instr.Instr.{Instr}
 use Rattle.bytecode.specs.Machine.{Machine, Goes}
-use Rattle.bytecode.specs.Rule.{IsIn, IsReached, KeepsRule, Target, gives_number}
+use Rattle.bytecode.specs.Rule.{IsIn, IsReached, KeepsRule, Target}
 use Rattle.bytecode.specs.Runs.{places_left}
+use Rattle.bytecode.specs.Shape.{gives_number}
 use Rattle.bytecode.specs.Step.{returns_to, taking_turn}
 use Rattle.bytecode.specs.Verified.{IsVerified}
 use Rattle.bytecode.proofs.Moving.{turn_taken}

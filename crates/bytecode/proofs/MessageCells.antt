@@ -13,8 +13,7 @@ use Rattle.int_kinds.proofs.Congruence.{rem_below}
 use Rattle.signal_codec.specs.declared.layout.Layout.{Layout}
 use Rattle.signal_codec.specs.Signal.{IsUsable, payload_with}
 use Rattle.signal_codec.proofs.Payloads.{IsPayload, IsPayload-payload_with}
-use Rattle.bytecode.specs.Message.{bytes_of, bytes_of_number, message_at, message_kinds, payload_of, size}
-use Rattle.bytecode.specs.Rule.{IsMessage}
+use Rattle.bytecode.specs.Message.{IsMessage, bytes_of, bytes_of_number, message_at, message_kinds, payload_of, size}
 use Rattle.bytecode.specs.Runs.{HoldKinds}
 use Rattle.bytecode.proofs.Pairs.{AllZip-same_length, AllZip-splice, AllZip-take, AllZip-drop}
 

@@ -21,9 +21,10 @@ use Rattle.bytecode.specs.declared.code.Fun.{Fun}
 use Rattle.bytecode.specs.declared.instr.Instr.{Instr}
 use Rattle.bytecode.specs.declared.instr.Instr.TheVariants.{Push, Load, Store, Check, Elem, SetElem, Bytes, SetBytes, Sig, SetSig, SetField, Bin, Neg, Inv, Conv, Not, Dup, Drop, Jump, Zero, Case, Back, Turn, Call, Ret, Write, Send, Copy, Stop, Set, Cancel, Active, Now}
 use Rattle.bytecode.specs.Machine.{Machine, Next, Stuck}
-use Rattle.bytecode.specs.Message.{bytes_of, frame_of, message_at, message_kinds, number_at, payload_of, size, write_rules, written_can, written_dlc, written_id, written_rtr}
-use Rattle.bytecode.specs.Rule.{IsMessage, IsReached, KeepsRule, Target, gives_number, next, numbers_of}
+use Rattle.bytecode.specs.Message.{IsMessage, bytes_of, frame_of, message_at, message_kinds, number_at, payload_of, size, write_rules, written_can, written_dlc, written_id, written_rtr}
+use Rattle.bytecode.specs.Rule.{IsReached, KeepsRule, Target, aim, next}
 use Rattle.bytecode.specs.Runs.{HoldKinds}
+use Rattle.bytecode.specs.Shape.{gives_number, numbers_of, shape_of}
 use Rattle.bytecode.specs.Step.{needing, after_cancel, after_effect, after_set, goes_on, micros, row, unless, writes}
 use Rattle.bytecode.specs.Verified.{IsVerified}
 use Rattle.bytecode.proofs.Calling.{StepsWell-call, StepsWell-return, item_below}
@@ -112,89 +113,89 @@ module _ (code : Code) (verified : IsVerified code) (closed : Bool) (moment : �
   -- each instruction, with the numbers that it takes on top of the stack
   pub row_well : (instr : Instr) (stack : List ℤ) → KeepsRule code number function m.place instr depth →
       AllByRecursion IsNumber stack → length stack ≡ depth + below → m.stack ≡ stack → StepsWell code m (row code closed moment m instr stack)
-  row_well (Push n) stack r ns h e = on (n ∷ stack) (next code (Push n) m.place depth) refl (r.names_exist, ns) (omega (arith, h)) r.targets_agree.0
+  row_well (Push n) stack r ns h e = on (n ∷ stack) (next (shape_of code (Push n)) m.place depth) refl (r.names_exist, ns) (omega (arith, h)) r.targets_agree.0
   row_well (Load cell) stack r ns h e =
-      stepping.reads_well code m number function depth below at callers held timers inside cell stack (next code (Load cell) m.place depth) refl r.names_exist ns (omega (arith, h)) r.targets_agree.0
+      stepping.reads_well code m number function depth below at callers held timers inside cell stack (next (shape_of code (Load cell)) m.place depth) refl r.names_exist ns (omega (arith, h)) r.targets_agree.0
   row_well (Store cell) [] r ns h e = absurd (omega (arith, h, r.takes_what_is_there))
   row_well (Store cell) (n ∷ stack) r ns h e =
-      stepping.stores_well code m number function depth below at callers held timers inside cell n stack (next code (Store cell) m.place depth) refl r.names_exist ns.1 (omega (arith, h, r.takes_what_is_there)) r.targets_agree.0
+      stepping.stores_well code m number function depth below at callers held timers inside cell n stack (next (shape_of code (Store cell)) m.place depth) refl r.names_exist ns.1 (omega (arith, h, r.takes_what_is_there)) r.targets_agree.0
   row_well (Check len) [] r ns h e = absurd (omega (arith, h, r.takes_what_is_there))
   row_well (Check len) (i ∷ stack) r ns h e =
-      StepsWell-indexing code m i len _ held (λ k below'. on (i ∷ stack) (next code (Check len) m.place depth) refl ns (omega (arith, h, r.takes_what_is_there)) r.targets_agree.0)
+      StepsWell-indexing code m i len _ held (λ k below'. on (i ∷ stack) (next (shape_of code (Check len)) m.place depth) refl ns (omega (arith, h, r.takes_what_is_there)) r.targets_agree.0)
   row_well (Elem base len) [] r ns h e = absurd (omega (arith, h, r.takes_what_is_there))
   row_well (Elem base len) (i ∷ stack) r ns h e =
       StepsWell-indexing code m i len _ held (λ k small.
-      stepping.reads_well code m number function depth below at callers held timers inside (base + k) stack (next code (Elem base len) m.place depth) refl (omega (arith, r.names_exist.there, small)) ns.1 (omega (arith, h, r.takes_what_is_there)) r.targets_agree.0)
+      stepping.reads_well code m number function depth below at callers held timers inside (base + k) stack (next (shape_of code (Elem base len)) m.place depth) refl (omega (arith, r.names_exist.there, small)) ns.1 (omega (arith, h, r.takes_what_is_there)) r.targets_agree.0)
   row_well (SetElem base len) [] r ns h e = absurd (omega (arith, h, r.takes_what_is_there))
   row_well (SetElem base len) (n ∷ []) r ns h e = absurd (omega (arith, h, r.takes_what_is_there))
   row_well (SetElem base len) (n ∷ i ∷ stack) r ns h e =
       StepsWell-indexing code m i len _ held (λ k small.
-      stepping.stores_well code m number function depth below at callers held timers inside (base + k) n stack (next code (SetElem base len) m.place depth) refl (omega (arith, r.names_exist.there, small)) ns.1.1 (omega (arith, h, r.takes_what_is_there)) r.targets_agree.0)
+      stepping.stores_well code m number function depth below at callers held timers inside (base + k) n stack (next (shape_of code (SetElem base len)) m.place depth) refl (omega (arith, r.names_exist.there, small)) ns.1.1 (omega (arith, h, r.takes_what_is_there)) r.targets_agree.0)
   row_well (Bytes k base) [] r ns h e = absurd (omega (arith, h, r.takes_what_is_there))
   row_well (Bytes k base) (i ∷ stack) r ns h e =
       with_message base r.names_exist _ (StepsWell-indexing code m i (9 - size k) _ held (λ byte small.
-      on (number_at k byte (payload_of (take 14 (drop base m.cells))) ∷ stack) (next code (Bytes k base) m.place depth) refl (IsNumber-number_at k byte (payload_of (take 14 (drop base m.cells))), ns.1) (omega (arith, h, r.takes_what_is_there)) r.targets_agree.0))
+      on (number_at k byte (payload_of (take 14 (drop base m.cells))) ∷ stack) (next (shape_of code (Bytes k base)) m.place depth) refl (IsNumber-number_at k byte (payload_of (take 14 (drop base m.cells))), ns.1) (omega (arith, h, r.takes_what_is_there)) r.targets_agree.0))
   row_well (SetBytes k base) [] r ns h e = absurd (omega (arith, h, r.takes_what_is_there))
   row_well (SetBytes k base) (n ∷ []) r ns h e = absurd (omega (arith, h, r.takes_what_is_there))
   row_well (SetBytes k base) (n ∷ i ∷ stack) r ns h e =
       with_message base r.names_exist _ (StepsWell-indexing code m i (9 - size k) _ held (λ byte small.
       let len = length-bytes_of k n in
-      stepping.bytes_well code m number function depth below at callers held timers inside base byte (bytes_of k n) (wrap k n) stack (next code (SetBytes k base) m.place depth) refl r.names_exist
+      stepping.bytes_well code m number function depth below at callers held timers inside base byte (bytes_of k n) (wrap k n) stack (next (shape_of code (SetBytes k base)) m.place depth) refl r.names_exist
       (omega (arith, small, len)) (AreBytes-bytes_of k n) (IsNumber-wrap k n) ns.1.1 (omega (arith, h, r.takes_what_is_there)) r.targets_agree.0))
   row_well (Sig l base) stack r ns h e =
       with_message base r.names_exist.1 _
-      (on (signal_value l (payload_of (take 14 (drop base m.cells))) ∷ stack) (next code (Sig l base) m.place depth) refl (IsNumber-signal_value l (payload_of (take 14 (drop base m.cells))) r.names_exist.0, ns) (omega (arith, h)) r.targets_agree.0)
+      (on (signal_value l (payload_of (take 14 (drop base m.cells))) ∷ stack) (next (shape_of code (Sig l base)) m.place depth) refl (IsNumber-signal_value l (payload_of (take 14 (drop base m.cells))) r.names_exist.0, ns) (omega (arith, h)) r.targets_agree.0)
   row_well (SetSig l base) [] r ns h e = absurd (omega (arith, h, r.takes_what_is_there))
   row_well (SetSig l base) (n ∷ stack) r ns h e =
       let payload = payload_of (take 14 (drop base m.cells)) in
       let is = IsPayload-payload code.cells m.cells base held r.names_exist.1 in
       let len = length-payload_with l payload n r.names_exist.0 is in
       with_message base r.names_exist.1 _
-      (stepping.bytes_well code m number function depth below at callers held timers inside base 0 (payload_with l payload n) (signal_value l (payload_with l payload n)) stack (next code (SetSig l base) m.place depth) refl r.names_exist.1
+      (stepping.bytes_well code m number function depth below at callers held timers inside base 0 (payload_with l payload n) (signal_value l (payload_with l payload n)) stack (next (shape_of code (SetSig l base)) m.place depth) refl r.names_exist.1
       (omega (arith, len)) (AreBytes-payload_with l payload n r.names_exist.0 is) (IsNumber-signal_value l (payload_with l payload n) r.names_exist.0) ns.1 (omega (arith, h, r.takes_what_is_there)) r.targets_agree.0)
   row_well (SetField f base) [] r ns h e = absurd (omega (arith, h, r.takes_what_is_there))
   row_well (SetField f base) (n ∷ stack) r ns h e =
-      with_message base r.names_exist.1 _ (fields_well base f n stack (next code (SetField f base) m.place depth) refl r.names_exist.1 r.names_exist.0 ns.1 (omega (arith, h, r.takes_what_is_there)) r.targets_agree.0)
+      with_message base r.names_exist.1 _ (fields_well base f n stack (next (shape_of code (SetField f base)) m.place depth) refl r.names_exist.1 r.names_exist.0 ns.1 (omega (arith, h, r.takes_what_is_there)) r.targets_agree.0)
   row_well (Bin op k) [] r ns h e = absurd (omega (arith, h, r.takes_what_is_there))
   row_well (Bin op k) (b ∷ []) r ns h e = absurd (omega (arith, h, r.takes_what_is_there))
   row_well (Bin op k) (b ∷ a ∷ stack) r ns h e =
-      stepping.operates_well code m number function depth below at callers held timers inside op k a b stack (next code (Bin op k) m.place depth) refl r.names_exist ns.1.1 (omega (arith, h, r.takes_what_is_there)) r.targets_agree.0
+      stepping.operates_well code m number function depth below at callers held timers inside op k a b stack (next (shape_of code (Bin op k)) m.place depth) refl r.names_exist ns.1.1 (omega (arith, h, r.takes_what_is_there)) r.targets_agree.0
   row_well (Neg k) [] r ns h e = absurd (omega (arith, h, r.takes_what_is_there))
   row_well (Neg k) (n ∷ stack) r ns h e =
-      on (negated k n ∷ stack) (next code (Neg k) m.place depth) refl (IsNumber-negated k n, ns.1) (omega (arith, h, r.takes_what_is_there)) r.targets_agree.0
+      on (negated k n ∷ stack) (next (shape_of code (Neg k)) m.place depth) refl (IsNumber-negated k n, ns.1) (omega (arith, h, r.takes_what_is_there)) r.targets_agree.0
   row_well (Inv k) [] r ns h e = absurd (omega (arith, h, r.takes_what_is_there))
   row_well (Inv k) (n ∷ stack) r ns h e =
-      on (inverted k n ∷ stack) (next code (Inv k) m.place depth) refl (IsNumber-inverted k n, ns.1) (omega (arith, h, r.takes_what_is_there)) r.targets_agree.0
+      on (inverted k n ∷ stack) (next (shape_of code (Inv k)) m.place depth) refl (IsNumber-inverted k n, ns.1) (omega (arith, h, r.takes_what_is_there)) r.targets_agree.0
   row_well (Conv k) [] r ns h e = absurd (omega (arith, h, r.takes_what_is_there))
   row_well (Conv k) (n ∷ stack) r ns h e =
-      on (wrap k n ∷ stack) (next code (Conv k) m.place depth) refl (IsNumber-wrap k n, ns.1) (omega (arith, h, r.takes_what_is_there)) r.targets_agree.0
+      on (wrap k n ∷ stack) (next (shape_of code (Conv k)) m.place depth) refl (IsNumber-wrap k n, ns.1) (omega (arith, h, r.takes_what_is_there)) r.targets_agree.0
   row_well Not [] r ns h e = absurd (omega (arith, h, r.takes_what_is_there))
   row_well Not (n ∷ stack) r ns h e =
-      on (truth (int_eq n (pos 0)) ∷ stack) (next code Not m.place depth) refl (IsNumber-truth (int_eq n (pos 0)), ns.1) (omega (arith, h, r.takes_what_is_there)) r.targets_agree.0
+      on (truth (int_eq n (pos 0)) ∷ stack) (next (shape_of code Not) m.place depth) refl (IsNumber-truth (int_eq n (pos 0)), ns.1) (omega (arith, h, r.takes_what_is_there)) r.targets_agree.0
   row_well Dup [] r ns h e = absurd (omega (arith, h, r.takes_what_is_there))
   row_well Dup (n ∷ stack) r ns h e =
-      on (n ∷ n ∷ stack) (next code Dup m.place depth) refl (ns.0, ns) (omega (arith, h, r.takes_what_is_there)) r.targets_agree.0
+      on (n ∷ n ∷ stack) (next (shape_of code Dup) m.place depth) refl (ns.0, ns) (omega (arith, h, r.takes_what_is_there)) r.targets_agree.0
   row_well Drop [] r ns h e = absurd (omega (arith, h, r.takes_what_is_there))
-  row_well Drop (n ∷ stack) r ns h e = on stack (next code Drop m.place depth) refl ns.1 (omega (arith, h, r.takes_what_is_there)) r.targets_agree.0
+  row_well Drop (n ∷ stack) r ns h e = on stack (next (shape_of code Drop) m.place depth) refl ns.1 (omega (arith, h, r.takes_what_is_there)) r.targets_agree.0
   row_well (Jump target) stack r ns h e =
-      StepsWell-up code m number function depth below at callers held timers inside stack (record { place = target; depth = depth }) r.goes_the_right_way ns h r.targets_agree.0
+      StepsWell-up code m number function depth below at callers held timers inside stack (aim (shape_of code (Jump target)) target depth) r.goes_the_right_way ns (omega (arith, h)) r.targets_agree.0
   row_well (Zero target) [] r ns h e = absurd (omega (arith, h, r.takes_what_is_there))
   row_well (Zero target) (n ∷ stack) r ns h e =
       StepsWell-if code m (int_eq n (pos 0)) _ _
-      (λ _. StepsWell-up code m number function depth below at callers held timers inside stack (record { place = target; depth = depth - 1 }) r.goes_the_right_way ns.1 (omega (arith, h, r.takes_what_is_there)) r.targets_agree.0)
-      (λ _. on stack (next code (Zero target) m.place depth) refl ns.1 (omega (arith, h, r.takes_what_is_there)) r.targets_agree.1.0)
+      (λ _. StepsWell-up code m number function depth below at callers held timers inside stack (aim (shape_of code (Zero target)) target depth) r.goes_the_right_way ns.1 (omega (arith, h, r.takes_what_is_there)) r.targets_agree.0)
+      (λ _. on stack (next (shape_of code (Zero target)) m.place depth) refl ns.1 (omega (arith, h, r.takes_what_is_there)) r.targets_agree.1.0)
   row_well (Case label target) [] r ns h e = absurd (omega (arith, h, r.takes_what_is_there))
   row_well (Case label target) (n ∷ stack) r ns h e =
       StepsWell-if code m (int_eq n label) _ _
-      (λ _. StepsWell-up code m number function depth below at callers held timers inside stack (record { place = target; depth = depth - 1 }) r.goes_the_right_way ns.1 (omega (arith, h, r.takes_what_is_there)) r.targets_agree.0)
-      (λ _. on (n ∷ stack) (next code (Case label target) m.place depth) refl ns (omega (arith, h, r.takes_what_is_there)) r.targets_agree.1.0)
+      (λ _. StepsWell-up code m number function depth below at callers held timers inside stack (aim (shape_of code (Case label target)) target depth) r.goes_the_right_way ns.1 (omega (arith, h, r.takes_what_is_there)) r.targets_agree.0)
+      (λ _. on (n ∷ stack) (next (shape_of code (Case label target)) m.place depth) refl ns (omega (arith, h, r.takes_what_is_there)) r.targets_agree.1.0)
   row_well (Back target) [] r ns h e = absurd (omega (arith, h, r.takes_what_is_there))
   row_well (Back target) (n ∷ stack) r ns h e =
       StepsWell-if code m (int_eq n (pos 0)) _ _
-      (λ _. on stack (next code (Back target) m.place depth) refl ns.1 (omega (arith, h, r.takes_what_is_there)) r.targets_agree.1.0)
-      (λ _. StepsWell-turn code m number function depth below at callers held timers inside m.turns refl stack (record { place = target; depth = depth - 1 }) ns.1 (omega (arith, h, r.takes_what_is_there)) r.targets_agree.0)
+      (λ _. on stack (next (shape_of code (Back target)) m.place depth) refl ns.1 (omega (arith, h, r.takes_what_is_there)) r.targets_agree.1.0)
+      (λ _. StepsWell-turn code m number function depth below at callers held timers inside m.turns refl stack (aim (shape_of code (Back target)) target depth) ns.1 (omega (arith, h, r.takes_what_is_there)) r.targets_agree.0)
   row_well Turn stack r ns h e =
-      StepsWell-turn_on code m number function depth below at callers held timers inside m.turns refl stack (next code Turn m.place depth) refl ns (omega (arith, h)) r.targets_agree.0
+      StepsWell-turn_on code m number function depth below at callers held timers inside m.turns refl stack (next (shape_of code Turn) m.place depth) refl ns (omega (arith, h)) r.targets_agree.0
   row_well (Call f) stack r ns h e =
       let laid = verified.laid_out in
       let small : f < length code.functions = omega (arith, r.calls_earlier, slice_get_within code.functions number function at.is_there) in
@@ -202,7 +203,7 @@ module _ (code : Code) (verified : IsVerified code) (closed : Bool) (moment : �
       let gives : gives_number (slice_get code.functions f) ≡ gives_number (Some callee.item) = ap gives_number callee.is_there in
       StepsWell-needing code m (slice_get code.functions f) callee.item _ callee.is_there
       (StepsWell-call code verified m number function depth below at callers (record { cells = held; numbers = subst (AllByRecursion IsNumber) (sym e) ns; timers = timers })
-      (ap length e ∙ h) inside f callee.item (next code (Call f) m.place depth) callee.is_there r.calls_earlier refl (omega (arith, gives)) r.targets_agree.0 m.turns refl)
+      (ap length e ∙ h) inside f callee.item (next (shape_of code (Call f)) m.place depth) callee.is_there r.calls_earlier refl (omega (arith, gives)) r.targets_agree.0 m.turns refl)
   row_well Ret stack r ns h e =
       StepsWell-return code verified m number function depth below at callers (record { cells = held; numbers = subst (AllByRecursion IsNumber) (sym e) ns; timers = timers })
       (ap length e ∙ h) inside r.returns_as_it_says m.calls refl callers
@@ -212,28 +213,28 @@ module _ (code : Code) (verified : IsVerified code) (closed : Bool) (moment : �
       let arrays : All (IsCharArray code.cells) (char_arrays format.item) =
       subst (λ z. All (IsCharArray code.cells) (char_arrays z)) (get_or_from_slice_get code.formats f format.item format.item format.is_there) (verified.tables.arrays_exist f format.item r.names_exist) in
       StepsWell-needing code m (slice_get code.formats f) format.item _ format.is_there
-      (writes_well format.item stack (next code (Write f) m.place depth) refl (omega (arith, h, count, r.takes_what_is_there)) arrays ns (omega (arith, h, count, r.takes_what_is_there)) r.targets_agree.0)
+      (writes_well format.item stack (next (shape_of code (Write f)) m.place depth) refl (omega (arith, h, count, r.takes_what_is_there)) arrays ns (omega (arith, h, count, r.takes_what_is_there)) r.targets_agree.0)
   row_well (Send base) stack r ns h e =
-      with_message base r.names_exist _ (unless_well (after_effect (effect.Send (frame_of (take 14 (drop base m.cells))))) stack (next code (Send base) m.place depth) refl refl refl refl refl refl ns (omega (arith, h)) r.targets_agree.0)
+      with_message base r.names_exist _ (unless_well (after_effect (effect.Send (frame_of (take 14 (drop base m.cells))))) stack (next (shape_of code (Send base)) m.place depth) refl refl refl refl refl refl ns (omega (arith, h)) r.targets_agree.0)
   row_well (Copy to from) stack r ns h e =
       with_message to r.names_exist.0 _ (with_message from r.names_exist.1 _
-      (StepsWell-on_cells code m number function depth below at callers held timers inside _ stack (next code (Copy to from) m.place depth) refl
+      (StepsWell-on_cells code m number function depth below at callers held timers inside _ stack (next (shape_of code (Copy to from)) m.place depth) refl
       (HoldKinds-copy code.cells m.cells to from held r.names_exist.0 r.names_exist.1) ns (omega (arith, h)) r.targets_agree.0))
-  row_well Stop stack r ns h e = unless_well (after_effect effect.Stop) stack (next code Stop m.place depth) refl refl refl refl refl refl ns (omega (arith, h)) r.targets_agree.0
+  row_well Stop stack r ns h e = unless_well (after_effect effect.Stop) stack (next (shape_of code Stop) m.place depth) refl refl refl refl refl refl ns (omega (arith, h)) r.targets_agree.0
   row_well (Set timer cyclic) [] r ns h e = absurd (omega (arith, h, r.takes_what_is_there))
   row_well (Set timer cyclic) (n ∷ stack) r ns h e =
       let unit = item_below code.timers timer r.names_exist in
       let active = item_below m.active timer (omega (arith, r.names_exist, timers)) in
       StepsWell-needing code m (slice_get code.timers timer) unit.item _ unit.is_there
       (StepsWell-needing code m (slice_get m.active timer) active.item _ active.is_there
-      (unless_well (after_set timer (micros unit.item n) cyclic) stack (next code (Set timer cyclic) m.place depth) refl refl refl refl refl (length-set m.active timer true) ns.1 (omega (arith, h, r.takes_what_is_there)) r.targets_agree.0))
+      (unless_well (after_set timer (micros unit.item n) cyclic) stack (next (shape_of code (Set timer cyclic)) m.place depth) refl refl refl refl refl (length-set m.active timer true) ns.1 (omega (arith, h, r.takes_what_is_there)) r.targets_agree.0))
   row_well (Cancel timer) stack r ns h e =
       let active = item_below m.active timer (omega (arith, r.names_exist, timers)) in
       StepsWell-needing code m (slice_get m.active timer) active.item _ active.is_there
-      (unless_well (after_cancel timer) stack (next code (Cancel timer) m.place depth) refl refl refl refl refl (length-set m.active timer false) ns (omega (arith, h)) r.targets_agree.0)
+      (unless_well (after_cancel timer) stack (next (shape_of code (Cancel timer)) m.place depth) refl refl refl refl refl (length-set m.active timer false) ns (omega (arith, h)) r.targets_agree.0)
   row_well (Active timer) stack r ns h e =
       let active = item_below m.active timer (omega (arith, r.names_exist, timers)) in
       StepsWell-needing code m (slice_get m.active timer) active.item _ active.is_there
-      (on (truth active.item ∷ stack) (next code (Active timer) m.place depth) refl (IsNumber-truth active.item, ns) (omega (arith, h)) r.targets_agree.0)
+      (on (truth active.item ∷ stack) (next (shape_of code (Active timer)) m.place depth) refl (IsNumber-truth active.item, ns) (omega (arith, h)) r.targets_agree.0)
   row_well Now stack r ns h e =
-      on (wrap Dword (pos (moment / 10)) ∷ stack) (next code Now m.place depth) refl (IsNumber-wrap Dword (pos (moment / 10)), ns) (omega (arith, h)) r.targets_agree.0
+      on (wrap Dword (pos (moment / 10)) ∷ stack) (next (shape_of code Now) m.place depth) refl (IsNumber-wrap Dword (pos (moment / 10)), ns) (omega (arith, h)) r.targets_agree.0

@@ -5,8 +5,9 @@ use Rattle.int_kinds.specs.Kind.{IsNumber}
 use Rattle.bytecode.specs.declared.code.Code.{Code}
 use Rattle.bytecode.specs.declared.code.Fun.{Fun}
 use Rattle.bytecode.specs.Machine.{Machine, Next, Goes, Ends, Stuck}
-use Rattle.bytecode.specs.Rule.{IsIn, gives_number}
+use Rattle.bytecode.specs.Rule.{IsIn}
 use Rattle.bytecode.specs.Runs.{HoldKinds, steps_left}
+use Rattle.bytecode.specs.Shape.{gives_number}
 
 -- a place of a function, by the function's number, with the place's depth
 pub record IsAt (code : Code) (number : ℕ) (function : Fun) (place depth : ℕ) : Type 0 where

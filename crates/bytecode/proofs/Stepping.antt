@@ -12,7 +12,8 @@ use Rattle.int_kinds.proofs.Wrapping.{Holds-wrap}
 use Rattle.bytecode.specs.declared.code.Code.{Code}
 use Rattle.bytecode.specs.declared.code.Fun.{Fun}
 use Rattle.bytecode.specs.Machine.{Machine}
-use Rattle.bytecode.specs.Rule.{IsMessage, IsOperation, IsReached, Target}
+use Rattle.bytecode.specs.Message.{IsMessage}
+use Rattle.bytecode.specs.Rule.{IsOperation, IsReached, Target}
 use Rattle.bytecode.specs.Runs.{HoldKinds}
 use Rattle.bytecode.specs.Step.{goes_on, gives_or_traps, operates, reads, stores, stores_bytes, unless}
 use Rattle.bytecode.proofs.Calling.{item_below}

@@ -4,6 +4,7 @@ pub mod Message
 pub mod Refusal
 pub mod Rule
 pub mod Runs
+pub mod Shape
 pub mod Step
 pub mod Tables
 pub mod Verified

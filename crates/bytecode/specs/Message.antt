@@ -1,5 +1,5 @@
 -- A message variable (CAPL manual, message): 14 cells, and the rules by which its fields are written.
-use Rattle.std.specs.Prelude.{ℕ, zero, suc, ◌+◌, ◌-◌, ◌*◌, ◌/◌, ◌%◌, ◌^◌, if◌then◌else◌, nat_le, ◌==◌, not, List, [], ◌∷◌, map, length, take, drop, min, ℤ, pos, Option, Some, None}
+use Rattle.std.specs.Prelude.{◌≡◌, ℕ, zero, suc, ◌+◌, ◌-◌, ◌*◌, ◌/◌, ◌%◌, ◌^◌, if◌then◌else◌, nat_le, ◌==◌, not, List, [], ◌∷◌, map, length, take, drop, min, ℤ, pos, Option, Some, None}
 use Rattle.std.specs.Prelude.{slice_index_or}
 use Rattle.int_kinds.specs.declared.kinds.Kind.{Kind}
 use Rattle.int_kinds.specs.declared.kinds.Kind.TheVariants.{Byte, Word, Dword}
@@ -12,6 +12,10 @@ use Rattle.can_frame.specs.Frame.{FrameFields, padded}
 -- the kinds of a message's cells: identifier, length, remote bit, channel, direction, time, and 8 bytes
 abbrev pub message_kinds : List Kind
 message_kinds = Dword ∷ Byte ∷ Byte ∷ Word ∷ Byte ∷ Dword ∷ Byte ∷ Byte ∷ Byte ∷ Byte ∷ Byte ∷ Byte ∷ Byte ∷ Byte ∷ []
+
+-- a message begins at a cell: the cells from there on have a message's kinds
+abbrev pub IsMessage : List Kind → ℕ → Type 0
+IsMessage kinds at = take 14 (drop at kinds) ≡ message_kinds
 
 -- the 14 cells of the message that begins at a cell, if they are there
 abbrev pub message_at : ℕ → List ℤ → Option (List ℤ)

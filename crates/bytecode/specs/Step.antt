@@ -25,6 +25,15 @@ abbrev pub needing : {A : Type 0} → Option A → (A → Next) → Next
 needing None row = Stuck
 needing (Some x) row = row x
 
+-- what the row does with the top number and the stack below it, and stuck if there is none
+abbrev pub taking_one : List ℤ → (ℤ → List ℤ → Next) → Next
+taking_one [] row = Stuck
+taking_one (n ∷ stack) row = row n stack
+
+-- what the row does with the second number, the top one and the stack below them, and stuck if there are not as many
+abbrev pub taking_two : List ℤ → (ℤ → ℤ → List ℤ → Next) → Next
+taking_two stack row = taking_one stack (λ second rest. taking_one rest (λ first below. row first second below))
+
 -- goes on to the next place, with this stack
 abbrev pub goes_on : Machine → List ℤ → Next
 goes_on m stack = Goes (record m { place = m.place + 1; stack = stack })
@@ -100,51 +109,59 @@ after_set timer duration cyclic m = after_effect (effect.Set timer duration cycl
 abbrev pub after_cancel : ℕ → Machine → Machine
 after_cancel timer m = after_effect (effect.Cancel timer) (record m { active = slice_set m.active timer false })
 
--- One row of the table for each instruction: what it does to a machine that stands at it, with this stack. Where the
--- stack has fewer numbers than the instruction takes, it is stuck.
+-- One row of the table for each instruction: what it does to a machine that stands at it, with this stack.
 abbrev pub row : Code → Bool → ℕ → Machine → Instr → List ℤ → Next
 row code closed moment m (Push n) stack = goes_on m (n ∷ stack)
 row code closed moment m (Load cell) stack = reads cell m stack
-row code closed moment m (Store cell) (n ∷ stack) = stores code.cells cell n m stack
-row code closed moment m (Check len) (i ∷ stack) = indexing i len m (λ _. goes_on m (i ∷ stack))
-row code closed moment m (Elem base len) (i ∷ stack) = indexing i len m (λ k. reads (base + k) m stack)
-row code closed moment m (SetElem base len) (n ∷ i ∷ stack) = indexing i len m (λ k. stores code.cells (base + k) n m stack)
-row code closed moment m (Bytes k at) (i ∷ stack) = needing (message_at at m.cells) (λ message.
-    indexing i (9 - size k) m (λ byte. goes_on m (number_at k byte (payload_of message) ∷ stack)))
-row code closed moment m (SetBytes k at) (n ∷ i ∷ stack) = needing (message_at at m.cells) (λ _.
-    indexing i (9 - size k) m (λ byte. stores_bytes at byte (bytes_of k n) (wrap k n) m stack))
-row code closed moment m (Sig l at) stack = needing (message_at at m.cells) (λ message. goes_on m (signal_value l (payload_of message) ∷ stack))
-row code closed moment m (SetSig l at) (n ∷ stack) = needing (message_at at m.cells) (λ message.
-    let after = payload_with l (payload_of message) n in stores_bytes at 0 after (signal_value l after) m stack)
-row code closed moment m (SetField f at) (n ∷ stack) = needing (message_at at m.cells) (λ _. needing (slice_get write_rules f) (λ rule.
-    goes_on (record m { cells = slice_set m.cells (at + f) (pos (rule n)) }) (pos (rule n) ∷ stack)))
-row code closed moment m (Bin op k) (b ∷ a ∷ stack) = operates op k a b m stack
-row code closed moment m (Neg k) (n ∷ stack) = goes_on m (negated k n ∷ stack)
-row code closed moment m (Inv k) (n ∷ stack) = goes_on m (inverted k n ∷ stack)
-row code closed moment m (Conv k) (n ∷ stack) = goes_on m (wrap k n ∷ stack)
-row code closed moment m Not (n ∷ stack) = goes_on m (truth (int_eq n (pos 0)) ∷ stack)
-row code closed moment m Dup (n ∷ stack) = goes_on m (n ∷ n ∷ stack)
-row code closed moment m Drop (n ∷ stack) = goes_on m stack
+row code closed moment m (Store cell) stack = taking_one stack (λ n below. stores code.cells cell n m below)
+row code closed moment m (Check len) stack = taking_one stack (λ i below. indexing i len m (λ _. goes_on m (i ∷ below)))
+row code closed moment m (Elem base len) stack = taking_one stack (λ i below.
+    indexing i len m (λ k. reads (base + k) m below))
+row code closed moment m (SetElem base len) stack = taking_two stack (λ i n below.
+    indexing i len m (λ k. stores code.cells (base + k) n m below))
+row code closed moment m (Bytes k at) stack = taking_one stack (λ i below. needing (message_at at m.cells) (λ message.
+    indexing i (9 - size k) m (λ byte. goes_on m (number_at k byte (payload_of message) ∷ below))))
+row code closed moment m (SetBytes k at) stack = taking_two stack (λ i n below. needing (message_at at m.cells) (λ _.
+    indexing i (9 - size k) m (λ byte. stores_bytes at byte (bytes_of k n) (wrap k n) m below)))
+row code closed moment m (Sig l at) stack = needing (message_at at m.cells) (λ message.
+    goes_on m (signal_value l (payload_of message) ∷ stack))
+row code closed moment m (SetSig l at) stack = taking_one stack (λ n below. needing (message_at at m.cells) (λ message.
+    let after = payload_with l (payload_of message) n in stores_bytes at 0 after (signal_value l after) m below))
+row code closed moment m (SetField f at) stack = taking_one stack (λ n below. needing (message_at at m.cells) (λ _.
+    needing (slice_get write_rules f) (λ rule.
+    goes_on (record m { cells = slice_set m.cells (at + f) (pos (rule n)) }) (pos (rule n) ∷ below))))
+row code closed moment m (Bin op k) stack = taking_two stack (λ a b below. operates op k a b m below)
+row code closed moment m (Neg k) stack = taking_one stack (λ n below. goes_on m (negated k n ∷ below))
+row code closed moment m (Inv k) stack = taking_one stack (λ n below. goes_on m (inverted k n ∷ below))
+row code closed moment m (Conv k) stack = taking_one stack (λ n below. goes_on m (wrap k n ∷ below))
+row code closed moment m Not stack = taking_one stack (λ n below. goes_on m (truth (int_eq n (pos 0)) ∷ below))
+row code closed moment m Dup stack = taking_one stack (λ n below. goes_on m (n ∷ n ∷ below))
+row code closed moment m Drop stack = taking_one stack (λ n below. goes_on m below)
 row code closed moment m (Jump target) stack = goes_to target m stack
-row code closed moment m (Zero target) (n ∷ stack) = if int_eq n (pos 0) then goes_to target m stack else goes_on m stack
-row code closed moment m (Case label target) (n ∷ stack) = if int_eq n label then goes_to target m stack else goes_on m (n ∷ stack)
-row code closed moment m (Back target) (n ∷ stack) = if int_eq n (pos 0) then goes_on m stack else taking_turn m.turns m (λ after. goes_to target after stack)
+row code closed moment m (Zero target) stack = taking_one stack (λ n below.
+    if int_eq n (pos 0) then goes_to target m below else goes_on m below)
+row code closed moment m (Case label target) stack = taking_one stack (λ n below.
+    if int_eq n label then goes_to target m below else goes_on m (n ∷ below))
+row code closed moment m (Back target) stack = taking_one stack (λ n below.
+    if int_eq n (pos 0) then goes_on m below else taking_turn m.turns m (λ after. goes_to target after below))
 row code closed moment m Turn stack = taking_turn m.turns m (λ after. goes_on after stack)
-row code closed moment m (Call f) stack = needing (slice_get code.functions f) (λ function.
-    taking_turn m.turns m (λ after. Goes (record after { place = function.start; calls = (m.place + 1) ∷ m.calls })))
+row code closed moment m (Call f) stack = needing (slice_get code.functions f) (λ function. taking_turn m.turns m (λ after.
+    Goes (record after { place = function.start; calls = (m.place + 1) ∷ m.calls })))
 row code closed moment m Ret stack = returns_to m.calls m
 row code closed moment m (Write f) stack = needing (slice_get code.formats f) (λ format. writes format m stack)
 row code closed moment m (Send at) stack = needing (message_at at m.cells) (λ message.
     goes_on (unless closed (after_effect (effect.Send (frame_of message))) m) stack)
-row code closed moment m (Copy to from) stack = needing (message_at to m.cells) (λ _. needing (message_at from m.cells) (λ message.
+row code closed moment m (Copy to from) stack = needing (message_at to m.cells) (λ _.
+    needing (message_at from m.cells) (λ message.
     goes_on (record m { cells = splice m.cells to (to + 14) message }) stack))
 row code closed moment m Stop stack = goes_on (unless closed (after_effect effect.Stop) m) stack
-row code closed moment m (Set timer cyclic) (n ∷ stack) = needing (slice_get code.timers timer) (λ unit. needing (slice_get m.active timer) (λ _.
-    goes_on (unless closed (after_set timer (micros unit n) cyclic) m) stack))
-row code closed moment m (Cancel timer) stack = needing (slice_get m.active timer) (λ _. goes_on (unless closed (after_cancel timer) m) stack)
-row code closed moment m (Active timer) stack = needing (slice_get m.active timer) (λ active. goes_on m (truth active ∷ stack))
+row code closed moment m (Set timer cyclic) stack = taking_one stack (λ n below. needing (slice_get code.timers timer) (λ unit.
+    needing (slice_get m.active timer) (λ _. goes_on (unless closed (after_set timer (micros unit n) cyclic) m) below)))
+row code closed moment m (Cancel timer) stack = needing (slice_get m.active timer) (λ _.
+    goes_on (unless closed (after_cancel timer) m) stack)
+row code closed moment m (Active timer) stack = needing (slice_get m.active timer) (λ active.
+    goes_on m (truth active ∷ stack))
 row code closed moment m Now stack = goes_on m (wrap Dword (pos (moment / 10)) ∷ stack)
-row code closed moment m _ _ = Stuck
 
 -- one step, where the measurement has ended or not, at a moment in microseconds: the row of the instruction at the place
 abbrev pub step : Code → Bool → ℕ → Machine → Next

@@ -10,6 +10,7 @@
 
 pub use code::{Code, Fun, Handler};
 pub use instr::Instr;
+pub use message::MESSAGE_KINDS;
 pub use verified::{Verified, VerifyRefusal, verify};
 
 mod code;
@@ -17,7 +18,9 @@ mod distinct;
 mod failure;
 mod instr;
 pub mod laws;
+mod message;
 mod rule;
+mod shape;
 mod tables;
 #[cfg(test)]
 mod tests;

@@ -4,34 +4,19 @@ ghost use Rattle.std.specs.Prelude.{◌≡◌, ◌↔◌, ◌≤◌, ◌<◌, �
 ghost use Rattle.std.specs.List.{AllByRecursion};
 ghost use Rattle.int_kinds.specs.Kind.{IsNumber};
 ghost use Rattle.signal_codec.specs.Signal.{IsUsable};
-ghost use Rattle.bytecode.specs.Message.{message_kinds};
-ghost use Rattle.bytecode.specs.Rule.{CallsEarlier, GoesTheRightWay, IsArray, IsMessage, IsOperation, IsReached, KeepsRule, NamesWhatExists, ReturnsAsItSays, given_by, gives_number, numbers_of, taken_by, targets};
+ghost use Rattle.bytecode.specs.Message.{IsMessage};
+ghost use Rattle.bytecode.specs.Rule.{CallsEarlier, GoesTheRightWay, IsArray, IsOperation, IsReached, KeepsRule, NamesWhatExists, ReturnsAsItSays, targets};
+ghost use Rattle.bytecode.specs.Shape.{gives_number};
 
 use crate::code::{Code, Fun};
 use crate::instr::Instr;
+use crate::message::is_message;
+use crate::shape::{Flow, Named, Shape, shape_of};
 use int_kinds::{BinOp, Kind};
 use signal_codec::usable;
 
 /// The greatest depth.
 const MAX_DEPTH: u32 = 1_000_000;
-
-/// The kinds of a message's cells.
-const MESSAGE_KINDS: [Kind; 14] = [
-    Kind::Dword,
-    Kind::Byte,
-    Kind::Byte,
-    Kind::Word,
-    Kind::Byte,
-    Kind::Dword,
-    Kind::Byte,
-    Kind::Byte,
-    Kind::Byte,
-    Kind::Byte,
-    Kind::Byte,
-    Kind::Byte,
-    Kind::Byte,
-    Kind::Byte,
-];
 
 /// Whether a place with this instruction and depth keeps its rule, in the function of this number.
 pub(crate) fn keeps_rule(
@@ -44,88 +29,35 @@ pub(crate) fn keeps_rule(
 ) -> bool
     ensures { IsTrue result ↔ KeepsRule code.now number function place instr depth }
 {
+    let shape = shape_of(code, instr);
     depth <= MAX_DEPTH
         && (place != function.start || depth == 0)
-        && taken_by(code, instr) <= depth as usize
-        && targets_agree(code, function, instr, place as usize, depth as usize)
-        && goes_the_right_way(instr, place)
-        && calls_earlier(instr, number)
-        && returns_as_it_says(instr, function, depth)
-        && names_exist(code, instr)
-}
-
-/// How many numbers an instruction takes.
-fn taken_by(code: &Code, instr: Instr) -> usize
-    ensures { result ≡ taken_by code.now instr }
-{
-    match instr {
-        Instr::SetElem(_, _) | Instr::SetBytes(_, _) | Instr::Bin(_, _) => 2,
-        Instr::Write(format) => code
-            .formats
-            .as_slice()
-            .get(format as usize)
-            .map_or(0, |format| format.numbers_taken()),
-        Instr::Store(_)
-        | Instr::Check(_)
-        | Instr::Elem(_, _)
-        | Instr::Bytes(_, _)
-        | Instr::SetSig(_, _)
-        | Instr::SetField(_, _)
-        | Instr::Neg(_)
-        | Instr::Inv(_)
-        | Instr::Conv(_)
-        | Instr::Not
-        | Instr::Dup
-        | Instr::Drop
-        | Instr::Zero(_)
-        | Instr::Case(_, _)
-        | Instr::Back(_)
-        | Instr::Set(_, _) => 1,
-        _ => 0,
-    }
-}
-
-/// How many numbers it gives where it goes on to the next place.
-fn given_by(code: &Code, instr: Instr) -> usize
-    ensures value { result ≡ given_by code.now instr }
-    ensures small { result ≤ 2 }
-{
-    match instr {
-        Instr::Drop
-        | Instr::Zero(_)
-        | Instr::Back(_)
-        | Instr::Turn
-        | Instr::Write(_)
-        | Instr::Send(_)
-        | Instr::Copy(_, _)
-        | Instr::Stop
-        | Instr::Set(_, _)
-        | Instr::Cancel(_) => 0,
-        Instr::Call(function) => match code.functions.as_slice().get(function as usize) {
-            Some(function) if function.gives => 1,
-            _ => 0,
-        },
-        Instr::Dup => 2,
-        _ => 1,
-    }
+        && shape.taken <= depth as usize
+        && targets_agree(code, function, shape, place as usize, depth as usize)
+        && goes_the_right_way(shape.flow, place)
+        && calls_earlier(shape.flow, number)
+        && returns_as_it_says(shape.flow, function, depth)
+        && names_what_exists(code, shape.named)
 }
 
 /// Whether each place that it may go to lies in the function and has the depth with which it is
 /// reached.
-fn targets_agree(code: &Code, function: Fun, instr: Instr, place: usize, depth: usize) -> bool
+fn targets_agree(code: &Code, function: Fun, shape: Shape, place: usize, depth: usize) -> bool
     requires place { place < 2 ^ 32 }
     requires depth { depth < 2 ^ 32 }
-    ensures { IsTrue result ↔ AllByRecursion (IsReached code.now function) (targets code.now instr place depth) }
+    requires given { shape.given ≤ 2 }
+    ensures { IsTrue result ↔ AllByRecursion (IsReached code.now function) (targets shape place depth) }
 {
-    let next_depth = depth.saturating_sub(taken_by(code, instr)) + given_by(code, instr);
-    match instr {
-        Instr::Jump(target) => is_reached(code, function, target as usize, depth),
-        Instr::Zero(target) | Instr::Case(_, target) | Instr::Back(target) => {
-            is_reached(code, function, target as usize, depth.saturating_sub(1))
-                && is_reached(code, function, place + 1, next_depth)
+    let left = depth.saturating_sub(shape.taken);
+    let given = left + usize::from(shape.given);
+    match shape.flow {
+        Flow::Next | Flow::Call(_) => is_reached(code, function, place + 1, given),
+        Flow::Jump(target) => is_reached(code, function, target as usize, left),
+        Flow::Branch(target) | Flow::Loop(target) => {
+            is_reached(code, function, target as usize, left)
+                && is_reached(code, function, place + 1, given)
         }
-        Instr::Ret => true,
-        _ => is_reached(code, function, place + 1, next_depth),
+        Flow::Return => true,
     }
 }
 
@@ -142,65 +74,54 @@ fn is_reached(code: &Code, function: Fun, place: usize, depth: usize) -> bool
             .is_some_and(|there| *there as usize == depth)
 }
 
-/// Whether a jump goes up, and a `Back` to its place or down.
-fn goes_the_right_way(instr: Instr, place: u32) -> bool
-    ensures { IsTrue result ↔ GoesTheRightWay instr place }
+/// Whether a jump or a branch goes up, and a loop to its place or down.
+fn goes_the_right_way(flow: Flow, place: u32) -> bool
+    ensures { IsTrue result ↔ GoesTheRightWay flow place }
 {
-    match instr {
-        Instr::Jump(target) | Instr::Zero(target) | Instr::Case(_, target) => place < target,
-        Instr::Back(target) => target <= place,
-        _ => true,
+    match flow {
+        Flow::Jump(target) | Flow::Branch(target) => place < target,
+        Flow::Loop(target) => target <= place,
+        Flow::Next | Flow::Call(_) | Flow::Return => true,
     }
 }
 
 /// Whether a call is of a function of a smaller number.
-fn calls_earlier(instr: Instr, number: usize) -> bool
-    ensures { IsTrue result ↔ CallsEarlier instr number }
+fn calls_earlier(flow: Flow, number: usize) -> bool
+    ensures { IsTrue result ↔ CallsEarlier flow number }
 {
-    match instr {
-        Instr::Call(function) => (function as usize) < number,
-        _ => true,
+    match flow {
+        Flow::Call(function) => (function as usize) < number,
+        Flow::Next | Flow::Jump(_) | Flow::Branch(_) | Flow::Loop(_) | Flow::Return => true,
     }
 }
 
 /// Whether the end of a function has the depth that it is said to give.
-fn returns_as_it_says(instr: Instr, function: Fun, depth: u32) -> bool
-    ensures { IsTrue result ↔ ReturnsAsItSays instr function depth }
+fn returns_as_it_says(flow: Flow, function: Fun, depth: u32) -> bool
+    ensures { IsTrue result ↔ ReturnsAsItSays flow function depth }
 {
-    match instr {
-        Instr::Ret => depth == if function.gives { 1 } else { 0 },
-        _ => true,
+    match flow {
+        Flow::Return => depth == if function.gives { 1 } else { 0 },
+        Flow::Next | Flow::Jump(_) | Flow::Branch(_) | Flow::Loop(_) | Flow::Call(_) => true,
     }
 }
 
-/// Whether all that an instruction names exists.
-fn names_exist(code: &Code, instr: Instr) -> bool
-    ensures { IsTrue result ↔ NamesWhatExists code.now instr }
+/// Whether what an instruction names exists.
+fn names_what_exists(code: &Code, named: Named) -> bool
+    ensures { IsTrue result ↔ NamesWhatExists code.now named }
 {
-    match instr {
-        Instr::Push(n) => is_number(n),
-        Instr::Case(label, _) => is_number(label),
-        Instr::Load(cell) | Instr::Store(cell) => (cell as usize) < code.cells.len(),
-        Instr::Elem(base, len) | Instr::SetElem(base, len) => is_array(
-            code.cells.as_slice(),
-            base,
-            len,
-        ),
-        Instr::Sig(layout, at) | Instr::SetSig(layout, at) => {
-            usable(&layout) && is_message(code.cells.as_slice(), at)
-        }
-        Instr::SetField(field, at) => field <= 3 && is_message(code.cells.as_slice(), at),
-        Instr::Bytes(_, at) | Instr::SetBytes(_, at) | Instr::Send(at) => {
-            is_message(code.cells.as_slice(), at)
-        }
-        Instr::Copy(to, from) => is_message(code.cells.as_slice(), to)
-            && is_message(code.cells.as_slice(), from),
-        Instr::Bin(op, _) => is_operation(op),
-        Instr::Write(format) => (format as usize) < code.formats.len(),
-        Instr::Set(timer, _) | Instr::Cancel(timer) | Instr::Active(timer) => {
-            (timer as usize) < code.timers.len()
-        }
-        _ => true,
+    let kinds = code.cells.as_slice();
+    match named {
+        Named::Nothing => true,
+        Named::Number(n) => is_number(n),
+        Named::Cell(cell) => (cell as usize) < kinds.len(),
+        Named::Array(base, len) => is_array(kinds, base, len),
+        Named::Message(at) => is_message(kinds, at),
+        Named::Messages(to, from) => is_message(kinds, to) && is_message(kinds, from),
+        Named::Signal(layout, at) => usable(&layout) && is_message(kinds, at),
+        Named::Field(field, at) => field <= 3 && is_message(kinds, at),
+        Named::Operation(op) => is_operation(op),
+        Named::Format(format) => (format as usize) < code.formats.len(),
+        Named::Timer(timer) => (timer as usize) < code.timers.len(),
     }
 }
 
@@ -216,15 +137,6 @@ fn is_array(kinds: &[Kind], base: u32, len: u32) -> bool
     ensures { IsTrue result ↔ IsArray kinds.now base len }
 {
     1 <= len && base as usize + len as usize <= kinds.len()
-}
-
-/// Whether the cells from one on have a message's kinds.
-fn is_message(kinds: &[Kind], at: u32) -> bool
-    ensures { IsTrue result ↔ IsMessage kinds.now at }
-{
-    let from = at as usize;
-    let end = from + MESSAGE_KINDS.len();
-    end <= kinds.len() && &kinds[from..end] == MESSAGE_KINDS.as_slice()
 }
 
 /// Whether an operator has a value on two numbers.
