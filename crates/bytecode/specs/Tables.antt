@@ -1,20 +1,18 @@
 -- The verifier's rules of the tables of code.
-use Rattle.std.specs.Prelude.{◌≡◌, ◌≢◌, ◌⊎◌, ℕ, ◌<◌, ◌≤◌, false, List, [], ◌∷◌, length, take, All, AllPairs, slice_get, Option, Some, None, IsSomeAnd, ℤ}
+use Rattle.std.specs.Prelude.{◌≡◌, ◌≢◌, ◌⊎◌, ℕ, ◌<◌, ◌≤◌, false, List, [], length, All, AllPairs, slice_get, Option, Some, None, IsSomeAnd, ℤ}
 use Rattle.std.specs.List.{flat_map, filter_map}
 use Rattle.int_kinds.specs.declared.kinds.Kind.{Kind}
-use Rattle.int_kinds.specs.declared.kinds.Kind.TheVariants.{Byte, Word, Dword, Char}
+use Rattle.int_kinds.specs.declared.kinds.Kind.TheVariants.{Char}
 use Rattle.int_kinds.specs.Kind.{Holds}
 use Rattle.write_format.specs.Arrays.{IsCharArray}
 use Rattle.write_format.specs.Format.{char_arrays}
 use Rattle.vm_host.specs.declared.event.Event.{Event}
 use Rattle.vm_host.specs.declared.event.Event.TheVariants.{Message, Timer, Key}
-use Rattle.bytecode.specs.declared.code.Code.{Code}
 use Rattle.vm_host.specs.declared.event.Selector.{Selector}
+use Rattle.bytecode.specs.declared.code.Code.{Code}
+use Rattle.bytecode.specs.declared.code.Fun.{Fun}
 use Rattle.bytecode.specs.declared.code.Handler.{Handler}
-
--- the kinds of the event's cells: the message that was on the bus, and the key
-abbrev pub event_kinds : List Kind
-event_kinds = Dword ∷ Byte ∷ Byte ∷ Word ∷ Byte ∷ Dword ∷ Byte ∷ Byte ∷ Byte ∷ Byte ∷ Byte ∷ Byte ∷ Byte ∷ Byte ∷ Char ∷ []
+use Rattle.bytecode.specs.Message.{IsMessage}
 
 -- a cell with its initial value, which its kind has
 abbrev pub IsHeldStart : List Kind → ℕ × ℤ → Type 0
@@ -60,15 +58,40 @@ AreApart a b = a.rank ≡ b.rank → (key : ℕ) → IsWithin a key → IsWithin
 abbrev pub AreApartIn : ℕ → Selector → Selector → Type 0
 AreApartIn rank a b = a.rank ≡ rank → b.rank ≡ rank → (key : ℕ) → IsWithin a key → IsWithin b key → ⊥
 
+-- a unit of a timer in microseconds: a millisecond or a second
+abbrev pub IsUnit : ℕ → Type 0
+IsUnit unit = (unit ≡ 1000) ⊎ (unit ≡ 1000000)
+
+-- the function of a number is there and gives nothing
+abbrev pub GivesNothing : List Fun → ℕ → Type 0
+GivesNothing functions number = IsSomeAnd (slice_get functions number) (λ function. function.gives ≡ false)
+
+-- cells that begin with a message, that of the event, and then its key
+pub record BeginWithEvent (kinds : List Kind) : Type 0 where
+  pub message : IsMessage kinds 0
+  pub key : slice_get kinds 14 ≡ Some Char
+
+-- selectors of known ranks, of which no two of one rank have a key in common
+pub record KeepsSelectors (selectors : List Selector) : Type 0 where
+  pub ranks : All (λ selector. selector.rank ≤ 2) selectors
+  pub apart : AllPairs AreApart selectors
+
+-- timers among so many, of which no two are the same
+pub record KeepsTimers (timers : List ℕ) (count : ℕ) : Type 0 where
+  pub exist : All (λ timer. timer < count) timers
+  pub differ : AllPairs (λ a b. a ≢ b) timers
+
+-- handlers of functions that give nothing, of which no two react to one key, to one timer, or with one rank to one frame
+pub record KeepsHandlers (code : Code) : Type 0 where
+  pub give_nothing : All (λ handler. GivesNothing code.functions handler.function) code.handlers
+  pub selectors : KeepsSelectors (all_selectors code.handlers)
+  pub timers : KeepsTimers (all_timers code.handlers) (length code.timers)
+  pub keys_differ : AllPairs (λ a b. a ≢ b) (all_keys code.handlers)
+
 -- the rules of the tables
 pub record KeepsTables (code : Code) : Type 0 where
-  pub event_cells : take 15 code.cells ≡ event_kinds
+  pub event_cells : BeginWithEvent code.cells
   pub starts_held : All (IsHeldStart code.cells) code.starts
-  pub handlers_give_nothing : All (λ handler. IsSomeAnd (slice_get code.functions handler.function) (λ function. function.gives ≡ false)) code.handlers
-  pub ranks : All (λ selector. selector.rank ≤ 2) (all_selectors code.handlers)
-  pub selectors_apart : AllPairs AreApart (all_selectors code.handlers)
-  pub timers_differ : AllPairs (λ a b. a ≢ b) (all_timers code.handlers)
-  pub keys_differ : AllPairs (λ a b. a ≢ b) (all_keys code.handlers)
-  pub timers_exist : All (λ timer. timer < length code.timers) (all_timers code.handlers)
-  pub units : All (λ unit. (unit ≡ 1000) ⊎ (unit ≡ 1000000)) code.timers
+  pub handlers : KeepsHandlers code
+  pub units : All IsUnit code.timers
   pub arrays_exist : All (λ format. All (IsCharArray code.cells) (char_arrays format)) code.formats

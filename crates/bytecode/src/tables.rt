@@ -4,11 +4,11 @@ ghost use Rattle.std.specs.Prelude.{◌≡◌, ◌≢◌, ◌⊎◌, ◌↔◌, 
 ghost use Rattle.int_kinds.specs.Kind.{Holds};
 ghost use Rattle.write_format.specs.Arrays.{IsCharArray};
 ghost use Rattle.write_format.specs.Format.{char_arrays};
-ghost use Rattle.bytecode.specs.Failure.{KeepsEvents, KeepsLists};
-ghost use Rattle.bytecode.specs.Tables.{AreApart, IsHeldStart, KeepsTables, all_keys, all_selectors, all_timers, event_kinds, key_of, selectors_of, timer_of};
+ghost use Rattle.bytecode.specs.Tables.{AreApart, BeginWithEvent, GivesNothing, IsHeldStart, IsUnit, KeepsHandlers, KeepsSelectors, KeepsTables, KeepsTimers, all_keys, all_selectors, all_timers, key_of, selectors_of, timer_of};
 
 use crate::code::{Code, Fun, Handler};
 use crate::distinct::{keys_differ, selectors_are_apart, timers_differ};
+use crate::message::{MESSAGE_KINDS, is_message};
 use crate::rule::is_number;
 use int_kinds::{Kind, holds};
 use sim_outside::NoMemory;
@@ -16,72 +16,29 @@ use std::alloc::Global;
 use vm_host::{Event, Selector};
 use write_format::Format;
 
-/// The kinds of the event's cells.
-const EVENT_KINDS: [Kind; 15] = [
-    Kind::Dword,
-    Kind::Byte,
-    Kind::Byte,
-    Kind::Word,
-    Kind::Byte,
-    Kind::Dword,
-    Kind::Byte,
-    Kind::Byte,
-    Kind::Byte,
-    Kind::Byte,
-    Kind::Byte,
-    Kind::Byte,
-    Kind::Byte,
-    Kind::Byte,
-    Kind::Char,
-];
+/// The cell of the event's key, which comes after its message.
+const KEY_CELL: usize = MESSAGE_KINDS.len();
 
 /// Whether the tables keep their rules.
 pub(crate) fn keeps_tables(alloc: Global, code: &Code) -> Result<bool, NoMemory>
     ensures { IfOk result (λ keeps. IsTrue keeps ↔ KeepsTables code.now) }
 {
-    if !keeps_lists(code) {
+    let kinds = code.cells.as_slice();
+    if !keeps_handlers(alloc, code)? {
         return Ok(false);
     }
-    let selectors = selectors_of(alloc, code.handlers.as_slice())?;
-    let timers = timers_of(alloc, code.handlers.as_slice())?;
-    let keys = keys_of(alloc, code.handlers.as_slice())?;
-    Ok(keeps_events(selectors, timers, &keys, code.timers.len()))
-}
-
-/// Whether the lists keep their rules, those on the handlers' events aside.
-fn keeps_lists(code: &Code) -> bool
-    ensures { IsTrue result ↔ KeepsLists code.now }
-{
-    let kinds = code.cells.as_slice();
-    begins_with_event(kinds)
+    let keeps_lists = begin_with_event(kinds)
         && starts_are_held(kinds, code.starts.as_slice())
-        && handlers_give_nothing(code.functions.as_slice(), code.handlers.as_slice())
         && units_are_known(code.timers.as_slice())
-        && arrays_exist(kinds, code.formats.as_slice())
+        && arrays_exist(kinds, code.formats.as_slice());
+    Ok(keeps_lists)
 }
 
-/// Whether the selectors, timers and keys of the handlers keep their rules, with so many timers.
-fn keeps_events(
-    selectors: Vec<Selector>,
-    timers: Vec<u32>,
-    keys: &[Option<u8>],
-    count: usize,
-) -> bool
-    ensures { IsTrue result ↔ KeepsEvents selectors.items timers.items keys.now count }
+/// Whether the first cells are those of the event: a message and then its key.
+fn begin_with_event(kinds: &[Kind]) -> bool
+    ensures { IsTrue result ↔ BeginWithEvent kinds.now }
 {
-    if !ranks_are_known(&selectors) || !timers_exist(&timers, count) {
-        return false;
-    }
-    let selectors_apart = selectors_are_apart(selectors);
-    let timers_apart = timers_differ(timers);
-    selectors_apart && timers_apart && keys_differ(keys)
-}
-
-/// Whether the first cells have the event's kinds.
-fn begins_with_event(kinds: &[Kind]) -> bool
-    ensures { IsTrue result ↔ (take 15 kinds.now ≡ event_kinds) }
-{
-    EVENT_KINDS.len() <= kinds.len() && &kinds[..EVENT_KINDS.len()] == EVENT_KINDS.as_slice()
+    is_message(kinds, 0) && matches!(kinds.get(KEY_CELL), Some(Kind::Char))
 }
 
 /// Whether each initial value is held by its cell's kind.
@@ -98,7 +55,7 @@ fn starts_are_held(kinds: &[Kind], starts: &[(u32, i128)]) -> bool
 
 /// Whether the kind of a cell has a number.
 fn is_held(kinds: &[Kind], cell: u32, n: i128) -> bool
-    ensures { IsTrue result ↔ IsSomeAnd (slice_get kinds.now cell) (λ k. Holds k n) }
+    ensures { IsTrue result ↔ IsHeldStart kinds.now (cell, n) }
 {
     match kinds.get(cell as usize) {
         Some(k) => is_number(n) && holds(*k, n),
@@ -108,7 +65,7 @@ fn is_held(kinds: &[Kind], cell: u32, n: i128) -> bool
 
 /// Whether each handler runs a function that gives nothing.
 fn handlers_give_nothing(functions: &[Fun], handlers: &[Handler]) -> bool
-    ensures { IsTrue result ↔ All (λ handler. IsSomeAnd (slice_get functions.now handler.function) (λ function. function.gives ≡ false)) handlers.now }
+    ensures { IsTrue result ↔ All (λ handler. GivesNothing functions.now handler.function) handlers.now }
 {
     handlers
         .iter()
@@ -117,7 +74,7 @@ fn handlers_give_nothing(functions: &[Fun], handlers: &[Handler]) -> bool
 
 /// Whether there is such a function, and it gives nothing.
 fn gives_nothing(functions: &[Fun], number: u32) -> bool
-    ensures { IsTrue result ↔ IsSomeAnd (slice_get functions.now number) (λ function. function.gives ≡ false) }
+    ensures { IsTrue result ↔ GivesNothing functions.now number }
 {
     match functions.get(number as usize) {
         Some(function) => !function.gives,
@@ -127,7 +84,7 @@ fn gives_nothing(functions: &[Fun], number: u32) -> bool
 
 /// Whether each unit is a millisecond or a second.
 fn units_are_known(units: &[u64]) -> bool
-    ensures { IsTrue result ↔ All (λ unit. (unit ≡ 1000) ⊎ (unit ≡ 1000000)) units.now }
+    ensures { IsTrue result ↔ All IsUnit units.now }
 {
     units.iter().all(|unit| *unit == 1000 || *unit == 1_000_000)
 }
@@ -137,6 +94,38 @@ fn arrays_exist(kinds: &[Kind], formats: &[Format]) -> bool
     ensures { IsTrue result ↔ All (λ format. All (IsCharArray kinds.now) (char_arrays format)) formats.now }
 {
     formats.iter().all(|format| format.has_arrays_in(kinds))
+}
+
+/// Whether the handlers keep their rules.
+fn keeps_handlers(alloc: Global, code: &Code) -> Result<bool, NoMemory>
+    ensures { IfOk result (λ keeps. IsTrue keeps ↔ KeepsHandlers code.now) }
+{
+    let handlers = code.handlers.as_slice();
+    let keeps_selectors = keeps_selectors(selectors_of(alloc, handlers)?);
+    let keeps_timers = keeps_timers(timers_of(alloc, handlers)?, code.timers.len());
+    let keys = keys_of(alloc, handlers)?;
+    let give_nothing = handlers_give_nothing(code.functions.as_slice(), handlers);
+    Ok(give_nothing && keeps_selectors && keeps_timers && keys_differ(&keys))
+}
+
+/// Whether the selectors have known ranks, and no two of one rank a key in common.
+fn keeps_selectors(selectors: Vec<Selector>) -> bool
+    ensures { IsTrue result ↔ KeepsSelectors selectors.items }
+{
+    if !ranks_are_known(&selectors) {
+        return false;
+    }
+    selectors_are_apart(selectors)
+}
+
+/// Whether the timers are among so many, and no two are the same.
+fn keeps_timers(timers: Vec<u32>, count: usize) -> bool
+    ensures { IsTrue result ↔ KeepsTimers timers.items count }
+{
+    if !timers_exist(&timers, count) {
+        return false;
+    }
+    timers_differ(timers)
 }
 
 /// All selectors of the handlers.

@@ -5,7 +5,7 @@ use Rattle.std.proofs.lemmas.List.{get_or_default}
 use mir.Syntax.{w128}
 use mir.Val.{SFits}
 use Rattle.bytecode.specs.Tables.{IsHeldStart}
-use Rattle.bytecode.proofs.Apart.{All-take_more, All-taken}
+use Rattle.bytecode.proofs.ListPairs.{All-take_more, All-taken}
 use Rattle.bytecode.proofs.tables.starts_are_held.Goals as goal
 
 pub loop-cell-preserved : goal.loop-cell-preserved
