@@ -15,35 +15,8 @@ use Rattle.signal_codec.specs.Signal.{IsUsable, payload_with}
 use Rattle.signal_codec.proofs.Payloads.{IsPayload, IsPayload-payload_with}
 use Rattle.bytecode.specs.Message.{IsMessage, bytes_of, bytes_of_number, message_at, message_kinds, payload_of, size}
 use Rattle.bytecode.specs.Runs.{HoldKinds}
-use Rattle.bytecode.proofs.Pairs.{AllZip-same_length, AllZip-splice, AllZip-take, AllZip-drop}
-
--- ---- places in lists
-
-pub drop-drop : {A : Type 0} (m n k : ℕ) (xs : List A) → k ≡ m + n → drop k xs ≡ drop n (drop m xs)
-drop-drop zero n k xs e = ap (λ i. drop i xs) (let same : k ≡ n = omega arith in same)
-drop-drop (suc m) n zero xs e = absurd (omega arith)
-drop-drop (suc m) zero (suc k) [] e = refl
-drop-drop (suc m) (suc n) (suc k) [] e = refl
-drop-drop (suc m) n (suc k) (x ∷ xs) e = drop-drop m n k xs (omega arith)
-
-pub take-take : {A : Type 0} (m n : ℕ) (xs : List A) → m ≤ n → take m (take n xs) ≡ take m xs
-take-take zero n xs h = refl
-take-take (suc m) zero xs h = absurd (omega arith)
-take-take (suc m) (suc n) [] h = refl
-take-take (suc m) (suc n) (x ∷ xs) h = ap (λ ys. x ∷ ys) (take-take m n xs (omega arith))
-
-pub slice_get-drop : {A : Type 0} (n i k : ℕ) (xs : List A) → k ≡ n + i → slice_get xs k ≡ slice_get (drop n xs) i
-slice_get-drop zero i k xs e = ap (slice_get xs) (let same : k ≡ i = omega arith in same)
-slice_get-drop (suc n) i zero xs e = absurd (omega arith)
-slice_get-drop (suc n) zero (suc k) [] e = refl
-slice_get-drop (suc n) (suc i) (suc k) [] e = refl
-slice_get-drop (suc n) i (suc k) (x ∷ xs) e = slice_get-drop n i k xs (omega arith)
-
-pub slice_get-take : {A : Type 0} (n i : ℕ) (xs : List A) → i < n → slice_get (take n xs) i ≡ slice_get xs i
-slice_get-take zero i xs h = absurd (omega arith)
-slice_get-take (suc n) i [] h = refl
-slice_get-take (suc n) zero (x ∷ xs) h = refl
-slice_get-take (suc n) (suc i) (x ∷ xs) h = slice_get-take n i xs (omega arith)
+use Rattle.bytecode.proofs.ListItems.{drop-drop, slice_get-drop, slice_get-take, take-take}
+use Rattle.bytecode.proofs.ZippedLists.{AllZip-same_length, AllZip-splice, AllZip-take, AllZip-drop}
 
 -- ---- the kinds of a message's cells
 

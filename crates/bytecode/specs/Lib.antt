@@ -1,4 +1,5 @@
 pub mod Failure
+pub mod Laws
 pub mod Machine
 pub mod Message
 pub mod Refusal

@@ -49,6 +49,11 @@ write_rules = written_id ∷ written_dlc ∷ written_rtr ∷ written_can ∷ []
 abbrev pub ident_of : ℕ → Ident
 ident_of id = if nat_le (2 ^ 31) id then Ext (id - 2 ^ 31) else Std id
 
+-- the number of an identifier in its cell, which `ident_of` undoes
+abbrev pub id_of : Ident → ℕ
+id_of (Std id) = id
+id_of (Ext id) = 2 ^ 31 + id
+
 -- the number in a message's cell
 abbrev pub field : List ℤ → ℕ → ℤ
 field message cell = slice_index_or message cell (pos 0)

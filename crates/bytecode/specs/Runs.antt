@@ -1,8 +1,9 @@
--- Where runs of code begin, and how long they may take.
-use Rattle.std.specs.Prelude.{◌≡◌, ◌≢◌, ℕ, Bool, ◌+◌, ◌-◌, ◌*◌, ◌≤◌, List, [], length, Some, slice_get, ℤ, ⊤}
+-- Where runs of code begin, what they come to, and how long they may take.
+use Rattle.std.specs.Prelude.{◌≡◌, ℕ, Bool, ◌+◌, ◌-◌, ◌*◌, ◌≤◌, List, [], length, Some, slice_get, ℤ, ⊤}
 use Rattle.std.specs.List.{AllZip, sum_by}
 use Rattle.int_kinds.specs.declared.kinds.Kind.{Kind}
 use Rattle.int_kinds.specs.Kind.{Holds}
+use Rattle.vm_host.specs.declared.outcome.Outcome.{Outcome}
 use Rattle.bytecode.specs.declared.code.Code.{Code}
 use Rattle.bytecode.specs.declared.code.Handler.{Handler}
 use Rattle.bytecode.specs.declared.code.Fun.{Fun}
@@ -26,6 +27,14 @@ pub record IsStartOf (code : Code) (number : ℕ) (m : Machine) : Type 0 where
   pub cells_held : HoldKinds code.cells m.cells
   pub timers_exist : length code.timers ≤ length m.active
 
+-- the run from a state comes to another, in a measurement that has ended or not and at a moment
+abbrev pub Reaches : Code → Bool → ℕ → Machine → Machine → Type 0
+Reaches code closed moment start m = (steps : ℕ) × (go code closed moment steps start ≡ Goes m)
+
+-- the run from a state ends with an outcome, in another state
+abbrev pub EndsIn : Code → Bool → ℕ → Machine → Outcome → Machine → Type 0
+EndsIn code closed moment start outcome m = (steps : ℕ) × (go code closed moment steps start ≡ Ends outcome m)
+
 -- a run that has ended, and was not stuck
 abbrev pub HasEnded : Next → Type 0
 HasEnded (Goes m) = ⊥
@@ -36,12 +45,8 @@ HasEnded Stuck = ⊥
 abbrev pub places_left : Code → ℕ → ℕ
 places_left code place = length code.instrs - place
 
--- At least as many steps as a run may still take: for each turn one more than there are places, and the places that are left in
--- the function and in each open call.
+-- At least as many steps as a run may still take: for each turn one more than there are places, and the places that are
+-- left in the function and in each open call.
 abbrev pub steps_left : Code → Machine → ℕ
-steps_left code m = m.turns * (length code.instrs + 1) + (places_left code m.place + sum_by (places_left code) m.calls)
-
--- a run from this state, in a measurement that has ended or not and at any moment, is never stuck and ends
-pub record RunsToItsEnd (code : Code) (m : Machine) : Type 0 where
-  pub never_stuck : (closed : Bool) (moment n : ℕ) → go code closed moment n m ≢ Stuck
-  pub ends : (closed : Bool) (moment n : ℕ) → steps_left code m ≤ n → HasEnded (go code closed moment n m)
+steps_left code m =
+    m.turns * (length code.instrs + 1) + (places_left code m.place + sum_by (places_left code) m.calls)

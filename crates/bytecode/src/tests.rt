@@ -14,24 +14,12 @@ use vm_host::{Event, Selector};
 const LIMIT: usize = 0x1_0000_0000;
 
 /// The kinds of the event's cells and of a long cell 15.
-const KINDS: [Kind; 16] = [
-    Kind::Dword,
-    Kind::Byte,
-    Kind::Byte,
-    Kind::Word,
-    Kind::Byte,
-    Kind::Dword,
-    Kind::Byte,
-    Kind::Byte,
-    Kind::Byte,
-    Kind::Byte,
-    Kind::Byte,
-    Kind::Byte,
-    Kind::Byte,
-    Kind::Byte,
-    Kind::Char,
-    Kind::Long,
-];
+fn kinds(alloc: Global) -> Result<Vec<Kind>, AllocError> {
+    let mut kinds = MESSAGE_KINDS.to_vec(alloc)?;
+    kinds.push(Kind::Char)?;
+    kinds.push(Kind::Long)?;
+    Ok(kinds)
+}
 
 /// Code of one function, which gives nothing and which each of these events runs.
 fn code(
@@ -61,7 +49,7 @@ fn code(
             },
         ]?),
         handlers: Items::from_list(handlers),
-        cells: Items::from_list(KINDS.to_vec(alloc)?),
+        cells: Items::from_list(kinds(alloc)?),
         starts: Items::from_list(vec![in alloc; (15, 0)]?),
         timers: Items::from_list(vec![in alloc; 1000, 1_000_000]?),
         formats: Items::new(alloc),
@@ -194,5 +182,8 @@ fn handlers_share_nothing(rt: HostRuntime) -> Result<(), Fail> {
 
 #[test]
 fn laws_can_be_called() {
+    laws::a_run_has_one_end();
+    laws::a_run_keeps_its_effects();
     laws::verified_code_runs_to_its_end();
+    laws::each_step_of_verified_code();
 }

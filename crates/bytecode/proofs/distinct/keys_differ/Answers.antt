@@ -3,7 +3,7 @@ use Rattle.std.specs.Prelude.{AllPairs}
 use Rattle.std.specs.Option.{option_eq}
 use Rattle.std.proofs.lemmas.Bool.Decides.{Decides-eqb}
 use Rattle.std.proofs.lemmas.List.{get_or-take, get_or_default}
-use Rattle.bytecode.proofs.Apart.{AllPairs-take_more, AllPairs-taken}
+use Rattle.bytecode.proofs.ListPairs.{AllPairs-take_more, AllPairs-taken}
 use Rattle.bytecode.proofs.distinct.keys_differ.Goals as goal
 
 -- the test of keys decides whether they are equal

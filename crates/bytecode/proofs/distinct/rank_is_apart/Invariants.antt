@@ -1,7 +1,7 @@
 use Rattle.std.proofs.Common.{take}
 use Rattle.std.specs.Prelude.{AllPairs}
 use Rattle.bytecode.specs.Tables.{AreApartIn}
-use Rattle.bytecode.proofs.Ranks.{IsHighest}
+use Rattle.bytecode.proofs.SelectorRanks.{IsHighest}
 use Rattle.bytecode.proofs.distinct.rank_is_apart.Given as goal
 
 abbrev pub invariant-loop-selector : goal.invariant-loop-selector

@@ -2,7 +2,7 @@ use Rattle.std.proofs.Common.{arith, ◌≡◌, ◌∙◌, true, false, refl, sy
 use Rattle.std.specs.Prelude.{AllPairs}
 use borrow.Author.Count.{below_more}
 use Rattle.bytecode.specs.Tables.{AreApartIn}
-use Rattle.bytecode.proofs.Ranks.{apart_in_rank, apart_in_ranks}
+use Rattle.bytecode.proofs.SelectorRanks.{apart_in_rank, apart_in_ranks}
 use Rattle.bytecode.proofs.distinct.ranks_are_apart.Goals as goal
 
 pub returns-then-not-rank_is_apart : goal.returns-then-not-rank_is_apart

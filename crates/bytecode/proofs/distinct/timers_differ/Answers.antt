@@ -2,7 +2,7 @@ use Rattle.std.proofs.Common.{◌≢◌, ℕ, List, sym, subst}
 use Rattle.std.specs.Prelude.{AllPairs}
 use Rattle.std.specs.List.Sorted.{IsNonDecreasing}
 use Rattle.std.proofs.lemmas.List.Sorted.{IsNonDecreasingBy-from_sort}
-use Rattle.bytecode.proofs.Apart.{AllPairs-permutation, AllPairs-permuted}
+use Rattle.bytecode.proofs.ListPairs.{AllPairs-permutation, AllPairs-permuted}
 use Rattle.bytecode.proofs.distinct.timers_differ.Goals as goal
 
 pub rises-requires : goal.rises-requires

@@ -1,7 +1,7 @@
-use Rattle.std.proofs.Common.{arith, ◌≡◌, ◌<◌, ℕ, List, length, slice_get, get_or, Some, subst, ap}
+use Rattle.std.proofs.Common.{arith, ◌≡◌, ◌<◌, ℕ, List, length, slice_get, get_or, Some, ap}
 use Rattle.bytecode.specs.declared.code.Fun.{Fun}
-use Rattle.bytecode.proofs.PlacesInOrder.{all_keep, first_of_all, one_more}
-use Rattle.bytecode.proofs.ItemsRead.{read_there}
+use Rattle.bytecode.proofs.FailureLemmas.{all_keep, first_of_all, one_more}
+use Rattle.bytecode.proofs.ListItems.{read_there}
 use Rattle.bytecode.proofs.failure.first_broken.Goals as goal
 
 -- the function that the loop is at

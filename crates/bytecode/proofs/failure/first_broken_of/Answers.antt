@@ -1,4 +1,4 @@
-use Rattle.std.proofs.Common.{arith, refl, ◌≡◌, ◌≤◌, ℕ, true, false, length, slice_get, Some, ap, sym, ◌∙◌, subst}
+use Rattle.std.proofs.Common.{arith, ◌≡◌, ◌≤◌, ℕ, true, false, length, slice_get, Some, ap, sym, ◌∙◌, subst}
 use borrow.Author.Count.{below_more}
 use Rattle.bytecode.specs.declared.code.Code.{Code}
 use Rattle.bytecode.specs.declared.code.Fun.{Fun}
@@ -6,8 +6,8 @@ use Rattle.bytecode.specs.declared.instr.Instr.{Instr}
 use Rattle.bytecode.specs.Rule.{KeepsRule}
 use Rattle.bytecode.specs.Verified.{IsLaidOut}
 use Rattle.bytecode.specs.Failure.{KeepsRuleIn}
-use Rattle.bytecode.proofs.Covered.{Cover-between, LiesBetween}
-use Rattle.bytecode.proofs.ItemsRead.{read_there}
+use Rattle.bytecode.proofs.CoverLemmas.{Cover-between, LiesBetween}
+use Rattle.bytecode.proofs.ListItems.{read_there}
 use Rattle.bytecode.proofs.failure.first_broken_of.Goals as goal
 
 -- a function of laid out code lies among its instructions

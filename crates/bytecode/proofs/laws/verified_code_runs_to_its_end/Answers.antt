@@ -1,4 +1,5 @@
-use Rattle.bytecode.proofs.Running.{runs_to_its_end}
+-- The ends of runs of verified code.
+use Rattle.bytecode.proofs.VerifiedRuns.{runs_to_its_end}
 use Rattle.bytecode.proofs.laws.verified_code_runs_to_its_end.Goals as goal
 
 pub returns : goal.returns

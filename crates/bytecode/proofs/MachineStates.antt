@@ -1,12 +1,13 @@
--- What stays true of the machine as it runs verified code.
+-- What stays true of the machine's state as it runs verified code.
 use Rattle.std.proofs.Common.{◌≡◌, ◌≤◌, ◌<◌, ◌+◌, ℕ, List, [], ◌∷◌, length, slice_get, Some}
 use Rattle.std.specs.List.{AllByRecursion}
 use Rattle.int_kinds.specs.Kind.{IsNumber}
 use Rattle.bytecode.specs.declared.code.Code.{Code}
 use Rattle.bytecode.specs.declared.code.Fun.{Fun}
+use Rattle.bytecode.specs.Laws.{GoesOn, MayEnd}
 use Rattle.bytecode.specs.Machine.{Machine, Next, Goes, Ends, Stuck}
 use Rattle.bytecode.specs.Rule.{IsIn}
-use Rattle.bytecode.specs.Runs.{HoldKinds, steps_left}
+use Rattle.bytecode.specs.Runs.{HoldKinds}
 use Rattle.bytecode.specs.Shape.{gives_number}
 
 -- a place of a function, by the function's number, with the place's depth
@@ -27,30 +28,29 @@ Below code number function [] below = below ≡ 0
 Below code number function (place ∷ calls) below = (caller : ℕ) × (calling : Fun) × (depth : ℕ) × (under : ℕ) ×
     ReturnsTo code number function place below caller calling depth under × Below code caller calling calls under
 
--- the machine stands at a place of a function, with its depth and the callers' numbers on the stack
-pub record Standing (code : Code) (m : Machine) (number : ℕ) (function : Fun) (depth below : ℕ) : Type 0 where
-  pub at : IsAt code number function m.place depth
-  pub height : length m.stack ≡ depth + below
-  pub callers : Below code number function m.calls below
-
--- cells that their kinds hold, numbers on the stack, and as many timers as the code has, or more
-pub record IsHeld (code : Code) (m : Machine) : Type 0 where
-  pub cells : HoldKinds code.cells m.cells
-  pub numbers : AllByRecursion IsNumber m.stack
-  pub timers : length code.timers ≤ length m.active
-
--- the machine stands somewhere in the code
+-- The machine stands at a place of a function, with the place's depth and the callers' numbers on the stack, cells that
+-- their kinds hold, and as many timers as the code has, or more.
 pub record Stands (code : Code) (m : Machine) : Type 0 where
   pub number : ℕ
   pub function : Fun
   pub depth : ℕ
   pub below : ℕ
-  pub standing : Standing code m number function depth below
-  pub held : IsHeld code m
+  pub at : IsAt code number function m.place depth
+  pub height : length m.stack ≡ depth + below
+  pub callers : Below code number function m.calls below
+  pub cells_held : HoldKinds code.cells m.cells
+  pub numbers : AllByRecursion IsNumber m.stack
+  pub timers : length code.timers ≤ length m.active
 
--- after a step: where the machine goes on it stands in the code and has fewer steps left, where it has ended its cells
--- are held, and it is not stuck
-abbrev pub StepsWell : Code → Machine → Next → Type 0
-StepsWell code m (Goes after) = Stands code after × (steps_left code after < steps_left code m)
-StepsWell code m (Ends outcome after) = HoldKinds code.cells after.cells
-StepsWell code m Stuck = ⊥
+-- A safe step: where it goes on, it does so in one of the ways of verified code, and the machine stands in the code then;
+-- where it ends the run, it leaves the state as it was; it is not stuck.
+abbrev pub IsSafeStep : {code : Code} {m : Machine} → Stands code m → Next → Type 0
+IsSafeStep {code} {m} s (Goes after) = GoesOn code s.number s.function m after × Stands code after
+IsSafeStep {code} {m} s (Ends outcome after) = (after ≡ m) × MayEnd outcome m
+IsSafeStep {code} {m} s Stuck = ⊥
+
+-- a state of a run of verified code: the machine stands in the code, or the run has ended with cells that their kinds hold
+abbrev pub IsSafe : Code → Next → Type 0
+IsSafe code (Goes m) = Stands code m
+IsSafe code (Ends outcome m) = HoldKinds code.cells m.cells
+IsSafe code Stuck = ⊥

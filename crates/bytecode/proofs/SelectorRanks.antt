@@ -6,7 +6,7 @@ use Rattle.std.proofs.lemmas.Bool.{cases_eq, cases_lt}
 use Rattle.std.proofs.lemmas.List.{get_or-take, get_or_default}
 use Rattle.bytecode.specs.Tables.{AreApart, AreApartIn}
 use Rattle.vm_host.specs.declared.event.Selector.{Selector}
-use Rattle.bytecode.proofs.Apart.{AllPairs-take_more}
+use Rattle.bytecode.proofs.ListPairs.{AllPairs-take_more}
 
 -- the selector of key 0, where a list has none
 abbrev pub nowhere : Selector

@@ -7,12 +7,8 @@ use Rattle.bytecode.specs.declared.code.Fun.{Fun}
 use Rattle.bytecode.specs.Rule.{IsIn}
 use Rattle.bytecode.specs.Verified.{IsLaidOut, KeepsRuleAt}
 use Rattle.bytecode.specs.Failure.{FailsFirstIn, FailsFirstOfAll, KeepsRuleIn, KeepsRulesOf}
-use Rattle.bytecode.proofs.Covered.{Cover-between, Cover-follows, LiesBetween}
-
--- a function of laid out code lies among its instructions
-pub lies_in_code : (code : Code) (number : ℕ) (function : Fun) → IsLaidOut code →
-    slice_get code.functions number ≡ Some function → LiesBetween 0 (length code.instrs) function
-lies_in_code code number function laid there = Cover-between 0 code.functions (length code.instrs) laid.covered number function there
+use Rattle.bytecode.proofs.CoverLemmas.{Cover-follows}
+use Rattle.bytecode.proofs.PlaceRules.{lies_in_code}
 
 -- the places of the functions before this one keep their rules
 abbrev pub EarlierKeep : Code → ℕ → Type 0
