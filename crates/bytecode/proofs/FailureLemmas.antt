@@ -6,7 +6,7 @@ use Rattle.bytecode.specs.declared.code.Code.{Code}
 use Rattle.bytecode.specs.declared.code.Fun.{Fun}
 use Rattle.bytecode.specs.Rule.{IsIn}
 use Rattle.bytecode.specs.Verified.{IsLaidOut, KeepsRuleAt}
-use Rattle.bytecode.specs.Failure.{FailsFirstIn, FailsFirstOfAll, KeepsRuleIn, KeepsRulesOf}
+use Rattle.bytecode.specs.Inside.Failure.{FailsFirstIn, FailsFirstOfAll, KeepsRuleIn, KeepsRulesOf}
 use Rattle.bytecode.proofs.CoverLemmas.{Cover-follows}
 use Rattle.bytecode.proofs.PlaceRules.{lies_in_code}
 

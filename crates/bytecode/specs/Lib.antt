@@ -1,4 +1,6 @@
+-- The definitions of this crate.
 pub mod Failure
+pub mod Inside
 pub mod Laws
 pub mod Machine
 pub mod Message

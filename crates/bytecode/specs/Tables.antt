@@ -54,10 +54,6 @@ pub record IsWithin (selector : Selector) (key : ℕ) : Type 0 where
 abbrev pub AreApart : Selector → Selector → Type 0
 AreApart a b = a.rank ≡ b.rank → (key : ℕ) → IsWithin a key → IsWithin b key → ⊥
 
--- two selectors have no key in common, if they are of this rank
-abbrev pub AreApartIn : ℕ → Selector → Selector → Type 0
-AreApartIn rank a b = a.rank ≡ rank → b.rank ≡ rank → (key : ℕ) → IsWithin a key → IsWithin b key → ⊥
-
 -- a unit of a timer in microseconds: a millisecond or a second
 abbrev pub IsUnit : ℕ → Type 0
 IsUnit unit = (unit ≡ 1000) ⊎ (unit ≡ 1000000)

@@ -30,15 +30,6 @@ pub record IsVerified (code : Code) : Type 0 where
   pub places : (place : ℕ) → place < length code.instrs → KeepsRuleAt code place
   pub tables : KeepsTables code
 
--- The first place whose rule fails. Where the functions do not cover the instructions, or the depths are not as many, it
--- is the place after the last instruction, and no other rule is asked. A rule of the tables has this place too.
-pub data FailsFirstAt (code : Code) (place : ℕ) : Type 0 where
-  layout : ¬ (IsLaidOut code) → place ≡ length code.instrs → FailsFirstAt code place
-  rule : IsLaidOut code → place < length code.instrs → ¬ (KeepsRuleAt code place) →
-      ((earlier : ℕ) → earlier < place → KeepsRuleAt code earlier) → FailsFirstAt code place
-  tables : IsLaidOut code → ((earlier : ℕ) → earlier < length code.instrs → KeepsRuleAt code earlier) →
-      ¬ (KeepsTables code) → place ≡ length code.instrs → FailsFirstAt code place
-
 -- no list of the code, at any depth, has 2^32 items or more
 pub record IsShortCode (code : Code) : Type 0 where
   pub instrs : length code.instrs < 2 ^ 32

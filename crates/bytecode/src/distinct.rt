@@ -2,7 +2,8 @@
 
 ghost use Rattle.std.specs.Prelude.{◌≡◌, ◌≢◌, ◌↔◌, ◌≤◌, AllPairs, All, IsSomeAnd, IsTrue};
 ghost use Rattle.std.specs.List.Sorted.{IsNonDecreasing, IsNonDecreasingBy};
-ghost use Rattle.bytecode.specs.Tables.{AreApart, AreApartIn};
+ghost use Rattle.bytecode.specs.Inside.Distinct.{AreApartIn};
+ghost use Rattle.bytecode.specs.Tables.{AreApart};
 
 use vm_host::Selector;
 

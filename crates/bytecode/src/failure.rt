@@ -1,8 +1,9 @@
 // The first place whose rule fails.
 
 ghost use Rattle.std.specs.Prelude.{◌≡◌, ◌↔◌, ◌<◌, ℕ, length, drop, slice_get, IsTrue, MatchOption, IfOk, Some};
-ghost use Rattle.bytecode.specs.Verified.{Cover, FailsFirstAt, IsLaidOut, IsShortCode, IsVerified, KeepsRuleAt};
-ghost use Rattle.bytecode.specs.Failure.{FailsFirstOfAll, FailsFirstIn, KeepsRulesOf};
+ghost use Rattle.bytecode.specs.Failure.{FailsFirstAt};
+ghost use Rattle.bytecode.specs.Verified.{Cover, IsLaidOut, IsShortCode, IsVerified, KeepsRuleAt};
+ghost use Rattle.bytecode.specs.Inside.Failure.{FailsFirstOfAll, FailsFirstIn, KeepsRulesOf};
 ghost use Rattle.bytecode.specs.Tables.{KeepsTables};
 
 use crate::code::{Code, Fun};

@@ -11,7 +11,8 @@
 pub use code::{Code, Fun, Handler};
 pub use instr::Instr;
 pub use message::MESSAGE_KINDS;
-pub use verified::{Verified, VerifyRefusal, verify};
+pub use refusal::VerifyRefusal;
+pub use verified::{Verified, verify};
 
 mod code;
 mod distinct;
@@ -19,6 +20,7 @@ mod failure;
 mod instr;
 pub mod laws;
 mod message;
+mod refusal;
 mod rule;
 mod shape;
 mod tables;

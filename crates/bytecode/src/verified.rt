@@ -1,11 +1,12 @@
 // Verified code, and the verifier.
 
 ghost use Rattle.std.specs.Prelude.{◌≡◌, IfErr, IfOk};
-ghost use Rattle.bytecode.specs.Refusal.{IsRightly};
+ghost use Rattle.bytecode.specs.Refusal.{IsRefusalOf};
 ghost use Rattle.bytecode.specs.Verified.{IsShortCode, IsVerified};
 
 use crate::code::Code;
 use crate::failure::first_failure;
+use crate::refusal::VerifyRefusal;
 use sim_outside::NoMemory;
 use std::alloc::Global;
 use std::marker::Model;
@@ -40,32 +41,6 @@ impl Verified {
     }
 }
 
-/// Why code is not verified.
-#[derive(Debug, Drop)]
-pub enum VerifyRefusal {
-    /// A rule of the verifier fails.
-    Unverified {
-        /// The first place whose rule fails, which is the number of instructions where it is a rule
-        /// of the functions' places, of the number of depths or of the tables.
-        place: u32,
-        /// The code, unchanged.
-        code: Code,
-    },
-    /// There was no memory.
-    NoMemory,
-}
-
-impl From<NoMemory> for VerifyRefusal {
-    ghost use Rattle.std.specs.Prelude.{◌≡◌};
-    ghost use Rattle.bytecode.specs.declared.verified.VerifyRefusal.TheVariants.{NoMemory};
-
-    ghost from_gives = { λ _ refusal. refusal ≡ NoMemory };
-
-    fn from(_: NoMemory) -> VerifyRefusal {
-        VerifyRefusal::NoMemory
-    }
-}
-
 /// Takes code that keeps every rule of the verifier, and gives any other back with the first place
 /// whose rule fails.
 ///
@@ -75,7 +50,7 @@ pub fn verify(alloc: Global, code: Code) -> Result<Verified, VerifyRefusal>
     requires { IsShortCode code }
     ensures same { IfOk result (λ verified. verified ≡ code) }
     ensures verified { IfOk result IsVerified }
-    ensures unverified { IfErr result (IsRightly code) }
+    ensures unverified { IfErr result (IsRefusalOf code) }
 {
     match first_failure(alloc, &code)? {
         Some(place) => Err(VerifyRefusal::Unverified { place, code }),

@@ -1,5 +1,5 @@
 use Rattle.std.proofs.Common.{arith, ◌≡◌, ◌∙◌, Bool, true, false, get_or, refl, sym}
-use Rattle.bytecode.specs.Tables.{AreApartIn}
+use Rattle.bytecode.specs.Inside.Distinct.{AreApartIn}
 use Rattle.bytecode.proofs.ListPairs.{AllPairs-taken}
 use Rattle.bytecode.proofs.SelectorRanks.{IsHighest-higher, IsHighest-others, IsOfRank, apart_of_higher, apart_of_others, common_key, nowhere}
 use Rattle.bytecode.proofs.distinct.rank_is_apart.Goals as goal

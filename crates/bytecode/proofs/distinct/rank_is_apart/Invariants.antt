@@ -1,6 +1,6 @@
 use Rattle.std.proofs.Common.{take}
 use Rattle.std.specs.Prelude.{AllPairs}
-use Rattle.bytecode.specs.Tables.{AreApartIn}
+use Rattle.bytecode.specs.Inside.Distinct.{AreApartIn}
 use Rattle.bytecode.proofs.SelectorRanks.{IsHighest}
 use Rattle.bytecode.proofs.distinct.rank_is_apart.Given as goal
 

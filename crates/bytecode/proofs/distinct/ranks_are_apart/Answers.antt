@@ -1,7 +1,7 @@
 use Rattle.std.proofs.Common.{arith, ◌≡◌, ◌∙◌, true, false, refl, sym}
 use Rattle.std.specs.Prelude.{AllPairs}
 use borrow.Author.Count.{below_more}
-use Rattle.bytecode.specs.Tables.{AreApartIn}
+use Rattle.bytecode.specs.Inside.Distinct.{AreApartIn}
 use Rattle.bytecode.proofs.SelectorRanks.{apart_in_rank, apart_in_ranks}
 use Rattle.bytecode.proofs.distinct.ranks_are_apart.Goals as goal
 

@@ -1,6 +1,6 @@
 use Rattle.std.proofs.Common.{ℕ, ◌<◌}
 use Rattle.std.specs.Prelude.{AllPairs}
-use Rattle.bytecode.specs.Tables.{AreApartIn}
+use Rattle.bytecode.specs.Inside.Distinct.{AreApartIn}
 use Rattle.bytecode.proofs.distinct.ranks_are_apart.Given as goal
 
 abbrev pub invariant-loop-rank : goal.invariant-loop-rank

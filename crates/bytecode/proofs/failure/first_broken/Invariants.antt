@@ -1,6 +1,6 @@
 use Rattle.std.proofs.Common.{ℕ, ◌<◌, ◌≡◌, slice_get, Some}
 use Rattle.bytecode.specs.declared.code.Fun.{Fun}
-use Rattle.bytecode.specs.Failure.{KeepsRulesOf}
+use Rattle.bytecode.specs.Inside.Failure.{KeepsRulesOf}
 use Rattle.bytecode.proofs.failure.first_broken.Given as goal
 
 abbrev pub invariant-loop-number : goal.invariant-loop-number

@@ -5,7 +5,7 @@ use Rattle.bytecode.specs.declared.code.Fun.{Fun}
 use Rattle.bytecode.specs.declared.instr.Instr.{Instr}
 use Rattle.bytecode.specs.Rule.{KeepsRule}
 use Rattle.bytecode.specs.Verified.{IsLaidOut}
-use Rattle.bytecode.specs.Failure.{KeepsRuleIn}
+use Rattle.bytecode.specs.Inside.Failure.{KeepsRuleIn}
 use Rattle.bytecode.proofs.CoverLemmas.{Cover-between, LiesBetween}
 use Rattle.bytecode.proofs.ListItems.{read_there}
 use Rattle.bytecode.proofs.failure.first_broken_of.Goals as goal

@@ -1,5 +1,5 @@
 use Rattle.std.proofs.Common.{ℕ, ◌≤◌, ◌<◌}
-use Rattle.bytecode.specs.Failure.{KeepsRuleIn}
+use Rattle.bytecode.specs.Inside.Failure.{KeepsRuleIn}
 use Rattle.bytecode.proofs.failure.first_broken_of.Given as goal
 
 abbrev pub invariant-loop-place : goal.invariant-loop-place
