@@ -1,7 +1,7 @@
 -- How a run begins in a memory, and that it leaves a memory of the same code.
 use Rattle.std.proofs.Common.{◌≡◌, ◌<◌, ◌≤◌, ℕ, Bool, List, [], length, get_or, slice_get, Option, Some, None, Result, Ok, Err, OnErr, refl, sym, ap, ◌∙◌, subst}
 use Rattle.std.specs.Prelude.{IsSomeAnd, false}
-use Rattle.std.proofs.lemmas.Option.{slice_get_within}
+use Rattle.std.proofs.lemmas.Option.{get_or_from_slice_get, slice_get_within}
 use Rattle.bytecode.specs.declared.code.Code.{Code}
 use Rattle.bytecode.specs.declared.code.Fun.{Fun}
 use Rattle.bytecode.specs.declared.code.Handler.{Handler}
@@ -21,6 +21,10 @@ use Rattle.stack_vm.proofs.Items.{item_read}
 abbrev pub memory_of : RunState → MemoryState
 memory_of s = record { cells = s.cells; numbers_room = s.numbers_room; calls_room = s.calls_room }
 
+-- no function
+abbrev pub none : Fun
+none = record { start = 0; end = 0; gives = false }
+
 -- a state with these cells and this room, in which a function begins
 abbrev pub at_start : RunState → Fun → ℕ → RunState
 at_start s function turns = record s { place = function.start; stack = []; calls = []; turns = turns }
@@ -29,12 +33,14 @@ there_when : {X : Type 0} (xs : List X) (i : ℕ) (P : X → Type 0) (o : Option
 there_when xs i P None e h = absurd h
 there_when xs i P (Some x) e h = slice_get_within xs i x e
 
-function_there : (code : Code) → IsVerified code → (number : ℕ) (handler : Handler) → number < length code.handlers →
-    handler ≡ get_or code.handlers number handler → handler.function < length code.functions
-function_there code verified number handler h e =
-    let there = there_when code.functions (get_or code.handlers number handler).function (λ function. function.gives ≡ false)
-    (slice_get code.functions (get_or code.handlers number handler).function) refl (verified.tables.handlers_give_nothing number handler h) in
-    subst (λ (x : Handler). x.function < length code.functions) (sym e) there
+-- the function of a handler exists
+pub function_there : (code : Code) → IsVerified code → (number : ℕ) (handler : Handler) → slice_get code.handlers number ≡ Some handler →
+    handler.function < length code.functions
+function_there code verified number handler is =
+    let e = get_or_from_slice_get code.handlers number handler handler is in
+    let h = verified.tables.handlers_give_nothing number handler (slice_get_within code.handlers number handler is) in
+    there_when code.functions handler.function (λ function. function.gives ≡ false) (slice_get code.functions handler.function) refl
+    (subst (λ (x : Handler). IsSomeAnd (slice_get code.functions x.function) (λ function. function.gives ≡ false)) e h)
 
 -- a handler of code begins in a state, in the memory that the state belongs to
 pub record Begun {S : Type 0} (timers : S → List Bool) (code : Code) (number turns : ℕ) (memory : MemoryState) (host : S) (start : RunState) : Type 0 where
@@ -42,20 +48,20 @@ pub record Begun {S : Type 0} (timers : S → List Bool) (code : Code) (number t
   pub numbers : start.numbers_room ≡ memory.numbers_room
   pub calls : start.calls_room ≡ memory.calls_room
 
-begun_in : {S : Type 0} (timers : S → List Bool) (code : Code) → IsVerified code → (number : ℕ) (handler : Handler) (function : Fun) (turns : ℕ)
-    (before : RunState) (memory : MemoryState) (host : S) (start : RunState) → number < length code.handlers →
-    handler ≡ get_or code.handlers number handler → function ≡ get_or code.functions handler.function function →
+begun_in : {S : Type 0} (timers : S → List Bool) (code : Code) (number : ℕ) (handler : Handler) (function : Fun) (turns : ℕ)
+    (before : RunState) (memory : MemoryState) (host : S) (start : RunState) →
+    slice_get code.handlers number ≡ Some handler → slice_get code.functions handler.function ≡ Some function →
     memory_of before ≡ memory → IsMemoryOf code memory → length code.timers ≤ length (timers host) → start ≡ at_start before function turns →
     Begun timers code number turns memory host start
-begun_in timers code verified number handler function turns before memory host start h eh ef view is exist e =
+begun_in timers code number handler function turns before memory host start eh ef view is exist e =
     let cells : start.cells ≡ memory.cells = ap (λ (s : RunState). s.cells) e ∙ ap (λ (m : MemoryState). m.cells) view in
     record {
       begins = record {
         is_start = record {
           handler = handler;
           function = function;
-          is_handler = item_read code.handlers refl h eh;
-          is_function = item_read code.functions refl (function_there code verified number handler h eh) ef;
+          is_handler = eh;
+          is_function = ef;
           at_start = ap (λ (s : RunState). s.place) e;
           no_numbers = ap (λ (s : RunState). s.stack) e;
           no_calls = ap (λ (s : RunState). s.calls) e;
@@ -69,16 +75,19 @@ begun_in timers code verified number handler function turns before memory host s
       calls = ap (λ (s : RunState). s.calls_room) e ∙ ap (λ (m : MemoryState). m.calls_room) view;
     }
 
--- the same where the code was read from a verified one
+-- the same where the code was read from a verified one, and the handler and its function from its lists
 pub begun : {S : Type 0} (timers : S → List Bool) (host : S) (before : RunState) {read code : Code} → read ≡ code → IsVerified read →
-    {number : ℕ} {handler : Handler} {function : Fun} {turns : ℕ} {memory : MemoryState} {start : RunState} → number < length code.handlers →
-    handler ≡ get_or read.handlers number handler → function ≡ get_or read.functions handler.function function →
-    memory_of before ≡ memory → IsMemoryOf code memory → length code.timers ≤ length (timers host) → start ≡ at_start before function turns →
+    (number turns : ℕ) {memory : MemoryState} {start : RunState} → number < length code.handlers →
+    {handlers : List Handler} → handlers ≡ read.handlers → (d : Handler) → {functions : List Fun} → functions ≡ read.functions →
+    memory_of before ≡ memory → IsMemoryOf code memory → length code.timers ≤ length (timers host) →
+    start ≡ at_start before (get_or functions (get_or handlers number d).function none) turns →
     Begun timers code number turns memory host start
-begun timers host before {read} {code} same verified {number} {handler} {function} {turns} {memory} {start} h eh ef view is exist e =
-    begun_in timers code (subst IsVerified same verified) number handler function turns before memory host start h
-    (subst (λ (z : Code). handler ≡ get_or z.handlers number handler) same eh)
-    (subst (λ (z : Code). function ≡ get_or z.functions handler.function function) same ef) view is exist e
+begun timers host before {read} {code} same verified number turns {memory} {start} h {handlers} eh d {functions} ef view is exist e =
+    let handler : Handler = get_or handlers number d in
+    let there : slice_get code.handlers number ≡ Some handler = item_read code.handlers (eh ∙ ap (λ (z : Code). z.handlers) same) refl h d in
+    let within = function_there code (subst IsVerified same verified) number handler there in
+    begun_in timers code number handler (get_or functions handler.function none) turns before memory host start there
+    (item_read code.functions (ef ∙ ap (λ (z : Code). z.functions) same) refl within none) view is exist e
 
 -- there is room for every state that the run reaches
 pub room_of_begun : {S : Type 0} {timers : S → List Bool} {read code : Code} {number turns : ℕ} {memory : MemoryState} {host : S} {start : RunState} → read ≡ code →

@@ -1,7 +1,8 @@
 -- An item of a list, where it was read by its place.
 use Rattle.std.proofs.Common.{◌≡◌, ◌<◌, ℕ, List, length, get_or, slice_get, Some, sym, ap, ◌∙◌}
-use Rattle.std.proofs.lemmas.Option.{slice_get-get_or}
+use Rattle.bytecode.proofs.ItemsRead.{read_there}
 
--- the item at a place that was read
-pub item_read : {A : Type 0} (xs : List A) {place read : ℕ} {x : A} → read ≡ place → place < length xs → x ≡ get_or xs read x → slice_get xs place ≡ Some x
-item_read xs {place} {read} {x} same h e = slice_get-get_or xs place x h ∙ ap Some (ap (λ (i : ℕ). get_or xs i x) (sym same) ∙ sym e)
+-- the item that was read at a place, from a list that is the same as another
+pub item_read : {A : Type 0} {read : List A} (xs : List A) → read ≡ xs → {place at : ℕ} → at ≡ place → place < length xs → (d : A) →
+    slice_get xs place ≡ Some (get_or read at d)
+item_read {A} {read} xs same {place} {at} here below d = read_there read xs same place d below ∙ ap (λ (i : ℕ). Some (get_or read i d)) (sym here)

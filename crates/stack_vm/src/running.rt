@@ -72,8 +72,9 @@ fn run_on<H: Host>(state: &mut State, code: &Code, host: &mut H) -> Result<Outco
     ensures sink { IsErrOf result RecordFault.Sink → HasRisen (H.faults host.old) (H.faults host.new) }
     ensures faults_stay { H.faults host.old ≤ H.faults host.new }
 {
+    let instrs = code.instrs.as_slice();
     loop {
-        let instr = &code.instrs.as_slice()[state.place()];
+        let instr = &instrs[state.place()];
         if let Some(outcome) = step(state, code, host, instr)? {
             return Ok(outcome);
         }

@@ -17,10 +17,10 @@ returns-clause-does g c =
     let code = c.args.code.now in
     let timers : List Bool = g.H.Host.active_timers host in
     let timer : ℕ = c.args.timer in
-    let unit : ℕ = c.index-unit.result.now in
+    let unit : ℕ = get_or c.as_slice.result.now timer 0 in
     let n : ℤ = get_or s.stack 0 (pos 0) in
     let there : RunState = record s { place = s.place + 1; stack = drop 1 s.stack } in
-    let is : slice_get code.timers timer ≡ Some unit = item_read code.timers refl c.requires.ready.exist c.index-unit.ensures in
+    let is : slice_get code.timers timer ≡ Some unit = item_read code.timers c.as_slice.ensures refl c.requires.ready.exist 0 in
     let top = got c.top.result n (record { sfits = c.top.type_inv }) c.top.ensures in
     let after = c.forget.new.self in
     let host_after = c.set_timer.new.self in

@@ -2,6 +2,7 @@ use Rattle.std.proofs.Common.{◌≡◌, ◌<◌, ◌+◌, ℕ, List, ◌∷◌,
 use Rattle.std.specs.Prelude.{ℤ, pos, slice_set}
 use Rattle.std.specs.Int.{cast_signed, cast_unsigned, w128}
 use Rattle.int_kinds.specs.declared.kinds.Kind.{Kind}
+use Rattle.int_kinds.specs.declared.kinds.Kind.TheVariants.{Byte}
 use Rattle.int_kinds.specs.Kind.{wrap}
 use Rattle.int_kinds.proofs.Values.{IsNumber-wrap}
 use Rattle.bytecode.specs.declared.instr.Instr.TheVariants.{SetElem}
@@ -27,8 +28,8 @@ pub returns-in-Some : goal.returns-in-Some
 returns-in-Some c =
     let s : RunState = c.args.state.now in
     let kinds : List Kind = c.args.code.now.cells in
-    let k : Kind = c.index-kind.result.now in
     let cell : ℕ = c.args.base + c.in-Some.i in
+    let k : Kind = get_or c.as_slice.result.now cell Byte in
     let under = got c.under.result (get_or s.stack 1 (pos 0)) (record { sfits = c.under.type_inv }) c.under.ensures in
     let is : index_of (get_or s.stack 1 (pos 0)) c.args.len ≡ Some c.in-Some.i = ap (λ (z : ℤ). index_of z c.args.len) (sym under) ∙ sym c.in-Some.ensures in
     let i = index_is (get_or s.stack 1 (pos 0)) c.args.len c.in-Some.i (machine s c.requires.active c.requires.effects) (λ _. Stuck) is in
@@ -40,5 +41,5 @@ returns-in-Some c =
     let there : ℤ → RunState = λ z. record s { place = s.place + 1; stack = z ∷ drop 2 s.stack; cells = slice_set s.cells cell z } in
     let raw : ℤ = cast_signed w128 (cast_unsigned w128 c.wrap-n.result) in
     does c.args.code.now (SetElem c.args.base c.args.len) s None c.replace_two.new.self (there v) refl refl
-    (λ closed moment active effects. set_element_row c.args.code.now closed moment (machine s active effects) c.args.base c.args.len c.in-Some.i k s.stack c.requires.taken is there' (item_read kinds refl within c.index-kind.ensures))
+    (λ closed moment active effects. set_element_row c.args.code.now closed moment (machine s active effects) c.args.base c.args.len c.in-Some.i k s.stack c.requires.taken is there' (item_read kinds c.as_slice.ensures refl within Byte))
     (c.replace_two.ensures ∙ ap (λ (z : RunState). record z { place = z.place + 1; stack = raw ∷ drop 2 z.stack }) c.set_cell.ensures ∙ ap there n)

@@ -2,6 +2,7 @@ use Rattle.std.proofs.Common.{◌+◌, List, ◌∷◌, get_or, drop, None, ap, 
 use Rattle.std.specs.Prelude.{ℤ, pos, slice_set}
 use Rattle.std.specs.Int.{cast_signed, cast_unsigned, w128}
 use Rattle.int_kinds.specs.declared.kinds.Kind.{Kind}
+use Rattle.int_kinds.specs.declared.kinds.Kind.TheVariants.{Byte}
 use Rattle.int_kinds.specs.Kind.{wrap}
 use Rattle.int_kinds.proofs.Values.{IsNumber-wrap}
 use Rattle.bytecode.specs.declared.instr.Instr.TheVariants.{Store}
@@ -20,7 +21,7 @@ pub returns : goal.returns
 returns c =
     let s : RunState = c.args.state.now in
     let kinds : List Kind = c.args.code.now.cells in
-    let k : Kind = c.index-kind.result.now in
+    let k : Kind = get_or c.as_slice.result.now c.args.cell Byte in
     let there' = cell_there kinds s.cells c.args.cell c.requires.cells_held c.requires.exist in
     let top = got c.top.result (get_or s.stack 0 (pos 0)) (record { sfits = c.top.type_inv }) c.top.ensures in
     let v : ℤ = wrap k (get_or s.stack 0 (pos 0)) in
@@ -28,5 +29,5 @@ returns c =
     let there : ℤ → RunState = λ z. record s { place = s.place + 1; stack = z ∷ drop 1 s.stack; cells = slice_set s.cells c.args.cell z } in
     let raw : ℤ = cast_signed w128 (cast_unsigned w128 c.wrap-n.result) in
     does c.args.code.now (Store c.args.cell) s None c.replace.new.self (there v) refl refl
-    (λ closed moment active effects. store_row c.args.code.now closed moment (machine s active effects) c.args.cell k s.stack c.requires.taken there' (item_read kinds refl c.requires.exist c.index-kind.ensures))
+    (λ closed moment active effects. store_row c.args.code.now closed moment (machine s active effects) c.args.cell k s.stack c.requires.taken there' (item_read kinds c.as_slice.ensures refl c.requires.exist Byte))
     (c.replace.ensures ∙ ap (λ (z : RunState). record z { place = z.place + 1; stack = raw ∷ drop 1 z.stack }) c.set_cell.ensures ∙ ap there n)

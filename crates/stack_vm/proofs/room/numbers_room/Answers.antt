@@ -6,9 +6,9 @@ use Rattle.stack_vm.proofs.room.numbers_room.Goals as goal
 pub deepest-most-requires : goal.deepest-most-requires
 deepest-most-requires c =
     let i = c.loop-function.function-index in
-    let e = c.deref-function-items.ensures.value in
-    let h : i < length c.args.code.now.functions = omega (arith, c.loop-function-test.true, c.deref-function-items.ensures.len, ap length e) in
+    let e = c.as_slice-function-items.ensures in
+    let h : i < length c.args.code.now.functions = omega (arith, c.loop-function-test.true, ap length e) in
     let none : Fun = record { start = 0; end = 0; gives = false } in
-    let lies : Lies c.args.code.now (get_or c.deref-function-items.result.now i none) =
+    let lies : Lies c.args.code.now (get_or c.as_slice-function-items.result.now i none) =
     subst (λ (fs : List Fun). Lies c.args.code.now (get_or fs i none)) (sym e) (lies_at c.args.code.now c.requires i none h) in
-    record { order = lies.order; inside = omega (arith, lies.inside, ap length c.deref.ensures.value) }
+    record { order = lies.order; inside = omega (arith, lies.inside, ap length c.as_slice.ensures) }

@@ -14,21 +14,21 @@ use Rattle.stack_vm.proofs.memory.Memory.make.Goals as goal
 pub loop-start-init : goal.loop-start-init
 loop-start-init c =
     let code = c.args.code.now in
-    let made : c.in_ok-state.state ≡ record { place = 0; stack = []; calls = []; cells = replicate (length c.as_slice-cells.result.now) (pos 0); turns = 0; numbers_room = c.in_ok-numbers.numbers; calls_room = (length c.as_slice-functions.result.now) } = c.in_ok-state.ensures in
+    let made : c.in_ok-state.state ≡ record { place = 0; stack = []; calls = []; cells = replicate c.len-cells.result (pos 0); turns = 0; numbers_room = c.in_ok-numbers.numbers; calls_room = c.len-functions.result } = c.in_ok-state.ensures in
     let len : length c.code-code.result.now.cells ≡ length code.cells = ap (λ (z : Code). length z.cells) c.code-code.ensures.same in
-    let zeros : c.in_ok-state.state.cells ≡ replicate (length code.cells) (pos 0) = ap (λ (z : RunState). z.cells) made ∙ ap (λ (n : ℕ). replicate n (pos 0)) (ap length c.as_slice-cells.ensures.value ∙ len) in
+    let zeros : c.in_ok-state.state.cells ≡ replicate (length code.cells) (pos 0) = ap (λ (z : RunState). z.cells) made ∙ ap (λ (n : ℕ). replicate n (pos 0)) (c.len-cells.ensures ∙ len) in
     record {
       starts = ap (λ (cells : List ℤ). with_starts cells code.starts) zeros;
       held = subst (λ (cells : List ℤ). HoldKinds code.cells cells) (sym zeros) (HoldKinds-zeros code.cells);
       numbers = ap (λ (z : RunState). z.numbers_room) made ∙ c.in_ok-numbers.ensures ∙ ap numbers_room c.code-code.ensures.same;
-      calls = ap (λ (z : RunState). z.calls_room) made ∙ ap length c.as_slice-functions.ensures.value ∙ ap (λ (z : Code). length z.functions) c.code-code.ensures.same;
+      calls = ap (λ (z : RunState). z.calls_room) made ∙ c.len-functions.ensures ∙ ap (λ (z : Code). length z.functions) c.code-code.ensures.same;
     }
 
 pub set_cell-requires : goal.set_cell-requires
 set_cell-requires c =
     let i = c.loop-start.start-index in
     let code = c.code-code.result.now in
-    let e = c.deref-start-items.ensures.value in
+    let e = c.as_slice-start-items.ensures in
     let v : IsVerified code = c.code-code.ensures.verified in
     let k : HoldKinds code.cells c.loop-start.state.cells = subst (λ (z : Code). HoldKinds z.cells c.loop-start.state.cells) (sym c.code-code.ensures.same) c.loop-start.invariant.held in
     let h : i < length code.starts = omega (arith, c.loop-start-test.true, ap length e) in
@@ -39,17 +39,17 @@ pub loop-start-preserved : goal.loop-start-preserved
 loop-start-preserved c =
     let i = c.loop-start.start-index in
     let code = c.code-code.result.now in
-    let e = c.deref-start-items.ensures.value in
+    let e = c.as_slice-start-items.ensures in
     let v : IsVerified code = c.code-code.ensures.verified in
     let k : HoldKinds code.cells c.loop-start.state.cells = subst (λ (z : Code). HoldKinds z.cells c.loop-start.state.cells) (sym c.code-code.ensures.same) c.loop-start.invariant.held in
     let h : i < length code.starts = omega (arith, c.loop-start-test.true, ap length e) in
     let q = puts_in code v c.loop-start.state.cells k i h in
-    let q' : PutsIn code.cells c.loop-start.state.cells code.starts i (get_or c.deref-start-items.result.now i (0, pos 0)) =
+    let q' : PutsIn code.cells c.loop-start.state.cells code.starts i (get_or c.as_slice-start-items.result.now i (0, pos 0)) =
     subst (λ (xs : List (ℕ × ℤ)). PutsIn code.cells c.loop-start.state.cells code.starts i (get_or xs i (0, pos 0))) (sym e) q in
-    let p : PutsIn c.args.code.now.cells c.loop-start.state.cells c.args.code.now.starts i (get_or c.deref-start-items.result.now i (0, pos 0)) =
-    subst (λ (z : Code). PutsIn z.cells c.loop-start.state.cells z.starts i (get_or c.deref-start-items.result.now i (0, pos 0))) c.code-code.ensures.same q' in
+    let p : PutsIn c.args.code.now.cells c.loop-start.state.cells c.args.code.now.starts i (get_or c.as_slice-start-items.result.now i (0, pos 0)) =
+    subst (λ (z : Code). PutsIn z.cells c.loop-start.state.cells z.starts i (get_or c.as_slice-start-items.result.now i (0, pos 0))) c.code-code.ensures.same q' in
     let s = c.set_cell.ensures in
-    let start = get_or c.deref-start-items.result.now i (0, pos 0) in
+    let start = get_or c.as_slice-start-items.result.now i (0, pos 0) in
     let cells : c.set_cell.new.self.cells ≡ slice_set c.loop-start.state.cells start.0 start.1 =
     ap (λ (z : RunState). z.cells) s ∙ ap (λ (n : ℤ). slice_set c.loop-start.state.cells start.0 n) p.reads in
     record {
