@@ -1,1 +1,3 @@
+-- The definitions of this crate.
 pub mod Effect
+pub mod Host
