@@ -8,27 +8,34 @@ use lib.IntN.{*ℤ_comm}
 use borrow.Author.Differences.{up, down, same_in, same_out, sum_is_lem, neg_is, product_is}
 use Rattle.int_kinds.specs.Congruent.{Congruent}
 
+-- each number is congruent to itself
 pub Congruent-refl : (m : ℕ) (a : ℤ) → Congruent m a a
 Congruent-refl m a = record { times = pos 0; apart = omega (arith, same_in, sum_is_lem, product_is) }
 
+-- equal numbers are congruent
 pub Congruent-eq : (m : ℕ) (a b : ℤ) → a ≡ b → Congruent m a b
 Congruent-eq m a b e = subst (Congruent m a) e (Congruent-refl m a)
 
 turned : (t : ℤ) (m : ℕ) → (up (neg_ℤ t) * m ≡ down t * m) × (down (neg_ℤ t) * m ≡ up t * m)
 turned t m = (ap (λ n. n * m) (neg_is t).0, ap (λ n. n * m) (neg_is t).1)
 
+-- congruence goes both ways
 pub Congruent-sym : (m : ℕ) (a b : ℤ) → Congruent m a b → Congruent m b a
 Congruent-sym m a b h = record { times = neg_ℤ h.times; apart = omega (arith, same_in, same_out, sum_is_lem, turned h.times m, product_is, h.apart) }
 
+-- numbers congruent to one number are congruent
 pub Congruent-trans : (m : ℕ) (a b c : ℤ) → Congruent m a b → Congruent m b c → Congruent m a c
 Congruent-trans m a b c h k = record { times = h.times +ℤ k.times; apart = omega (arith, same_in, same_out, sum_is_lem, product_is, ap (λ n. n * m) (sum_is_lem h.times k.times), h.apart, k.apart) }
 
+-- sums of congruent numbers are congruent
 pub Congruent-add : (m : ℕ) (a b c d : ℤ) → Congruent m a b → Congruent m c d → Congruent m (a +ℤ c) (b +ℤ d)
 Congruent-add m a b c d h k = record { times = h.times +ℤ k.times; apart = omega (arith, same_in, same_out, sum_is_lem, product_is, ap (λ n. n * m) (sum_is_lem h.times k.times), h.apart, k.apart) }
 
+-- negatives of congruent numbers are congruent
 pub Congruent-neg : (m : ℕ) (a b : ℤ) → Congruent m a b → Congruent m (neg_ℤ a) (neg_ℤ b)
 Congruent-neg m a b h = record { times = neg_ℤ h.times; apart = omega (arith, same_in, same_out, sum_is_lem, neg_is, turned h.times m, product_is, h.apart) }
 
+-- differences of congruent numbers are congruent
 pub Congruent-sub : (m : ℕ) (a b c d : ℤ) → Congruent m a b → Congruent m c d → Congruent m (a -ℤ c) (b -ℤ d)
 Congruent-sub m a b c d h k = Congruent-add m a b (neg_ℤ c) (neg_ℤ d) h (Congruent-neg m c d k)
 
@@ -42,6 +49,7 @@ scaled m a b c h =
     let falling = ap (λ n. n * m) (product_is t c).1 in
     record { times = t *ℤ c; apart = omega (arith, same_in, sum_is_lem, product_is) }
 
+-- products of congruent numbers are congruent
 pub Congruent-mul : (m : ℕ) (a b c d : ℤ) → Congruent m a b → Congruent m c d → Congruent m (a *ℤ c) (b *ℤ d)
 Congruent-mul m a b c d h k =
     Congruent-trans m (a *ℤ c) (b *ℤ c) (b *ℤ d) (scaled m a b c h)
@@ -62,6 +70,7 @@ pub Congruent-rem : (m : ℕ) (z : ℤ) → 0 < m → Congruent m (int_rem_eucli
 Congruent-rem m (pos n) h = record { times = neg_ℤ (pos (n / m)); apart = omega (arith, same_in, sum_is_lem, turned (pos (n / m)) m, product_is, div-add-mod' n m) }
 Congruent-rem m (negsuc n) h = record { times = pos (n / m + 1); apart = let small = mod-lt n h in omega (arith, same_in, sum_is_lem, product_is, div-add-mod' n m) }
 
+-- a remainder is congruent to the number
 pub Congruent-mod : (m n : ℕ) → 0 < m → Congruent m (pos (n % m)) (pos n)
 Congruent-mod m n h = Congruent-rem m (pos n) h
 
@@ -74,6 +83,7 @@ apart_below m a b (negsuc t) p q e = absurd (omega (arith, ints))
 pub same_below : (m a b : ℕ) → a < m → b < m → Congruent m (pos a) (pos b) → a ≡ b
 same_below m a b p q h = apart_below m a b h.times p q h.apart
 
+-- a remainder is less than the divisor
 pub rem_below : (m : ℕ) (z : ℤ) → 0 < m → unsigned_abs (int_rem_euclid z (pos m)) < m
 rem_below m (pos n) h = mod-lt n h
 rem_below m (negsuc n) h = omega arith

@@ -42,15 +42,19 @@ Congruent-low k n = narrow k _ _ (Congruent-mod (2 ^ 128) n (pow_pos 128))
 unwrap : (k : Kind) (z : ℤ) → Congruent (2 ^ width k) z (wrap k z)
 unwrap k z = Congruent-sym (2 ^ width k) (wrap k z) z (Congruent-wrap k z)
 
+-- a sum wrapped once is the sum of wrapped numbers, wrapped
 pub wrap-add : (k : Kind) (a b : ℤ) → wrap k (a +ℤ b) ≡ wrap k (wrap k a +ℤ wrap k b)
 wrap-add k a b = wrap_same k (a +ℤ b) (wrap k a +ℤ wrap k b) (Congruent-add (2 ^ width k) a (wrap k a) b (wrap k b) (unwrap k a) (unwrap k b))
 
+-- the same for a difference
 pub wrap-sub : (k : Kind) (a b : ℤ) → wrap k (a -ℤ b) ≡ wrap k (wrap k a -ℤ wrap k b)
 wrap-sub k a b = wrap_same k (a -ℤ b) (wrap k a -ℤ wrap k b) (Congruent-sub (2 ^ width k) a (wrap k a) b (wrap k b) (unwrap k a) (unwrap k b))
 
+-- the same for a negative
 pub wrap-neg : (k : Kind) (a : ℤ) → wrap k (neg_ℤ a) ≡ wrap k (neg_ℤ (wrap k a))
 wrap-neg k a = wrap_same k (neg_ℤ a) (neg_ℤ (wrap k a)) (Congruent-neg (2 ^ width k) a (wrap k a) (unwrap k a))
 
+-- the same for a product
 pub wrap-mul : (k : Kind) (a b : ℤ) → wrap k (a *ℤ b) ≡ wrap k (wrap k a *ℤ wrap k b)
 wrap-mul k a b = wrap_same k (a *ℤ b) (wrap k a *ℤ wrap k b) (Congruent-mul (2 ^ width k) a (wrap k a) b (wrap k b) (unwrap k a) (unwrap k b))
 
@@ -77,12 +81,15 @@ low_bits k word bits e =
 
 -- operations on the bits of two words
 module _ (k : Kind) (a b : ℤ) (f : FitsSigned w128 a) (g : FitsSigned w128 b) where
+  -- the `&` of two words is that of their lowest bits
   pub wrap-and_words : wrap k (pos (bit_and (cast_unsigned w128 a) (cast_unsigned w128 b))) ≡ wrap k (pos (bit_and (residue k a) (residue k b)))
   wrap-and_words = low_bits k _ _ (and_mod (cast_unsigned w128 a) (cast_unsigned w128 b) (width k) ∙ (λ i. bit_and (residue_of_word k a f i) (residue_of_word k b g i)))
 
+  -- the same for `|`
   pub wrap-or_words : wrap k (pos (bit_or (cast_unsigned w128 a) (cast_unsigned w128 b))) ≡ wrap k (pos (bit_or (residue k a) (residue k b)))
   wrap-or_words = low_bits k _ _ (or_mod (cast_unsigned w128 a) (cast_unsigned w128 b) (width k) ∙ (λ i. bit_or (residue_of_word k a f i) (residue_of_word k b g i)))
 
+  -- the same for `^`
   pub wrap-xor_words : wrap k (pos (bit_xor (cast_unsigned w128 a) (cast_unsigned w128 b))) ≡ wrap k (pos (bit_xor (residue k a) (residue k b)))
   wrap-xor_words = low_bits k _ _ (xor_mod (cast_unsigned w128 a) (cast_unsigned w128 b) (width k) ∙ (λ i. bit_xor (residue_of_word k a f i) (residue_of_word k b g i)))
 
@@ -114,6 +121,7 @@ shr_is : (z : ℤ) (d : ℕ) → int_shr z d ≡ int_div_euclid z (pos (2 ^ d))
 shr_is (pos n) d = refl
 shr_is (negsuc n) d = refl
 
+-- a number of the kind shifted right is still one
 pub wrap-shr : (k : Kind) (a : ℤ) (n : ℕ) → int_shr (wrap k a) n ≡ wrap k (int_div_euclid (wrap k a) (pos (2 ^ n)))
 wrap-shr k a n =
     let z = wrap k a in
@@ -149,6 +157,7 @@ quotient_fits k n x y e =
     let held : Holds k x = subst (Holds k) (sym e) (Holds-wrap k n) in
     fits_signed_from_abs w128 (int_div x y) (omega (arith, abs_div x y, small k x held))
 
+-- a remainder fits a word of 128 bits
 pub remainder_fits : (x y : ℤ) → FitsSigned w128 x → FitsSigned w128 (int_rem x y)
 remainder_fits x y f = record { sfits = omega (arith, mag_rem x y, f.sfits) }
 
@@ -163,8 +172,13 @@ remainder_is a (pos (suc n)) h = refl
 remainder_is a (negsuc n) h = refl
 
 module _ (k : Kind) (a b x y : ℤ) (p : x ≡ wrap k a) (q : y ≡ wrap k b) (h : cast_unsigned w128 y ≡ 0 → ⊥) where
+  -- where the divisor is not 0, the quotient is there
   pub option_map-quotient : option_map (wrap k) (quotient (wrap k a) (wrap k b)) ≡ Some (wrap k (int_div x y))
   option_map-quotient = ap (option_map (wrap k)) ((λ i. quotient (sym p i) (sym q i)) ∙ quotient_is x y h)
 
+  -- and so is the remainder
   pub option_map-remainder : option_map (wrap k) (remainder (wrap k a) (wrap k b)) ≡ Some (wrap k (int_rem x y))
   option_map-remainder = ap (option_map (wrap k)) ((λ i. remainder (sym p i) (sym q i)) ∙ remainder_is x y h)
+
+-- what operations on words wrap to
+pub ruleset operations_on_words = (to_z-of_z, wrap-mul_words, wrap-and_words, wrap-or_words, wrap-xor_words, wrap-shl_word)

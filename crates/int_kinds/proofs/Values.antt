@@ -25,6 +25,7 @@ IsNumber-held Long n h = record { at_least = omega (arith, ints, h.at_least, h.a
 IsNumber-held Int64 n h = record { at_least = omega (arith, ints, h.at_least, h.at_most); below = omega (arith, ints, h.at_least, h.at_most) }
 IsNumber-held Char n h = record { at_least = omega (arith, ints, h.at_least, h.at_most); below = omega (arith, ints, h.at_least, h.at_most) }
 
+-- a wrapped number lies in the range of all kinds
 pub IsNumber-wrap : (k : Kind) (n : ℤ) → IsNumber (wrap k n)
 IsNumber-wrap k n = IsNumber-held k (wrap k n) (Holds-wrap k n)
 
@@ -38,10 +39,12 @@ bit_held Long = (record { at_least = omega (arith, ints); at_most = omega (arith
 bit_held Int64 = (record { at_least = omega (arith, ints); at_most = omega (arith, ints) }, record { at_least = omega (arith, ints); at_most = omega (arith, ints) })
 bit_held Char = (record { at_least = omega (arith, ints); at_most = omega (arith, ints) }, record { at_least = omega (arith, ints); at_most = omega (arith, ints) })
 
+-- each kind has the numbers of a test
 pub Holds-truth : (k : Kind) (b : Bool) → Holds k (truth b)
 Holds-truth k true = (bit_held k).1
 Holds-truth k false = (bit_held k).0
 
+-- a wrapped number has the same residue
 pub residue-wrap : (k : Kind) (n : ℤ) → residue k (wrap k n) ≡ residue k n
 residue-wrap k n =
     let m = 2 ^ width k in

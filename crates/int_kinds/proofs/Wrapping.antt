@@ -31,12 +31,14 @@ rem_range m (negsuc n) h = (omega arith, refl)
 held : (m : ℕ) (l h z : ℤ) → 0 < m → h +ℤ pos 1 ≡ l +ℤ pos m → (l ≤ℤ (l +ℤ int_rem_euclid z (pos m))) × ((l +ℤ int_rem_euclid z (pos m)) ≤ℤ h)
 held m l h z p e = let r = rem_range m z p in (omega (arith, ints, r), omega (arith, ints, r, e))
 
+-- a wrapped number is one of the kind
 pub Holds-wrap : (k : Kind) (n : ℤ) → Holds k (wrap k n)
 Holds-wrap k n = let h = held (2 ^ width k) (low k) (high k) (n -ℤ low k) (pow_pos (width k)) (range_is k) in record { at_least = h.0; at_most = h.1 }
 
 back : (l n : ℤ) → l +ℤ (n -ℤ l) ≡ n
 back l n = omega (arith, ints)
 
+-- and it is congruent to the number
 pub Congruent-wrap : (k : Kind) (n : ℤ) → Congruent (2 ^ width k) (wrap k n) n
 Congruent-wrap k n =
     let m = 2 ^ width k in
@@ -50,9 +52,11 @@ near m l h a b (pos zero) e al ah bl bh same = omega (arith, ints)
 near m l h a b (pos (suc t)) e al ah bl bh same = absurd (omega (arith, ints))
 near m l h a b (negsuc t) e al ah bl bh same = absurd (omega (arith, ints))
 
+-- two congruent numbers of a kind are one number
 pub same_of_congruent : (k : Kind) (a b : ℤ) → Holds k a → Holds k b → Congruent (2 ^ width k) a b → a ≡ b
 same_of_congruent k a b p q c = near (2 ^ width k) (low k) (high k) a b c.times (range_is k) p.at_least p.at_most q.at_least q.at_most c.apart
 
+-- a number of the kind that is congruent to another is the wrapped one
 pub only : (k : Kind) (n m : ℤ) → Holds k m → Congruent (2 ^ width k) m n → m ≡ wrap k n
 only k n m h c = same_of_congruent k m (wrap k n) h (Holds-wrap k n) (Congruent-trans (2 ^ width k) m n (wrap k n) c (Congruent-sym (2 ^ width k) (wrap k n) n (Congruent-wrap k n)))
 
@@ -64,8 +68,10 @@ wrap_same k a b c = only k b (wrap k a) (Holds-wrap k a) (Congruent-trans (2 ^ w
 pub wrap_held : (k : Kind) (n : ℤ) → Holds k n → wrap k n ≡ n
 wrap_held k n h = sym (only k n n h (Congruent-refl (2 ^ width k) n))
 
+-- to wrap twice is to wrap once
 pub wrap-wrap : (k : Kind) (n : ℤ) → wrap k (wrap k n) ≡ wrap k n
 wrap-wrap k n = wrap_held k (wrap k n) (Holds-wrap k n)
 
+-- a residue is congruent to the number
 pub Congruent-residue : (k : Kind) (n : ℤ) → Congruent (2 ^ width k) (pos (residue k n)) n
 Congruent-residue k n = Congruent-abs_rem (2 ^ width k) n (pow_pos (width k))

@@ -29,7 +29,7 @@ abbrev pub remainder : ℤ → ℤ → Option ℤ
 remainder a (pos zero) = None
 remainder a b = Some (int_rem a b)
 
--- the value of a binary operator on a and b, each wrapped to the kind: the whole number that it gives, wrapped too.
+-- the value of a binary operator on a and b, each wrapped to the kind: the whole number it gives, wrapped too
 -- `||` and `&&` do not always take both operands, so they are no operation on two numbers.
 abbrev pub value : BinOp → Kind → ℤ → ℤ → Option ℤ
 value OrElse k a b = None

@@ -1,4 +1,5 @@
--- CAPL's kinds of integers (CAPL manual, data types): which numbers each has, how a number is wrapped to one, and the kind that two are joined in.
+-- CAPL's kinds of integers: which numbers each has, how a number is wrapped to one, and the kind of a join.
+-- CAPL manual: data types.
 use Rattle.std.specs.Prelude.{ℕ, ◌-◌, ◌^◌, Bool, true, false, if◌then◌else◌, ℤ, pos, ◌+ℤ◌, ◌-ℤ◌, neg_ℤ, ◌≤ℤ◌, ◌<ℤ◌}
 use Rattle.std.specs.Int.{int_rem_euclid}
 use Rattle.int_kinds.specs.declared.kinds.Kind.{Kind}
@@ -40,7 +41,7 @@ pub record IsNumber (n : ℤ) : Type 0 where
   pub at_least : neg_ℤ (pos (2 ^ 63)) ≤ℤ n
   pub below : n <ℤ pos (2 ^ 64)
 
--- the number of the kind that is congruent to n modulo 2 to the width: as far above the least as the remainder says
+-- the number of the kind that is congruent to n modulo 2 to the width: the least, and a remainder above it
 abbrev pub wrap : Kind → ℤ → ℤ
 wrap k n = low k +ℤ int_rem_euclid (n -ℤ low k) (pos (2 ^ width k))
 

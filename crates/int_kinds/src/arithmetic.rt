@@ -1,9 +1,9 @@
-//! CAPL's `+`, `-`, `*`, `/` and `%`, and the sign `-`.
-//!
-//! The operands are wrapped to the kind `k` first, and a result is a number of that kind.
+// CAPL's `+`, `-`, `*`, `/` and `%`, the sign `-`, and the number of a test.
+//
+// The operands are wrapped to the kind `k` first, and a result is a number of that kind.
 
 ghost use Rattle.std.specs.Prelude.{◌≡◌, Some};
-ghost use Rattle.int_kinds.specs.Arithmetic.{negated, value};
+ghost use Rattle.int_kinds.specs.Arithmetic.{negated, truth, value};
 ghost use Rattle.int_kinds.specs.Kind.{IsNumber};
 ghost use Rattle.int_kinds.specs.declared.operators.BinOp.TheVariants.{Add, Div, Mul, Rem, Sub};
 
@@ -28,6 +28,7 @@ pub const fn sub(k: Kind, a: i128, b: i128) -> i128
 }
 
 /// `a * b` in the kind `k`.
+#[tactic(auto, using(crate::proofs::Operations::operations_on_words))]
 pub const fn mul(k: Kind, a: i128, b: i128) -> i128
     requires left { IsNumber a }
     requires right { IsNumber b }
@@ -72,4 +73,12 @@ pub const fn neg(k: Kind, a: i128) -> i128
     ensures { result ≡ negated k a }
 {
     wrap_any(k, -a)
+}
+
+/// 1 for a test that holds, and 0 for one that does not, as CAPL's comparisons and `!` give it.
+#[inline]
+pub const fn truth(holds: bool) -> i128
+    ensures { result ≡ truth holds }
+{
+    if holds { 1 } else { 0 }
 }

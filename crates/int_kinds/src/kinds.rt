@@ -1,3 +1,5 @@
+// The kinds of integers.
+
 ghost use Rattle.std.specs.Prelude.{◌≡◌, ◌^◌, ◌-◌, ◌↔◌, IsTrue, pos};
 ghost use Rattle.int_kinds.specs.Kind.{Holds, IsNumber, high, join, low, width, wrap};
 
@@ -33,6 +35,14 @@ pub const fn bits(k: Kind) -> u32
         Kind::Dword | Kind::Long => 32,
         Kind::Qword | Kind::Int64 => 64,
     }
+}
+
+/// Whether `n` lies from -2^63 to 2^64 - 1, as the numbers of every kind do.
+#[inline]
+pub const fn is_number(n: i128) -> bool
+    ensures { IsTrue result ↔ IsNumber n }
+{
+    -(1 << 63) <= n && n < 1 << 64
 }
 
 /// Whether the kind has the number `n`.
@@ -103,11 +113,11 @@ pub(crate) const fn wrap_any(k: Kind, n: i128) -> i128
 
 /// `wrap` of a word of 128 bits, of which only the lowest, as many as the kind has, make a
 /// difference.
-// In each arm the kind is constant, so that LLVM makes one mask or one sign extension of it.
 #[inline]
 pub(crate) const fn wrap_word(k: Kind, word: u128) -> i128
     ensures { result ≡ wrap k (pos word) }
 {
+    // In each arm the kind is constant, so that LLVM makes one mask or one sign extension of it.
     match k {
         Kind::Byte => residue_in(Kind::Byte, word),
         Kind::Word => residue_in(Kind::Word, word),

@@ -1,3 +1,5 @@
+// CAPL's operators.
+
 /// A binary operator of CAPL, from the one that binds loosest to those that bind tightest.
 #[derive(Clone, Copy, Debug, PartialEq, Eq, Hash)]
 pub enum BinOp {

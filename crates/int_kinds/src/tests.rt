@@ -1,3 +1,5 @@
+// Tests against C, and at the edges of ranges.
+
 ghost use Rattle.int_kinds.specs.Kind.{IsNumber};
 
 use super::*;
@@ -371,6 +373,7 @@ static ANSWERS_OF_C: [(BinOp, Kind, i128, i128, i128); 168] = [
     (BinOp::Rem, Kind::Int64, 9223372036854775807, -10, 7),
 ];
 
+/// The value of an operator that C has on two numbers.
 fn calculate(op: BinOp, k: Kind, a: i128, b: i128) -> Option<i128>
     requires left { IsNumber a }
     requires right { IsNumber b }
@@ -393,7 +396,7 @@ fn calculate(op: BinOp, k: Kind, a: i128, b: i128) -> Option<i128>
 #[test]
 fn operators_answer_as_in_c(rt: HostRuntime) {
     for &(op, k, a, b, result) in &ANSWERS_OF_C {
-        assert!(rt; LEAST <= a && a <= GREATEST && LEAST <= b && b <= GREATEST);
+        assert!(rt; is_number(a) && is_number(b));
         assert_eq!(rt;
             calculate(op, k, a, b),
             Some(result),
@@ -439,6 +442,7 @@ fn kinds_have_the_ranges_of_c(rt: HostRuntime) {
         assert_eq!(rt; holds(k, LEAST), least == LEAST);
         assert_eq!(rt; holds(k, GREATEST), greatest == GREATEST);
         assert_eq!(rt; wrap(k, -1), if least < 0 { -1 } else { greatest });
+        assert_eq!(rt; residue(k, -1), (u128::MAX >> (128 - width)) as u64);
     }
 }
 
@@ -455,4 +459,13 @@ fn joins_are_of_the_widest(rt: HostRuntime) {
         assert_eq!(rt; join(a, b), joined);
         assert_eq!(rt; join(b, a), joined);
     }
+}
+
+#[test]
+fn numbers_lie_in_the_range_of_all_kinds(rt: HostRuntime) {
+    assert!(rt; is_number(LEAST) && is_number(GREATEST));
+    assert!(rt; !is_number(LEAST - 1) && !is_number(GREATEST + 1));
+    assert_eq!(rt; residue(Kind::Word, LEAST - 1), 0xffff);
+    assert_eq!(rt; truth(true), 1);
+    assert_eq!(rt; truth(false), 0);
 }

@@ -1,3 +1,4 @@
+-- A sum of two numbers fits a word, and wraps to the sum of the wrapped ones.
 use Rattle.std.proofs.Common.{arith, ◌∙◌}
 use Rattle.std.specs.Prelude.{FitsSigned, ◌+ℤ◌}
 use Rattle.std.specs.Int.{w128}

@@ -1,3 +1,4 @@
+-- The negative of a number fits a word, and wraps to that of the wrapped one.
 use Rattle.std.proofs.Common.{arith, ap, ◌∙◌}
 use Rattle.std.specs.Prelude.{FitsSigned, pos, ◌-ℤ◌, neg_ℤ}
 use Rattle.std.specs.Int.{w128}

@@ -1,3 +1,4 @@
+-- A difference of two numbers fits a word, and wraps to the difference of the wrapped ones.
 use Rattle.std.proofs.Common.{arith, ◌∙◌}
 use Rattle.std.specs.Prelude.{FitsSigned, ◌-ℤ◌}
 use Rattle.std.specs.Int.{w128}

@@ -1,3 +1,4 @@
+-- A number of the kind shifted right is the quotient rounded down.
 use Rattle.std.proofs.Common.{arith}
 use Rattle.std.proofs.lemmas.Int.{to_z-of_z}
 use Rattle.int_kinds.proofs.Operations.{wrap-shr}

@@ -1,3 +1,4 @@
+-- The laws of `wrap`.
 use Rattle.int_kinds.proofs.Wrapping.{Congruent-wrap, only}
 use Rattle.int_kinds.proofs.laws.wrapped_is_unique.Goals as goal
 
