@@ -1,6 +1,7 @@
+-- Lemmas that several proofs and crates above use.
 pub mod Payloads
 pub mod Places
-pub mod Reading
+pub mod GetLemmas
 pub mod Values
 pub mod Words
-pub mod Writing
+pub mod PutLemmas

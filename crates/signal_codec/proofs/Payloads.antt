@@ -194,15 +194,19 @@ module _ (payload : List ℕ) (v : ℕ) (p : IsPayload payload) where
   outside_numbers false start (suc n) b some low r h out = little_outside payload start (suc n) v b p (omega arith) out
 
 module _ (l : Layout) (payload : List ℕ) (v : ℕ) (u : IsUsable l) (p : IsPayload payload) where
+  -- it is one of 8 bytes
   pub IsPayload-with_bits : IsPayload (payload_with_bits payload (bit_numbers l) v)
   IsPayload-with_bits = let r = room l.big l.start l.len u.at_least_one u.in_payload in with_numbers payload v p l.big l.start l.len u.at_least_one r.0 r.1
 
+  -- its bits of the signal are those of v
   pub payload_bit-with_bits_inside : (b i : ℕ) → b < 64 → place_of l b ≡ lowest_place l + i → i < l.len → payload_bit (payload_with_bits payload (bit_numbers l) v) b ≡ bit_at v i
   payload_bit-with_bits_inside b i h e k = let r = room l.big l.start l.len u.at_least_one u.in_payload in inside_numbers payload v p l.big l.start l.len b i u.at_least_one r.0 r.1 h e k
 
+  -- its other bits are as they were
   pub payload_bit-with_bits_outside : (b : ℕ) → b < 64 → ((i : ℕ) → i < l.len → place_of l b ≢ lowest_place l + i) → payload_bit (payload_with_bits payload (bit_numbers l) v) b ≡ payload_bit payload b
   payload_bit-with_bits_outside b h out = let r = room l.big l.start l.len u.at_least_one u.in_payload in outside_numbers payload v p l.big l.start l.len b u.at_least_one r.0 r.1 h out
 
+-- a payload with a signal set is one of 8 bytes
 pub IsPayload-payload_with : (l : Layout) (payload : List ℕ) (n : ℤ) → IsUsable l → IsPayload payload → IsPayload (payload_with l payload n)
 unfolding payload_with
 IsPayload-payload_with l payload n u p = IsPayload-with_bits l payload (unsigned_abs (int_rem_euclid n (pos (2 ^ l.len)))) u p

@@ -16,6 +16,7 @@ below : (n : ℕ) (t : Bool) → eqb (n % 8) 0 ≡ t → n < 64 → cond t (n + 
 below n true e p q = let zero_bit : n % 8 ≡ 0 = grind (arith, nat_tests) in omega arith
 below n false e p q = let some_bit : 0 < n % 8 = grind (arith, nat_tests) in omega arith
 
+-- the bit that follows stands one place lower
 pub place-following : (n : ℕ) → n < 64 → following n < 64 → big_endian_place (following n) + 1 ≡ big_endian_place n
 place-following n p q = below n (eqb (n % 8) 0) refl p q
 
@@ -24,6 +25,7 @@ followed : (n : ℕ) (t : Bool) → eqb (n % 8) 0 ≡ t → n < 64 → 0 < big_e
 followed n true e p q = let zero_bit : n % 8 ≡ 0 = grind (arith, nat_tests) in omega arith
 followed n false e p q = omega arith
 
+-- a bit above place 0 is followed in the payload
 pub following-lt : (n : ℕ) → n < 64 → 0 < big_endian_place n → following n < 64
 following-lt n p q = followed n (eqb (n % 8) 0) refl p q
 
@@ -65,15 +67,19 @@ room false start (suc k) h a =
     let top = All-head (λ b. b < 64) (start + k) (little_endian start k) a in
     (omega arith, omega arith)
 
+-- the start of a usable layout lies in the payload
 pub start-lt : (l : Layout) → IsUsable l → l.start < 64
 start-lt l u = (room l.big l.start l.len u.at_least_one u.in_payload).0
 
+-- a usable layout in big-endian order has room from its start down
 pub room_of_big : (l : Layout) → IsUsable l → l.big ≡ true → l.len ≤ big_endian_place l.start + 1
 room_of_big l u e = subst (λ b. l.len ≤ cond b (big_endian_place l.start + 1) (64 - l.start)) e (room l.big l.start l.len u.at_least_one u.in_payload).1
 
+-- one in little-endian order has room from its start up
 pub room_of_little : (l : Layout) → IsUsable l → l.big ≡ false → l.start + l.len ≤ 64
 room_of_little l u e = let fits = subst (λ b. l.len ≤ cond b (big_endian_place l.start + 1) (64 - l.start)) e (room l.big l.start l.len u.at_least_one u.in_payload).1 in let low = start-lt l u in omega arith
 
+-- with room from its start down, a layout in big-endian order is usable
 pub usable_big : (l : Layout) → l.big ≡ true → l.start < 64 → 1 ≤ l.len → l.len ≤ big_endian_place l.start + 1 → IsUsable l
 usable_big l e p some h = record {
   at_least_one = some;
@@ -81,6 +87,7 @@ usable_big l e p some h = record {
   in_payload = subst (λ b. InPayload (cond b (big_endian l.start l.len) (little_endian l.start l.len))) (sym e) (inside true l.start l.len p h);
 }
 
+-- with room from its start up, one in little-endian order is
 pub usable_little : (l : Layout) → l.big ≡ false → l.start < 64 → 1 ≤ l.len → l.len ≤ 64 - l.start → IsUsable l
 usable_little l e p some h = record {
   at_least_one = some;
@@ -129,6 +136,7 @@ lowest : (big : Bool) (start len : ℕ) → len ≤ cond big (big_endian_place s
 lowest true start len r p = omega arith
 lowest false start len r p = omega arith
 
+-- a signal lies below place 64
 pub lowest_place-le : (l : Layout) → IsUsable l → lowest_place l + l.len ≤ 64
 lowest_place-le l u = let r = room l.big l.start l.len u.at_least_one u.in_payload in lowest l.big l.start l.len r.1 r.0
 
@@ -136,6 +144,7 @@ within : (big : Bool) (b : ℕ) → b < 64 → cond big (big_endian_place b) b <
 within true b h = omega arith
 within false b h = h
 
+-- each bit has a place below 64
 pub place_of-lt : (l : Layout) (b : ℕ) → b < 64 → place_of l b < 64
 place_of-lt l b h = within l.big b h
 

@@ -13,10 +13,12 @@ use Rattle.signal_codec.specs.Signal.{big_endian, bit_numbers, following, intege
 use Rattle.signal_codec.specs.declared.layout.Layout.{Layout}
 use Rattle.signal_codec.proofs.Places.{following-lt, place-following, room}
 
+-- as many bits as the length says
 pub length-little_endian : (s n : ℕ) → length (little_endian s n) ≡ n
 length-little_endian s zero = refl
 length-little_endian s (suc n) = ap suc (length-little_endian s n)
 
+-- the same in big-endian order
 pub length-big_endian : (s n : ℕ) → length (big_endian s n) ≡ n
 length-big_endian s zero = refl
 length-big_endian s (suc n) = ap suc (length-big_endian (following s) n)
@@ -25,6 +27,7 @@ lengths : (big : Bool) (start len : ℕ) → length (cond big (big_endian start 
 lengths true start len = length-big_endian start len
 lengths false start len = length-little_endian start len
 
+-- a signal has as many bits as its length says
 pub length-bit_numbers : (l : Layout) → length (bit_numbers l) ≡ l.len
 length-bit_numbers l = lengths l.big l.start l.len
 
@@ -72,6 +75,7 @@ one_bit (suc (suc b)) p h = absurd (omega arith)
 double : (k : ℕ) → 2 ^ suc k ≡ 2 ^ k + 2 ^ k
 double k = omega (arith, pow-suc 2 k)
 
+-- so many bits are worth less than 2 to their number
 pub natural_of-lt : (payload numbers : List ℕ) → natural_of payload numbers < 2 ^ length numbers
 natural_of-lt payload [] = omega arith
 natural_of-lt payload (n ∷ rest) =
@@ -102,6 +106,7 @@ pub signal_value-sign : (l : Layout) (payload : List ℕ) → 1 ≤ l.len
     → signal_value l payload +ℤ pos (sign_of l.signed (natural_of payload (bit_numbers l)) l.len * 2 ^ l.len) ≡ pos (natural_of payload (bit_numbers l))
 signal_value-sign l payload h = signed_value l.signed payload (bit_numbers l) l.len (length-bit_numbers l) h
 
+-- the bits of a signal are worth less than 2 to its length
 pub bits-lt : (l : Layout) (payload : List ℕ) → natural_of payload (bit_numbers l) < 2 ^ l.len
 bits-lt l payload = subst (λ n. natural_of payload (bit_numbers l) < 2 ^ n) (length-bit_numbers l) (natural_of-lt payload (bit_numbers l))
 
@@ -131,6 +136,7 @@ CanHave-signal_value l payload h =
     let r = range l.signed (natural_of payload (bit_numbers l)) l.len (signal_value l payload) (bits-lt l payload) h (signal_value-sign l payload h) in
     record { at_least = r.0; at_most = r.1 }
 
+-- the number of a signal is congruent to what its bits are worth
 pub Congruent-signal_value : (l : Layout) (payload : List ℕ) → 1 ≤ l.len → Congruent (2 ^ l.len) (signal_value l payload) (pos (natural_of payload (bit_numbers l)))
 Congruent-signal_value l payload h =
     let sign = sign_of l.signed (natural_of payload (bit_numbers l)) l.len in
@@ -146,9 +152,10 @@ sign-le signed bits len h some most =
     let fits = pow-le len most in
     ⊎_elim (λ z. omega (arith, z.1)) (λ s. omega (arith, s.1)) (one_bit (sign_of signed bits len) (2 ^ len) (sign-lt signed bits len h some))
 
-pub read : (l : Layout) (payload : List ℕ) (bits sign : ℕ) → IsUsable l → natural_of payload (bit_numbers l) ≡ bits → sign ≡ sign_of l.signed bits l.len
+-- the number of a signal is what its bits are worth, less 2 to the length where the sign is set
+pub signal_value-bits : (l : Layout) (payload : List ℕ) (bits sign : ℕ) → IsUsable l → natural_of payload (bit_numbers l) ≡ bits → sign ≡ sign_of l.signed bits l.len
     → (bits < 2 ^ 64) × (sign * 2 ^ l.len ≤ 2 ^ 64) × (sign < 2) × (signal_value l payload +ℤ pos (sign * 2 ^ l.len) ≡ pos bits)
-read l payload bits sign u same is =
+signal_value-bits l payload bits sign u same is =
     let v = natural_of payload (bit_numbers l) in
     let here : sign ≡ sign_of l.signed v l.len = is ∙ ap (λ n. sign_of l.signed n l.len) (sym same) in
     let less = bits-lt l payload in

@@ -39,11 +39,13 @@ bit_of_byte w i b h =
     let x = w / 2 ^ i in
     sym (bit_at_cat_low (x / 2 ^ 8) 8 (x % 2 ^ 8) b h) ∙ ap (λ y. bit_at y b) (shr_split x 8) ∙ ap (λ y. y % 2) (shr-shr w i b)
 
+-- a bit of the bytes of a word in little-endian order
 pub payload_bit-le : (w n : ℕ) → n < 64 → payload_bit (to_le_bytes w64 w) n ≡ bit_at w n
 payload_bit-le w n h =
     let place : 8 * (n / 8) + n % 8 ≡ n = omega arith in
     ap (λ x. bit_at x (n % 8)) (byte_of_le w (n / 8) (omega arith)) ∙ bit_of_byte w (8 * (n / 8)) (n % 8) (omega arith) ∙ ap (bit_at w) place
 
+-- a bit of the bytes of a word in big-endian order
 pub payload_bit-be : (w n : ℕ) → n < 64 → payload_bit (to_be_bytes w64 w) n ≡ bit_at w (big_endian_place n)
 payload_bit-be w n h =
     ap (λ x. bit_at x (n % 8)) (byte_of_be w (n / 8) (omega arith)) ∙ bit_of_byte w (8 * (7 - n / 8)) (n % 8) (omega arith)

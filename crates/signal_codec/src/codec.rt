@@ -1,3 +1,5 @@
+// The number of a signal, read and written.
+
 ghost use Rattle.std.specs.Prelude.{◌≡◌, ◌≤◌, ◌^◌, ◌-◌};
 ghost use Rattle.int_kinds.specs.Congruent.{Congruent};
 ghost use Rattle.int_kinds.specs.Kind.{IsNumber};

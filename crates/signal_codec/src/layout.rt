@@ -1,3 +1,5 @@
+// Where a signal lies in a payload.
+
 ghost use Rattle.std.specs.Prelude.{◌≡◌, ◌<◌, ◌≤◌, ◌+◌, ◌↔◌, IsTrue};
 ghost use Rattle.signal_codec.specs.Signal.{IsUsable};
 ghost use Rattle.signal_codec.specs.Place.{big_endian_place, lowest_place};

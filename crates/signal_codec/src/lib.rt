@@ -7,11 +7,10 @@
 //! No call aborts, and none takes memory.
 #![tactic(auto)]
 
-pub mod codec;
-pub mod layout;
-
 pub use codec::{get, put};
 pub use layout::{Layout, usable};
 
+mod codec;
+mod layout;
 #[cfg(test)]
 mod tests;

@@ -1,3 +1,5 @@
+// Tests against canmatrix, and of layouts at the edges of a payload.
+
 use super::*;
 
 /// The numbers that a signal may be given.

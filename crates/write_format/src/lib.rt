@@ -74,7 +74,8 @@ impl Format {
         ensures text { IfOk result (λ format. format.text ≡ text.now) }
         ensures plain { IfOk result (λ format. IsPlain text.now args.now) }
         ensures wrong { IsErrOf result (FormatRefusal.Wrong None) ↔ ¬ (IsPlain text.now args.now) }
-        ensures no_argument { IfErr result (λ refusal. (refusal ≡ FormatRefusal.Wrong None) ⊎ (refusal ≡ FormatRefusal.NoMemory)) }
+        ensures no_argument { IfErr result (λ refusal.
+            (refusal ≡ FormatRefusal.Wrong None) ⊎ (refusal ≡ FormatRefusal.NoMemory)) }
     {
         if !args.is_empty() || text.contains(&b'%') {
             return Err(FormatRefusal::Wrong { arg: None });

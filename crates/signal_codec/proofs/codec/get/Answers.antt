@@ -1,6 +1,7 @@
+-- The bits of the signal, less 2 to the length where the first one is set and the signal is signed.
 use Rattle.std.proofs.Common.{◌≡◌, ℕ, ◌<◌, get_or, length, ◌/◌, ◌^◌, bit_and, ap, sym, ◌∙◌, subst, rules}
 use Rattle.signal_codec.specs.Signal.{CanHave}
-use Rattle.signal_codec.proofs.Reading.{signal_value-read}
+use Rattle.signal_codec.proofs.GetLemmas.{signal_value-read}
 use Rattle.signal_codec.proofs.Values.{CanHave-signal_value, sign_of}
 use Rattle.signal_codec.proofs.codec.get.Goals as goal
 use Rattle.signal_codec.proofs.codec.get.Goals.{then-l, else-l}

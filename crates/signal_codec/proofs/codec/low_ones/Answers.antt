@@ -1,3 +1,4 @@
+-- All ones, shifted down.
 use Rattle.std.proofs.Common.{◌≡◌, ◌-◌, ◌^◌, arith, ap, ◌∙◌}
 use Rattle.std.proofs.lemmas.Nat.Bits.{ones_shr}
 use Rattle.signal_codec.proofs.codec.low_ones.Goals as goal

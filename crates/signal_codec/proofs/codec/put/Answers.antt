@@ -1,9 +1,10 @@
+-- The word with the signal's bits replaced.
 use Rattle.std.proofs.Common.{◌≡◌, ℕ, ◌<◌, get_or, length, rules}
 use Rattle.std.specs.Prelude.{FitsSigned}
 use Rattle.std.specs.Int.{w128}
 use Rattle.std.proofs.lemmas.Int.{to_z-of_z}
 use Rattle.signal_codec.proofs.Values.{CanHave-signal_value}
-use Rattle.signal_codec.proofs.Writing.{payload_with-written, Congruent-written, payload_bit-written}
+use Rattle.signal_codec.proofs.PutLemmas.{payload_with-written, Congruent-written, payload_bit-written}
 use Rattle.signal_codec.proofs.codec.put.Goals as goal
 
 pub returns-clause-payload : goal.returns-clause-payload

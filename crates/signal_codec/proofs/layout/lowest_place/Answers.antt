@@ -1,3 +1,4 @@
+-- The lowest place of a usable layout, and the room above it.
 use Rattle.std.proofs.Common.{arith}
 use Rattle.signal_codec.proofs.Places.{start-lt, room_of_big, room_of_little}
 use Rattle.signal_codec.proofs.layout.lowest_place.Goals as goal

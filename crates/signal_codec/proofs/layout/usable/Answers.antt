@@ -1,3 +1,4 @@
+-- A layout is usable where from its start on there is room for its bits.
 use Rattle.std.proofs.Common.{◌+◌, ◌-◌, arith}
 use Rattle.signal_codec.specs.Signal.{IsUsable}
 use Rattle.signal_codec.proofs.Places.{answers, start-lt, room_of_big, room_of_little, usable_big, usable_little}

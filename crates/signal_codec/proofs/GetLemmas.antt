@@ -8,7 +8,7 @@ use Rattle.std.proofs.Math.Nat.{mod-eq_of_lt}
 use Rattle.signal_codec.specs.Place.{lowest_place, word_of}
 use Rattle.signal_codec.specs.Signal.{bit_numbers, natural_of, signal_value, IsUsable}
 use Rattle.signal_codec.specs.declared.layout.Layout.{Layout}
-use Rattle.signal_codec.proofs.Values.{natural_of-bit_numbers, read, sign_of}
+use Rattle.signal_codec.proofs.Values.{natural_of-bit_numbers, sign_of, signal_value-bits}
 use Rattle.signal_codec.proofs.Words.{payload_bit-is}
 
 -- what the code computes from the bits and the sign
@@ -25,10 +25,11 @@ bits_read l payload w low ones u eight bytes word place mask =
     ∙ (λ i. sym word i / 2 ^ sym place i % 2 ^ l.len)
     ∙ sym (ap (bit_and (w / 2 ^ low)) mask ∙ and_mask (w / 2 ^ low) l.len)
 
+-- what the code computes fits, and is the number of the signal
 pub signal_value-read : (l : Layout) (payload : List ℕ) (w low ones sign : ℕ) → IsUsable l → length payload ≡ 8 → ((i : ℕ) → get_or payload i 0 < 256)
     → w ≡ word_of l payload → low ≡ lowest_place l → ones ≡ 2 ^ l.len - 1 → sign ≡ sign_of l.signed (bit_and (w / 2 ^ low) ones) l.len
     → FitsSigned w128 (cast_signed w128 (bit_and (w / 2 ^ low) ones) -ℤ cast_signed w128 (sign * 2 ^ l.len % 2 ^ 128))
     × (cast_signed w128 (cast_unsigned w128 (cast_signed w128 (bit_and (w / 2 ^ low) ones) -ℤ cast_signed w128 (sign * 2 ^ l.len % 2 ^ 128))) ≡ signal_value l payload)
 signal_value-read l payload w low ones sign u eight bytes word place mask is =
-    let r = read l payload (bit_and (w / 2 ^ low) ones) sign u (bits_read l payload w low ones u eight bytes word place mask) is in
+    let r = signal_value-bits l payload (bit_and (w / 2 ^ low) ones) sign u (bits_read l payload w low ones u eight bytes word place mask) is in
     shown (bit_and (w / 2 ^ low) ones) (sign * 2 ^ l.len) (signal_value l payload) r.0 r.1 r.3

@@ -46,6 +46,7 @@ module _ (w low len bits : ℕ) (room : low + len ≤ 64) (few : bits < 2 ^ len)
       ∙ ap (λ n. max n (bit_at (bits * 2 ^ low) p)) (bit_at_and w (2 ^ 64 - 1 - (2 ^ len - 1) * 2 ^ low) p
       ∙ ap (min (bit_at w p)) (bit_at_not w64 ((2 ^ len - 1) * 2 ^ low) p mask_below h))
 
+  -- the bits of the field are the new ones
   pub bit_of_replaced-inside : (i : ℕ) → i < len → bit_at (replaced w low (2 ^ len - 1) bits) (low + i) ≡ bit_at bits i
   bit_of_replaced-inside i h =
       let back : low + i - low ≡ i = omega arith in
@@ -54,6 +55,7 @@ module _ (w low len bits : ℕ) (room : low + len ≤ 64) (few : bits < 2 ^ len)
       let is = bit_of_replaced (low + i) (omega arith) in
       omega arith
 
+  -- the bits below it are as they were
   pub bit_of_replaced-below : (p : ℕ) → p < low → bit_at (replaced w low (2 ^ len - 1) bits) p ≡ bit_at w p
   bit_of_replaced-below p h =
       let mask = moved_low (2 ^ len - 1) low p h in
@@ -62,6 +64,7 @@ module _ (w low len bits : ℕ) (room : low + len ≤ 64) (few : bits < 2 ^ len)
       let old = bit_at-lt w p in
       omega arith
 
+  -- and so are those above it
   pub bit_of_replaced-above : (p : ℕ) → p < 64 → low + len ≤ p → bit_at (replaced w low (2 ^ len - 1) bits) p ≡ bit_at w p
   bit_of_replaced-above p q h =
       let mask : bit_at ((2 ^ len - 1) * 2 ^ low) p ≡ 0 = moved_high (2 ^ len - 1) low p (omega arith) ∙ bit_at_ones_above len (p - low) (omega arith) in
@@ -70,6 +73,7 @@ module _ (w low len bits : ℕ) (room : low + len ≤ 64) (few : bits < 2 ^ len)
       let old = bit_at-lt w p in
       omega arith
 
+  -- the field is the new bits
   pub field_of_replaced : replaced w low (2 ^ len - 1) bits / 2 ^ low % 2 ^ len ≡ bits
   field_of_replaced =
       let x = replaced w low (2 ^ len - 1) bits in
@@ -109,6 +113,7 @@ module _ (l : Layout) (payload new : List ℕ) (w low ones : ℕ) (n : ℤ) (u :
   natural_of_new = natural_of-bit_numbers l new (replaced w (lowest_place l) (2 ^ l.len - 1) (cast_unsigned w128 n % 2 ^ l.len)) u bit_of_new
       ∙ field_of_replaced w (lowest_place l) l.len (cast_unsigned w128 n % 2 ^ l.len) (lowest_place-le l u) few
 
+  -- the signal has a number congruent to the one written
   pub Congruent-written : Congruent (2 ^ l.len) (signal_value l new) n
   Congruent-written =
       let m = 2 ^ l.len in
@@ -116,6 +121,7 @@ module _ (l : Layout) (payload new : List ℕ) (w low ones : ℕ) (n : ℤ) (u :
       (subst (λ v. Congruent m (signal_value l new) (pos v)) natural_of_new (Congruent-signal_value l new u.at_least_one))
       (Congruent-trans m (pos (cast_unsigned w128 n % m)) (pos (cast_unsigned w128 n)) n (Congruent-mod m (cast_unsigned w128 n) (pow_pos l.len)) (word_of_number l.len n u.at_most_64 f))
 
+  -- the other bits are as they were
   pub payload_bit-written : length payload ≡ 8 → ((i : ℕ) → get_or payload i 0 < 256) → w ≡ word_of l payload
       → (b : ℕ) → b < 64 → ¬ (Contains (bit_numbers l) b) → payload_bit new b ≡ payload_bit payload b
   payload_bit-written eight bytes word b h other =
@@ -130,6 +136,7 @@ module _ (l : Layout) (payload new : List ℕ) (w low ones : ℕ) (n : ℤ) (u :
       (cases_lt (place_of l b) (lowest_place l))
       ∙ old
 
+  -- the payload is the one that is promised
   pub payload_with-written : IsPayload payload → w ≡ word_of l payload → new ≡ payload_with l payload n
   unfolding payload_with
   payload_with-written p word =
