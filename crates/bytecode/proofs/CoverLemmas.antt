@@ -11,10 +11,12 @@ pub record LiesBetween (from end : ℕ) (function : Fun) : Type 0 where
   pub nonempty : function.start < function.end
   pub ends : function.end ≤ end
 
+-- the end is not below the first place
 pub Cover-ordered : (from : ℕ) (functions : List Fun) (end : ℕ) → Cover from functions end → from ≤ end
 Cover-ordered from [] end h = omega (arith, h)
 Cover-ordered from (f ∷ fs) end h = let rest = Cover-ordered f.end fs end h.2 in omega (arith, h.1)
 
+-- each function lies between the first place and the end
 pub Cover-between : (from : ℕ) (functions : List Fun) (end : ℕ) → Cover from functions end →
     (number : ℕ) (function : Fun) → slice_get functions number ≡ Some function → LiesBetween from end function
 Cover-between from [] end h number function e = absurd (cc)
@@ -46,6 +48,7 @@ pub record HasPlace (functions : List Fun) (place : ℕ) : Type 0 where
   pub is_there : slice_get functions number ≡ Some function
   pub inside : IsIn function place
 
+-- each place from the first one up to the end is in a function
 pub Cover-has : (from : ℕ) (functions : List Fun) (end : ℕ) → Cover from functions end →
     (place : ℕ) → from ≤ place → place < end → HasPlace functions place
 Cover-has from [] end h place low high = absurd (omega (arith, h))

@@ -1,6 +1,8 @@
+-- The proofs of this crate, those that others stand on first.
 pub mod ListItems
 pub mod ListPairs
 pub mod ZippedLists
+pub mod HandlerLists
 pub mod KindLists
 pub mod SelectorRanks
 pub mod CoverLemmas

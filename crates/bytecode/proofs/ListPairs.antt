@@ -93,12 +93,14 @@ pub AllPairs-permutation : {X : Type 0} (R : X → X → Type 0) → ((x y : X) 
 AllPairs-permutation R turn xs ys moved h =
     pairs R ys (IsPermutation-keeps xs (λ zs. AllApart R zs) (apart R turn xs h) (λ zs i j bi bj k. AllApart-swap R zs i j bi bj k) ys moved)
 
+-- the same, back from the other order
 pub AllPairs-permuted : {X : Type 0} (R : X → X → Type 0) → ((x y : X) → R x y → R y x) →
     (xs ys : List X) → IsPermutation xs ys → AllPairs R ys → AllPairs R xs
 AllPairs-permuted R turn xs ys moved h = AllPairs-permutation R turn ys xs (IsPermutation-sym xs ys moved) h
 
 -- ---- the first items, one more, and all
 
+-- what holds of the first items, and of the next one, holds of one more
 pub All-take_more : {X : Type 0} (P : X → Type 0) (xs : List X) (n : ℕ) → n < length xs → All P (take n xs) → ((d : X) → P (get_or xs n d)) →
     All P (take (n + 1) xs)
 All-take_more P xs n within h last k d below =
@@ -111,10 +113,12 @@ All-take_more P xs n within h last k d below =
           subst P (sym (read ∙ sym (get_or-take n xs k d k_below))) (h k d (omega (arith, k_below, within, length-take n xs))))
     ]
 
+-- what holds of as many first items as there are holds of all
 pub All-taken : {X : Type 0} (P : X → Type 0) (xs : List X) (n : ℕ) → length xs ≤ n → All P (take n xs) → All P xs
 All-taken P xs n all h k d below =
     subst P (get_or-take n xs k d (omega (arith, below, all))) (h k d (omega (arith, below, all, length-take n xs)))
 
+-- what holds of each two of the first items, and of each with the next one, holds of one more
 pub AllPairs-take_more : {X : Type 0} (R : X → X → Type 0) (xs : List X) (n : ℕ) → n < length xs → AllPairs R (take n xs) →
     ((k : ℕ) (d : X) → k < n → R (get_or xs k d) (get_or xs n d)) → AllPairs R (take (n + 1) xs)
 AllPairs-take_more R xs n within h last i j d below bj =
@@ -132,6 +136,7 @@ AllPairs-take_more R xs n within h last i j d below bj =
           (subst (λ y. R (get_or (take n xs) i d) y) (get_or-take n xs j d j_below) before)))
     ]
 
+-- what holds of each two of as many first items as there are holds of all
 pub AllPairs-taken : {X : Type 0} (R : X → X → Type 0) (xs : List X) (n : ℕ) → length xs ≤ n → AllPairs R (take n xs) → AllPairs R xs
 AllPairs-taken R xs n all h i j d below bj =
     subst (λ x. R x (get_or xs j d)) (get_or-take n xs i d (omega (arith, below, bj, all)))

@@ -20,6 +20,7 @@ use Rattle.bytecode.proofs.ZippedLists.{AllZip-same_length, AllZip-splice, AllZi
 
 -- ---- the kinds of a message's cells
 
+-- a message's cells are among the cells
 pub message_within : (kinds : List Kind) (at : ℕ) → IsMessage kinds at → at + 14 ≤ length kinds
 message_within kinds at is = omega (arith, ap length is, length-take 14 (drop at kinds), length-drop at kinds)
 
@@ -80,6 +81,7 @@ HoldKinds-copy kinds cells to from held is_to is_from =
 
 -- ---- reading them
 
+-- the cells of a message are there
 pub message_there : (kinds : List Kind) (cells : List ℤ) (at : ℕ) → HoldKinds kinds cells → IsMessage kinds at →
     message_at at cells ≡ Some (take 14 (drop at cells))
 message_there kinds cells at held is =
@@ -90,6 +92,7 @@ message_there kinds cells at held is =
       | inr h ↦ absurd (omega (arith, h.1, same, within))
     ]
 
+-- a residue is below 2 to the width
 pub residue-lt : (k : Kind) (n : ℤ) → 0 < 2 ^ width k → residue k n < 2 ^ width k
 residue-lt k n h = rem_below (2 ^ width k) n h
 
@@ -97,10 +100,11 @@ AreBytes-residues : (cells : List ℤ) → AreBytes (map (residue Byte) cells)
 AreBytes-residues [] = tt
 AreBytes-residues (n ∷ cells) = (residue-lt Byte n (lit< tt), AreBytes-residues cells)
 
--- a payload that is read is eight bytes
+-- a payload that is read is of bytes
 pub AreBytes-payload : (message : List ℤ) → AreBytes (payload_of message)
 AreBytes-payload message = AreBytes-residues (drop 6 message)
 
+-- a payload that is read has eight bytes
 pub length-payload : (kinds : List Kind) (cells : List ℤ) (at : ℕ) → HoldKinds kinds cells → IsMessage kinds at →
     length (payload_of (take 14 (drop at cells))) ≡ 8
 length-payload kinds cells at held is =
@@ -111,18 +115,22 @@ length-payload kinds cells at held is =
 
 -- ---- the bytes of a number
 
+-- as many bytes of a number as were asked for
 pub length-bytes_of_number : (count n : ℕ) → length (bytes_of_number count n) ≡ count
 length-bytes_of_number zero n = refl
 length-bytes_of_number (suc count) n = ap suc (length-bytes_of_number count (n / 256))
 
+-- they are bytes
 pub AreBytes-bytes_of_number : (count n : ℕ) → AreBytes (bytes_of_number count n)
 AreBytes-bytes_of_number zero n = tt
 AreBytes-bytes_of_number (suc count) n = (let h : n % 256 < 256 = omega arith in h, AreBytes-bytes_of_number count (n / 256))
 
+-- as many bytes as the kind has
 pub length-bytes_of : (k : Kind) (n : ℤ) → length (bytes_of k n) ≡ size k
 unfolding bytes_of
 length-bytes_of k n = length-bytes_of_number (size k) (residue k n)
 
+-- the bytes of a number of a kind are bytes
 pub AreBytes-bytes_of : (k : Kind) (n : ℤ) → AreBytes (bytes_of k n)
 unfolding bytes_of
 AreBytes-bytes_of k n = AreBytes-bytes_of_number (size k) (residue k n)
@@ -146,8 +154,10 @@ IsPayload-payload kinds cells at held is = record {
   bytes = get_or-AreBytes (payload_of (take 14 (drop at cells))) (AreBytes-payload (take 14 (drop at cells)));
 }
 
+-- a payload with a signal set is of bytes
 pub AreBytes-payload_with : (l : Layout) (payload : List ℕ) (n : ℤ) → IsUsable l → IsPayload payload → AreBytes (payload_with l payload n)
 AreBytes-payload_with l payload n u p = AreBytes-from_get_or (payload_with l payload n) (IsPayload-payload_with l payload n u p).bytes
 
+-- a payload with a signal set has eight bytes
 pub length-payload_with : (l : Layout) (payload : List ℕ) (n : ℤ) → IsUsable l → IsPayload payload → length (payload_with l payload n) ≡ 8
 length-payload_with l payload n u p = (IsPayload-payload_with l payload n u p).eight

@@ -14,15 +14,19 @@ use Rattle.signal_codec.proofs.Values.{CanHave-signal_value}
 use Rattle.bytecode.specs.Message.{number_at, number_of_bytes, size, written_can, written_dlc, written_id, written_rtr}
 use Rattle.bytecode.proofs.MessageCells.{residue-lt}
 
+-- a truth value is a number
 pub IsNumber-truth : (b : Bool) → IsNumber (truth b)
 IsNumber-truth b = IsNumber-held Long (truth b) (Holds-truth Long b)
 
+-- a negative in a kind is a number
 pub IsNumber-negated : (k : Kind) (n : ℤ) → IsNumber (negated k n)
 IsNumber-negated k n = IsNumber-wrap k (neg_ℤ (wrap k n))
 
+-- turned bits are a number
 pub IsNumber-inverted : (k : Kind) (n : ℤ) → IsNumber (inverted k n)
 IsNumber-inverted k n = IsNumber-wrap k (pos (2 ^ width k - 1 - residue k n))
 
+-- what stands in a payload is a number
 pub IsNumber-number_at : (k : Kind) (i : ℕ) (payload : List ℕ) → IsNumber (number_at k i payload)
 unfolding number_at
 IsNumber-number_at k i payload = IsNumber-wrap k (pos (number_of_bytes (take (size k) (drop i payload))))
@@ -42,6 +46,7 @@ can_be_number false start len big n least most c =
     let high : n ≤ℤ pos (2 ^ len - 1) = c.at_most in
     record { at_least = omega (arith, ints, low); below = omega (arith, ints, p, high) }
 
+-- the value of a signal is a number
 pub IsNumber-signal_value : (l : Layout) (payload : List ℕ) → IsUsable l → IsNumber (signal_value l payload)
 IsNumber-signal_value l payload u = can_be_number l.signed l.start l.len l.big (signal_value l payload) u.at_least_one u.at_most_64 (CanHave-signal_value l payload u.at_least_one)
 
@@ -50,18 +55,21 @@ kept-lt : (extended : Bool) (r : ℕ) → cond extended (2 ^ 31 + r % 2 ^ 29) (r
 kept-lt true r = omega arith
 kept-lt false r = omega arith
 
--- what the write rules give is of the kinds of the cells
+-- a written identifier is held by its cell
 pub Holds-written_id : (n : ℤ) → Holds Dword (pos (written_id n))
 Holds-written_id n =
     let w = kept-lt (nat_le (2 ^ 31) (residue Dword n)) (residue Dword n) in
     record { at_least = omega (arith, ints); at_most = omega (arith, ints, w) }
 
+-- a written length is held by its cell
 pub Holds-written_dlc : (n : ℤ) → Holds Byte (pos (written_dlc n))
 Holds-written_dlc n = record { at_least = omega (arith, ints); at_most = omega (arith, ints) }
 
+-- a written remote bit is held by its cell
 pub Holds-written_rtr : (n : ℤ) → Holds Byte (pos (written_rtr n))
 Holds-written_rtr n = record { at_least = omega (arith, ints); at_most = omega (arith, ints) }
 
+-- a written channel is held by its cell
 pub Holds-written_can : (n : ℤ) → Holds Word (pos (written_can n))
 Holds-written_can n =
     let r : residue Word n < 2 ^ 16 = residue-lt Word n (lit< tt) in

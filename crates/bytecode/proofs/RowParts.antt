@@ -61,6 +61,7 @@ module _ {code : Code} {m : Machine} (s : Stands code m) where
   IsSafeStep-gives op k a b stack target p numbers height reached (Some n) e =
       IsSafeStep-on_same s (n ∷ stack) target p (IsNumber-held k n (Holds-value op k a b n e), numbers) height reached
 
+  -- an operation on two numbers
   pub IsSafeStep-operates : (op : BinOp) (k : Kind) (a b : ℤ) (stack : List ℤ) (target : Target) → target.place ≡ m.place + 1 → IsOperation op →
       AllByRecursion IsNumber stack → suc (length stack) ≡ target.depth + s.below → IsReached code s.function target →
       IsSafeStep s (operates op k a b m stack)

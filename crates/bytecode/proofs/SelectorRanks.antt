@@ -149,6 +149,7 @@ IsHighest-higher rank n selectors reached within h of_n above = (
 
 -- ---- all ranks
 
+-- what is apart in each rank is apart
 pub apart_in_ranks : (selectors : List Selector) → All (λ s. s.rank ≤ 2) selectors →
     AllPairs (AreApartIn 0) selectors → AllPairs (AreApartIn 1) selectors → AllPairs (AreApartIn 2) selectors → AllPairs AreApart selectors
 apart_in_ranks selectors ranks zero' one' two' i j d below within same =
@@ -163,6 +164,7 @@ apart_in_ranks selectors ranks zero' one' two' i j d below within same =
       ]
     ]
 
+-- what is apart is apart in each rank
 pub apart_in_rank : (rank : ℕ) (selectors : List Selector) → AllPairs AreApart selectors → AllPairs (AreApartIn rank) selectors
 apart_in_rank rank selectors all i j d below within of_i of_j = all i j d below within (of_i ∙ sym of_j)
 

@@ -142,6 +142,7 @@ fn selectors_of(alloc: Global, handlers: &[Handler]) -> Result<Vec<Selector>, No
 }
 
 /// All timers of the handlers.
+#[tactic(auto, using(crate::proofs::HandlerLists::one_more_handler))]
 fn timers_of(alloc: Global, handlers: &[Handler]) -> Result<Vec<u32>, NoMemory>
     ensures { IfOk result (λ timers. timers.items ≡ all_timers handlers.now) }
 {
@@ -155,6 +156,7 @@ fn timers_of(alloc: Global, handlers: &[Handler]) -> Result<Vec<u32>, NoMemory>
 }
 
 /// All keys of the handlers.
+#[tactic(auto, using(crate::proofs::HandlerLists::one_more_handler))]
 fn keys_of(alloc: Global, handlers: &[Handler]) -> Result<Vec<Option<u8>>, NoMemory>
     ensures { IfOk result (λ keys. keys.items ≡ all_keys handlers.now) }
 {

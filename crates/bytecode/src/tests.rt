@@ -1,3 +1,5 @@
+// What no contract says of the verifier: which place it gives for some codes.
+
 ghost use Rattle.std.specs.Prelude.{◌<◌, ◌^◌, IsTrue, length};
 ghost use Rattle.bytecode.specs.Tables.{selectors_of};
 ghost use Rattle.bytecode.specs.Verified.{IsShortCode};
@@ -56,6 +58,7 @@ fn code(
     })
 }
 
+/// Whether the event has fewer selectors than the limit.
 fn has_few_selectors(event: &Event) -> bool
     ensures { IsTrue result → length (selectors_of event.now) < 2 ^ 32 }
 {
@@ -65,6 +68,7 @@ fn has_few_selectors(event: &Event) -> bool
     }
 }
 
+/// Whether no list of the code is as long as the limit, where it has no format.
 fn is_short(code: &Code) -> bool
     ensures { IsTrue result → IsShortCode code.now }
 {

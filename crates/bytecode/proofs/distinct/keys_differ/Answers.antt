@@ -1,3 +1,4 @@
+-- One more key differs from those before it where they do not contain it.
 use Rattle.std.proofs.Common.{arith, ◌≡◌, ◌≢◌, ◌<◌, ◌≤◌, ◌∙◌, ℕ, true, false, eqb, List, length, take, get_or, Option, Some, None, refl, sym, ap, subst, length-take}
 use Rattle.std.specs.Prelude.{AllPairs}
 use Rattle.std.specs.Option.{option_eq}

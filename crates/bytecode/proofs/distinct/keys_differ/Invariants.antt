@@ -1,3 +1,4 @@
+-- The keys so far differ.
 use Rattle.std.proofs.Common.{◌≢◌, take}
 use Rattle.std.specs.Prelude.{AllPairs}
 use Rattle.bytecode.proofs.distinct.keys_differ.Given as goal

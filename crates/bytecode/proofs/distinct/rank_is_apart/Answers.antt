@@ -1,3 +1,4 @@
+-- One more selector is apart from those before it where it begins above the greatest key that they reach.
 use Rattle.std.proofs.Common.{arith, ◌≡◌, ◌∙◌, Bool, true, false, get_or, refl, sym}
 use Rattle.bytecode.specs.Inside.Distinct.{AreApartIn}
 use Rattle.bytecode.proofs.ListPairs.{AllPairs-taken}

@@ -1,3 +1,4 @@
+-- The selectors so far are apart, and the greatest key that they reach is known.
 use Rattle.std.proofs.Common.{take}
 use Rattle.std.specs.Prelude.{AllPairs}
 use Rattle.bytecode.specs.Inside.Distinct.{AreApartIn}

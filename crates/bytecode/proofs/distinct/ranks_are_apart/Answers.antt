@@ -1,3 +1,4 @@
+-- Selectors that are apart in each rank are apart.
 use Rattle.std.proofs.Common.{arith, ◌≡◌, ◌∙◌, true, false, refl, sym}
 use Rattle.std.specs.Prelude.{AllPairs}
 use borrow.Author.Count.{below_more}

@@ -1,3 +1,4 @@
+-- The selectors of the ranks so far are apart.
 use Rattle.std.proofs.Common.{ℕ, ◌<◌}
 use Rattle.std.specs.Prelude.{AllPairs}
 use Rattle.bytecode.specs.Inside.Distinct.{AreApartIn}

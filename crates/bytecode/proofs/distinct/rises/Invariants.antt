@@ -1,3 +1,4 @@
+-- The numbers so far rise.
 use Rattle.std.proofs.Common.{ℕ, ◌+◌, ◌<◌, get_or}
 use Rattle.bytecode.proofs.distinct.rises.Given as goal
 

@@ -1,3 +1,4 @@
+-- Selectors are apart where they are when sorted by their least keys.
 use Rattle.std.proofs.Common.{rules, ◌≤◌, List, sym, subst}
 use Rattle.std.specs.Prelude.{All, AllPairs}
 use Rattle.std.specs.List.Sorted.{IsNonDecreasingBy}

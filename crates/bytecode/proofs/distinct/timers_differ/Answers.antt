@@ -1,3 +1,4 @@
+-- Timers differ where they rise when sorted.
 use Rattle.std.proofs.Common.{◌≢◌, ℕ, List, sym, subst}
 use Rattle.std.specs.Prelude.{AllPairs}
 use Rattle.std.specs.List.Sorted.{IsNonDecreasing}

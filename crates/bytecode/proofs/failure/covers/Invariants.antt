@@ -1,3 +1,4 @@
+-- The functions cover the places where the others cover those from here on.
 use Rattle.std.proofs.Common.{◌↔◌, drop}
 use Rattle.bytecode.specs.Verified.{Cover}
 use Rattle.bytecode.proofs.failure.covers.Given as goal

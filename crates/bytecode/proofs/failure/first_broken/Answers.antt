@@ -1,3 +1,4 @@
+-- The first place of a function that breaks its rule is the first of all.
 use Rattle.std.proofs.Common.{arith, ◌≡◌, ◌<◌, ℕ, List, length, slice_get, get_or, Some, ap}
 use Rattle.bytecode.specs.declared.code.Fun.{Fun}
 use Rattle.bytecode.proofs.FailureLemmas.{all_keep, first_of_all, one_more}

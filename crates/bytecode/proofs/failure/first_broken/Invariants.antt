@@ -1,3 +1,4 @@
+-- The places of the functions so far keep their rules.
 use Rattle.std.proofs.Common.{ℕ, ◌<◌, ◌≡◌, slice_get, Some}
 use Rattle.bytecode.specs.declared.code.Fun.{Fun}
 use Rattle.bytecode.specs.Inside.Failure.{KeepsRulesOf}

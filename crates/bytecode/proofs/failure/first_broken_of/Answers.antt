@@ -1,3 +1,4 @@
+-- The instruction and the depth at a place of the function are those of its rule.
 use Rattle.std.proofs.Common.{arith, ◌≡◌, ◌≤◌, ℕ, true, false, length, slice_get, Some, ap, sym, ◌∙◌, subst}
 use borrow.Author.Count.{below_more}
 use Rattle.bytecode.specs.declared.code.Code.{Code}

@@ -1,3 +1,4 @@
+-- The places of the function so far keep their rules.
 use Rattle.std.proofs.Common.{ℕ, ◌≤◌, ◌<◌}
 use Rattle.bytecode.specs.Inside.Failure.{KeepsRuleIn}
 use Rattle.bytecode.proofs.failure.first_broken_of.Given as goal

@@ -1,3 +1,4 @@
+-- The comparison of the kinds from a cell on decides.
 use Rattle.std.proofs.Common.{arith, ◌≡◌, ◌↔◌, ◌+◌, ◌-◌, ◌∙◌, ℕ, Bool, true, false, IsTrue, leb, List, length, take, drop, sym, ap}
 use Rattle.std.specs.Cmp.Lexicographic.{pointwise}
 use denote.Enum.Bare.{sameb}

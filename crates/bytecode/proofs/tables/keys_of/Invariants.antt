@@ -1,3 +1,4 @@
+-- The keys so far are those of the handlers so far.
 use Rattle.std.proofs.Common.{◌≡◌, take}
 use Rattle.bytecode.specs.Tables.{all_keys}
 use Rattle.bytecode.proofs.tables.keys_of.Given as goal

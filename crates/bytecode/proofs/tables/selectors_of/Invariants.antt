@@ -1,3 +1,4 @@
+-- The selectors so far are those of the handlers so far.
 use Rattle.std.proofs.Common.{◌≡◌, take}
 use Rattle.bytecode.specs.Tables.{all_selectors}
 use Rattle.bytecode.proofs.tables.selectors_of.Given as goal

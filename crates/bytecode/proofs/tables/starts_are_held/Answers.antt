@@ -1,3 +1,4 @@
+-- One more initial value is held, and in the end all are.
 use Rattle.std.proofs.Common.{refl, rules, get_or, subst}
 use Rattle.std.specs.Prelude.{pos}
 use Rattle.std.proofs.lemmas.Int.{to_z-of_z}

@@ -1,3 +1,4 @@
+-- The initial values so far are held.
 use Rattle.std.proofs.Common.{take}
 use Rattle.std.specs.Prelude.{All}
 use Rattle.bytecode.specs.Tables.{IsHeldStart}

@@ -1,3 +1,4 @@
+-- The timers so far are those of the handlers so far.
 use Rattle.std.proofs.Common.{◌≡◌, take}
 use Rattle.bytecode.specs.Tables.{all_timers}
 use Rattle.bytecode.proofs.tables.timers_of.Given as goal
