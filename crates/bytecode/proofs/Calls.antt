@@ -5,7 +5,7 @@ use Rattle.bytecode.specs.declared.code.Fun.{Fun}
 use Rattle.bytecode.specs.Laws.{enters_earlier, leaves_function}
 use Rattle.bytecode.specs.Machine.{Machine, Goes}
 use Rattle.bytecode.specs.Rule.{IsReached, Target}
-use Rattle.bytecode.specs.Shape.{gives_number}
+use Rattle.bytecode.specs.Shape.{numbers_given}
 use Rattle.bytecode.specs.Step.{returns_to, taking_turn}
 use Rattle.bytecode.specs.Verified.{IsVerified}
 use Rattle.bytecode.proofs.MachineStates.{Below, IsAt, IsSafeStep, ReturnsTo, Stands}
@@ -14,7 +14,7 @@ use Rattle.bytecode.proofs.PlaceRules.{begins}
 module _ {code : Code} (verified : IsVerified code) {m : Machine} (s : Stands code m) where
   -- a call of an earlier function, which returns to a target
   pub IsSafeStep-call : (f : ℕ) (callee : Fun) (target : Target) → slice_get code.functions f ≡ Some callee → f < s.number →
-      target.place ≡ m.place + 1 → target.depth ≡ s.depth + gives_number (Some callee) → IsReached code s.function target →
+      target.place ≡ m.place + 1 → target.depth ≡ s.depth + numbers_given callee → IsReached code s.function target →
       (turns : ℕ) → m.turns ≡ turns →
       IsSafeStep s (taking_turn turns m (λ after. Goes (record after { place = callee.start; calls = (m.place + 1) ∷ m.calls })))
   IsSafeStep-call f callee target there earlier p d reached zero e = (refl, e)
@@ -48,7 +48,7 @@ module _ {code : Code} (verified : IsVerified code) {m : Machine} (s : Stands co
       )
 
   -- a return to the innermost open call, or the end of the run
-  pub IsSafeStep-return : s.depth ≡ gives_number (Some s.function) → (calls : List ℕ) → m.calls ≡ calls →
+  pub IsSafeStep-return : s.depth ≡ numbers_given s.function → (calls : List ℕ) → m.calls ≡ calls →
       Below code s.number s.function calls s.below → IsSafeStep s (returns_to calls m)
   IsSafeStep-return d [] e b = (refl, e)
   IsSafeStep-return d (place ∷ calls) e (caller, calling, depth, under, returns, rest) = (

@@ -5,7 +5,7 @@ use Rattle.std.proofs.lemmas.Option.{slice_get_within}
 use Rattle.bytecode.specs.declared.code.Code.{Code}
 use Rattle.bytecode.specs.declared.code.Fun.{Fun}
 use Rattle.bytecode.specs.Rule.{IsIn}
-use Rattle.bytecode.specs.Verified.{IsLaidOut, KeepsRuleAt}
+use Rattle.bytecode.specs.Verified.{IsLaidOut, KeepsAllRules, KeepsRuleAt}
 use Rattle.bytecode.specs.Inside.Failure.{FailsFirstIn, FailsFirstOfAll, KeepsRuleIn, KeepsRulesOf}
 use Rattle.bytecode.proofs.CoverLemmas.{Cover-follows}
 use Rattle.bytecode.proofs.PlaceRules.{lies_in_code}
@@ -58,7 +58,7 @@ one_more code number function there before keeps other g below there' place insi
 
 -- where the places of all functions keep their rules, all places do
 pub all_keep : (code : Code) (count : ℕ) → length code.functions ≤ count → EarlierKeep code count →
-    (place : ℕ) → place < length code.instrs → KeepsRuleAt code place
+    KeepsAllRules code
 all_keep code count all keep place below number function instr depth there inside ei ed =
     let within = slice_get_within code.functions number function there in
     keep number function (omega (arith, within)) there place inside instr depth ei ed

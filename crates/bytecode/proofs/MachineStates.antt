@@ -8,7 +8,7 @@ use Rattle.bytecode.specs.Laws.{GoesOn, MayEnd}
 use Rattle.bytecode.specs.Machine.{Machine, Next, Goes, Ends, Stuck}
 use Rattle.bytecode.specs.Rule.{IsIn}
 use Rattle.bytecode.specs.Runs.{HoldKinds}
-use Rattle.bytecode.specs.Shape.{gives_number}
+use Rattle.bytecode.specs.Shape.{numbers_given}
 
 -- a place of a function, by the function's number, with the place's depth
 pub record IsAt (code : Code) (number : ℕ) (function : Fun) (place depth : ℕ) : Type 0 where
@@ -20,7 +20,7 @@ pub record IsAt (code : Code) (number : ℕ) (function : Fun) (place depth : ℕ
 pub record ReturnsTo (code : Code) (number : ℕ) (function : Fun) (place below caller : ℕ) (calling : Fun) (depth under : ℕ) : Type 0 where
   pub greater : number < caller
   pub at : IsAt code caller calling place depth
-  pub height : gives_number (Some function) + below ≡ depth + under
+  pub height : numbers_given function + below ≡ depth + under
 
 -- the numbers below a function's own are those of its callers: none without a caller
 abbrev pub Below : Code → ℕ → Fun → List ℕ → ℕ → Type 0

@@ -22,7 +22,7 @@ use Rattle.bytecode.specs.declared.instr.Instr.TheVariants.{Push, Load, Store, C
 use Rattle.bytecode.specs.Machine.{Machine, Next, Stuck}
 use Rattle.bytecode.specs.Message.{IsMessage, bytes_of, frame_of, message_at, message_kinds, number_at, payload_of, size, write_rules, written_can, written_dlc, written_id, written_rtr}
 use Rattle.bytecode.specs.Rule.{IsReached, KeepsRule, Target, aim, next}
-use Rattle.bytecode.specs.Shape.{gives_number, numbers_of, shape_of}
+use Rattle.bytecode.specs.Shape.{given_by_call, numbers_given, shape_of, taken_by_line}
 use Rattle.bytecode.specs.Step.{needing, after_cancel, after_effect, after_set, goes_on, micros, row, writes}
 use Rattle.bytecode.specs.Verified.{IsVerified}
 use Rattle.bytecode.proofs.Calls.{IsSafeStep-call, IsSafeStep-return}
@@ -189,13 +189,13 @@ module _ {code : Code} (verified : IsVerified code) (closed : Bool) (moment : �
   IsSafeStep-row (Call f) stack r ns h =
       let small : f < length code.functions = omega (arith, r.calls_earlier, slice_get_within code.functions s.number s.function s.at.is_there) in
       let callee = item_below code.functions f small in
-      let gives : gives_number (slice_get code.functions f) ≡ gives_number (Some callee.item) = ap gives_number callee.is_there in
+      let gives : given_by_call code f ≡ numbers_given callee.item = ap (λ o. option_map_or numbers_given o 0) callee.is_there in
       IsSafeStep-needing s (slice_get code.functions f) callee.item _ callee.is_there
       (IsSafeStep-call verified s f callee.item (ahead (Call f)) callee.is_there r.calls_earlier refl (omega (arith, gives)) r.targets_agree.0 m.turns refl)
   IsSafeStep-row Ret stack r ns h = IsSafeStep-return verified s r.returns_as_it_says m.calls refl s.callers
   IsSafeStep-row (Write f) stack r ns h =
       let format = item_below code.formats f r.names_exist in
-      let count : numbers_of code f ≡ numbers_taken format.item = ap (λ o. option_map_or numbers_taken o 0) format.is_there in
+      let count : taken_by_line code f ≡ numbers_taken format.item = ap (λ o. option_map_or numbers_taken o 0) format.is_there in
       let arrays : All (IsCharArray code.cells) (char_arrays format.item) =
       subst (λ z. All (IsCharArray code.cells) (char_arrays z)) (get_or_from_slice_get code.formats f format.item format.item format.is_there) (verified.tables.arrays_exist f format.item r.names_exist) in
       IsSafeStep-needing s (slice_get code.formats f) format.item _ format.is_there

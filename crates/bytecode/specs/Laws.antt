@@ -12,7 +12,8 @@ use Rattle.bytecode.specs.Step.{go}
 -- a run has one end, whatever the number of steps
 abbrev pub HasOneEnd : Code → Bool → ℕ → Machine → Type 0
 HasOneEnd code closed moment start = (first second : Outcome) (m m' : Machine) →
-    EndsIn code closed moment start first m → EndsIn code closed moment start second m' → (first ≡ second) × (m ≡ m')
+    EndsIn code closed moment start first m → EndsIn code closed moment start second m' →
+    (first ≡ second) × (m ≡ m')
 
 -- a list begins with another
 abbrev pub BeginsWith : {A : Type 0} → List A → List A → Type 0
@@ -21,12 +22,14 @@ BeginsWith {A} xs front = (rest : List A) × (xs ≡ front ++ rest)
 -- the effects of the end begin with those of each state that the run comes to
 abbrev pub KeepsEffects : Code → Bool → ℕ → Machine → Type 0
 KeepsEffects code closed moment start = (m end : Machine) (outcome : Outcome) →
-    Reaches code closed moment start m → EndsIn code closed moment start outcome end → BeginsWith end.effects m.effects
+    Reaches code closed moment start m → EndsIn code closed moment start outcome end →
+    BeginsWith end.effects m.effects
 
 -- a run from this state, in a measurement that has ended or not and at any moment, is never stuck and ends
 pub record RunsToItsEnd (code : Code) (start : Machine) : Type 0 where
   pub never_stuck : (closed : Bool) (moment n : ℕ) → go code closed moment n start ≢ Stuck
-  pub ends : (closed : Bool) (moment n : ℕ) → steps_left code start ≤ n → HasEnded (go code closed moment n start)
+  pub ends : (closed : Bool) (moment n : ℕ) → steps_left code start ≤ n →
+      HasEnded (go code closed moment n start)
 
 -- goes to a later place of the function, with the same open calls and turns
 pub record GoesLater (function : Fun) (before after : Machine) : Type 0 where
@@ -69,8 +72,8 @@ MayEnd Done m = m.calls ≡ []
 MayEnd (Trapped kind) m = ⊤
 MayEnd Cut m = m.turns ≡ 0
 
--- what a step does in a function of this number: it goes on in one of the four ways, or ends the run and leaves the state
--- as it was
+-- what a step does in a function of this number: it goes on in one of the four ways, or ends the run and
+-- leaves the state as it was
 abbrev pub IsStepOf : Code → ℕ → Fun → Machine → Next → Type 0
 IsStepOf code number function m (Goes after) = GoesOn code number function m after
 IsStepOf code number function m (Ends outcome after) = (after ≡ m) × MayEnd outcome m

@@ -1,5 +1,5 @@
 -- A message variable (CAPL manual, message): 14 cells, and the rules by which its fields are written.
-use Rattle.std.specs.Prelude.{◌≡◌, ℕ, zero, suc, ◌+◌, ◌-◌, ◌*◌, ◌/◌, ◌%◌, ◌^◌, if◌then◌else◌, nat_le, ◌==◌, not, List, [], ◌∷◌, map, length, take, drop, min, ℤ, pos, Option, Some, None}
+use Rattle.std.specs.Prelude.{◌≡◌, ℕ, zero, suc, ◌+◌, ◌-◌, ◌*◌, ◌/◌, ◌%◌, ◌^◌, if◌then◌else◌, nat_le, ◌==◌, not, List, [], ◌∷◌, map, length, take, drop, replicate, min, ℤ, pos, Option, Some, None}
 use Rattle.std.specs.Prelude.{slice_index_or}
 use Rattle.int_kinds.specs.declared.kinds.Kind.{Kind}
 use Rattle.int_kinds.specs.declared.kinds.Kind.TheVariants.{Byte, Word, Dword}
@@ -11,7 +11,7 @@ use Rattle.can_frame.specs.Frame.{FrameFields, padded}
 
 -- the kinds of a message's cells: identifier, length, remote bit, channel, direction, time, and 8 bytes
 abbrev pub message_kinds : List Kind
-message_kinds = Dword ∷ Byte ∷ Byte ∷ Word ∷ Byte ∷ Dword ∷ Byte ∷ Byte ∷ Byte ∷ Byte ∷ Byte ∷ Byte ∷ Byte ∷ Byte ∷ []
+message_kinds = Dword ∷ Byte ∷ Byte ∷ Word ∷ Byte ∷ Dword ∷ replicate 8 Byte
 
 -- a message begins at a cell: the cells from there on have a message's kinds
 abbrev pub IsMessage : List Kind → ℕ → Type 0
@@ -27,7 +27,9 @@ payload_of message = map (residue Byte) (drop 6 message)
 
 -- identifier: with bit 31, which marks an extended one, the low 29 bits are kept, else the low 11
 abbrev pub written_id : ℤ → ℕ
-written_id n = if nat_le (2 ^ 31) (residue Dword n) then (2 ^ 31 + residue Dword n % 2 ^ 29) else residue Dword n % 2 ^ 11
+written_id n =
+    if nat_le (2 ^ 31) (residue Dword n) then (2 ^ 31 + residue Dword n % 2 ^ 29)
+    else residue Dword n % 2 ^ 11
 
 -- length: wrapped to byte, and above 8 it becomes 8
 abbrev pub written_dlc : ℤ → ℕ

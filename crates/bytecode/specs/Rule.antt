@@ -15,7 +15,7 @@ use Rattle.bytecode.specs.declared.shape.Named.{Named}
 use Rattle.bytecode.specs.declared.shape.Named.TheVariants.{Nothing, Number, Cell, Array, Message, Messages, Signal, Field, Operation, Format, Timer}
 use Rattle.bytecode.specs.declared.shape.Shape.{Shape}
 use Rattle.bytecode.specs.Message.{IsMessage}
-use Rattle.bytecode.specs.Shape.{gives_number, shape_of}
+use Rattle.bytecode.specs.Shape.{numbers_given, shape_of}
 
 -- a place that an instruction may go to, and the depth with which it arrives there
 pub record Target : Type 0 where
@@ -30,8 +30,8 @@ next shape place depth = record { place = place + 1; depth = depth - shape.taken
 abbrev pub aim : Shape → ℕ → ℕ → Target
 aim shape target depth = record { place = target; depth = depth - shape.taken }
 
--- where an instruction of a shape may go, by its flow, from a place that is reached with a depth. A call goes on to the
--- next place in the end.
+-- where an instruction of a shape may go, by its flow, from a place that is reached with a depth. A call
+-- goes on to the next place in the end.
 abbrev pub targets_by : Flow → Shape → ℕ → ℕ → List Target
 targets_by Next shape place depth = next shape place depth ∷ []
 targets_by (Jump target) shape place depth = aim shape target depth ∷ []
@@ -79,7 +79,7 @@ ReturnsAsItSays (Jump target) function depth = ⊤
 ReturnsAsItSays (Branch target) function depth = ⊤
 ReturnsAsItSays (Loop target) function depth = ⊤
 ReturnsAsItSays (Call f) function depth = ⊤
-ReturnsAsItSays Return function depth = depth ≡ gives_number (Some function)
+ReturnsAsItSays Return function depth = depth ≡ numbers_given function
 
 -- an array of at least one cell
 pub record IsArray (kinds : List Kind) (base len : ℕ) : Type 0 where
@@ -107,7 +107,8 @@ NamesWhatExists code (Format f) = f < length code.formats
 NamesWhatExists code (Timer timer) = timer < length code.timers
 
 -- the rule of a place with an instruction and a depth, in the function of a number
-pub record KeepsRule (code : Code) (number : ℕ) (function : Fun) (place : ℕ) (instr : Instr) (depth : ℕ) : Type 0 where
+pub record KeepsRule (code : Code) (number : ℕ) (function : Fun) (place : ℕ) (instr : Instr) (depth : ℕ)
+    : Type 0 where
   pub depth_in_range : depth ≤ 1000000
   pub begins_empty : place ≡ function.start → depth ≡ 0
   pub takes_what_is_there : (shape_of code instr).taken ≤ depth

@@ -14,8 +14,8 @@ use Rattle.bytecode.specs.Step.{go}
 abbrev pub HoldKinds : List Kind → List ℤ → Type 0
 HoldKinds kinds cells = AllZip Holds kinds cells
 
--- a state in which a handler begins: at its function, with nothing on the stack and no open call, with cells that their
--- kinds hold, among the timers of the code and maybe more
+-- a state in which a handler begins: at its function, with nothing on the stack and no open call, with
+-- cells that their kinds hold, among the timers of the code and maybe more
 pub record IsStartOf (code : Code) (number : ℕ) (m : Machine) : Type 0 where
   pub handler : Handler
   pub function : Fun
@@ -45,8 +45,8 @@ HasEnded Stuck = ⊥
 abbrev pub places_left : Code → ℕ → ℕ
 places_left code place = length code.instrs - place
 
--- At least as many steps as a run may still take: for each turn one more than there are places, and the places that are
--- left in the function and in each open call.
+-- At least as many steps as a run may still take: for each turn one more than there are places, and the
+-- places that are left in the function and in each open call.
 abbrev pub steps_left : Code → Machine → ℕ
 steps_left code m =
     m.turns * (length code.instrs + 1) + (places_left code m.place + sum_by (places_left code) m.calls)

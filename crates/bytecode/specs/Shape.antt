@@ -1,5 +1,5 @@
 -- The table of the instructions: how many numbers each takes and gives, where it goes, and what it names.
-use Rattle.std.specs.Prelude.{ℕ, if◌then◌else◌, slice_get, Option, Some, None}
+use Rattle.std.specs.Prelude.{ℕ, if◌then◌else◌, slice_get}
 use Rattle.std.specs.Option.{option_map_or}
 use Rattle.write_format.specs.Format.{numbers_taken}
 use Rattle.bytecode.specs.declared.code.Code.{Code}
@@ -10,17 +10,20 @@ use Rattle.bytecode.specs.declared.shape.Flow.TheVariants as flow
 use Rattle.bytecode.specs.declared.shape.Named.TheVariants.{Nothing, Number, Cell, Array, Message, Messages, Signal, Field, Operation, Format, Timer}
 use Rattle.bytecode.specs.declared.shape.Shape.{Shape}
 
--- how many numbers a line of a format takes
-abbrev pub numbers_of : Code → ℕ → ℕ
-numbers_of code f = option_map_or numbers_taken (slice_get code.formats f) 0
-
 -- how many numbers a function gives to its caller: one or none
-abbrev pub gives_number : Option Fun → ℕ
-gives_number None = 0
-gives_number (Some function) = if function.gives then 1 else 0
+abbrev pub numbers_given : Fun → ℕ
+numbers_given function = if function.gives then 1 else 0
 
--- The table. An instruction gives its numbers where it goes to the next place, and none where it goes to a target. One
--- that looks at the top takes it, and may give it back.
+-- how many numbers a call of a function gives
+abbrev pub given_by_call : Code → ℕ → ℕ
+given_by_call code f = option_map_or numbers_given (slice_get code.functions f) 0
+
+-- how many numbers a line of a format takes
+abbrev pub taken_by_line : Code → ℕ → ℕ
+taken_by_line code f = option_map_or numbers_taken (slice_get code.formats f) 0
+
+-- The table. An instruction gives its numbers where it goes to the next place, and none where it goes to a
+-- target. One that looks at the top takes it, and may give it back.
 abbrev pub shape_of : Code → Instr → Shape
 shape_of code (Push n) = record { taken = 0; given = 1; flow = flow.Next; named = Number n }
 shape_of code (Load cell) = record { taken = 0; given = 1; flow = flow.Next; named = Cell cell }
@@ -42,13 +45,15 @@ shape_of code Dup = record { taken = 1; given = 2; flow = flow.Next; named = Not
 shape_of code Drop = record { taken = 1; given = 0; flow = flow.Next; named = Nothing }
 shape_of code (Jump target) = record { taken = 0; given = 0; flow = flow.Jump target; named = Nothing }
 shape_of code (Zero target) = record { taken = 1; given = 0; flow = flow.Branch target; named = Nothing }
-shape_of code (Case label target) = record { taken = 1; given = 1; flow = flow.Branch target; named = Number label }
+shape_of code (Case label target) =
+    record { taken = 1; given = 1; flow = flow.Branch target; named = Number label }
 shape_of code (Back target) = record { taken = 1; given = 0; flow = flow.Loop target; named = Nothing }
 shape_of code Turn = record { taken = 0; given = 0; flow = flow.Next; named = Nothing }
 shape_of code (Call f) =
-    record { taken = 0; given = gives_number (slice_get code.functions f); flow = flow.Call f; named = Nothing }
+    record { taken = 0; given = given_by_call code f; flow = flow.Call f; named = Nothing }
 shape_of code Ret = record { taken = 0; given = 0; flow = flow.Return; named = Nothing }
-shape_of code (Write f) = record { taken = numbers_of code f; given = 0; flow = flow.Next; named = Format f }
+shape_of code (Write f) =
+    record { taken = taken_by_line code f; given = 0; flow = flow.Next; named = Format f }
 shape_of code (Send at) = record { taken = 0; given = 0; flow = flow.Next; named = Message at }
 shape_of code (Copy to from) = record { taken = 0; given = 0; flow = flow.Next; named = Messages to from }
 shape_of code Stop = record { taken = 0; given = 0; flow = flow.Next; named = Nothing }

@@ -77,7 +77,8 @@ pub record KeepsTimers (timers : List ℕ) (count : ℕ) : Type 0 where
   pub exist : All (λ timer. timer < count) timers
   pub differ : AllPairs (λ a b. a ≢ b) timers
 
--- handlers of functions that give nothing, of which no two react to one key, to one timer, or with one rank to one frame
+-- handlers of functions that give nothing, of which no two react to one key, to one timer, or with one
+-- rank to one frame
 pub record KeepsHandlers (code : Code) : Type 0 where
   pub give_nothing : All (λ handler. GivesNothing code.functions handler.function) code.handlers
   pub selectors : KeepsSelectors (all_selectors code.handlers)

@@ -10,7 +10,8 @@ use Rattle.bytecode.specs.Tables.{KeepsTables, selectors_of}
 -- functions that cover the places from one up to an end, in order and without a gap, and none of them empty
 abbrev pub Cover : ℕ → List Fun → ℕ → Type 0
 Cover from [] end = from ≡ end
-Cover from (function ∷ rest) end = (function.start ≡ from) × (from < function.end) × Cover function.end rest end
+Cover from (function ∷ rest) end =
+    (function.start ≡ from) × (from < function.end) × Cover function.end rest end
 
 -- the functions cover the instructions, and there are as many depths
 pub record IsLaidOut (code : Code) : Type 0 where
@@ -24,10 +25,14 @@ KeepsRuleAt code place = (number : ℕ) (function : Fun) (instr : Instr) (depth 
     slice_get code.instrs place ≡ Some instr → slice_get code.depths place ≡ Some depth →
     KeepsRule code number function place instr depth
 
+-- the rule of each place holds
+abbrev pub KeepsAllRules : Code → Type 0
+KeepsAllRules code = (place : ℕ) → place < length code.instrs → KeepsRuleAt code place
+
 -- code that keeps every rule of the verifier
 pub record IsVerified (code : Code) : Type 0 where
   pub laid_out : IsLaidOut code
-  pub places : (place : ℕ) → place < length code.instrs → KeepsRuleAt code place
+  pub places : KeepsAllRules code
   pub tables : KeepsTables code
 
 -- no list of the code, at any depth, has 2^32 items or more

@@ -2,8 +2,8 @@
 
 ghost use Rattle.std.specs.Prelude.{◌≡◌, ◌↔◌, ◌<◌, ℕ, length, drop, slice_get, IsTrue, MatchOption, IfOk, Some};
 ghost use Rattle.bytecode.specs.Failure.{FailsFirstAt};
-ghost use Rattle.bytecode.specs.Verified.{Cover, IsLaidOut, IsShortCode, IsVerified, KeepsRuleAt};
-ghost use Rattle.bytecode.specs.Inside.Failure.{FailsFirstOfAll, FailsFirstIn, KeepsRulesOf};
+ghost use Rattle.bytecode.specs.Verified.{Cover, IsLaidOut, IsShortCode, IsVerified, KeepsAllRules, KeepsRuleAt};
+ghost use Rattle.bytecode.specs.Inside.Failure.{FailsFirstIn, FailsFirstOfAll, KeepsRulesOf};
 ghost use Rattle.bytecode.specs.Tables.{KeepsTables};
 
 use crate::code::{Code, Fun};
@@ -56,7 +56,7 @@ fn covers(functions: &[Fun], places: usize) -> bool
 /// The first place that breaks its rule.
 fn first_broken(code: &Code) -> Option<u32>
     requires { IsLaidOut code.now }
-    ensures { MatchOption result ((place : ℕ) → place < length code.now.instrs → KeepsRuleAt code.now place) (FailsFirstOfAll code.now) }
+    ensures { MatchOption result (KeepsAllRules code.now) (FailsFirstOfAll code.now) }
 {
     for (number, function) in code.functions.as_slice().iter().enumerate() {
         if let Some(place) = first_broken_of(code, number, *function) {
@@ -70,7 +70,9 @@ fn first_broken(code: &Code) -> Option<u32>
 fn first_broken_of(code: &Code, number: usize, function: Fun) -> Option<u32>
     requires laid_out { IsLaidOut code.now }
     requires is_there { slice_get code.now.functions number ≡ Some function }
-    ensures { MatchOption result (KeepsRulesOf code.now number function) (FailsFirstIn code.now number function) }
+    ensures { MatchOption result
+        (KeepsRulesOf code.now number function)
+        (FailsFirstIn code.now number function) }
 {
     let instrs = code.instrs.as_slice();
     let depths = code.depths.as_slice();

@@ -11,12 +11,14 @@ ghost use Rattle.bytecode.specs.Verified.{IsVerified};
 /// A run of any code has one end: where two numbers of steps end, the outcome and the state are the
 /// same.
 pub fn a_run_has_one_end()
-    ensures { (code : Code) (closed : Bool) (moment : ℕ) (start : Machine) → HasOneEnd code closed moment start }
+    ensures { (code : Code) (closed : Bool) (moment : ℕ) (start : Machine) →
+        HasOneEnd code closed moment start }
 {}
 
 /// The effects of each state that a run of any code comes to are the first ones of its end.
 pub fn a_run_keeps_its_effects()
-    ensures { (code : Code) (closed : Bool) (moment : ℕ) (start : Machine) → KeepsEffects code closed moment start }
+    ensures { (code : Code) (closed : Bool) (moment : ℕ) (start : Machine) →
+        KeepsEffects code closed moment start }
 {}
 
 /// A run of verified code that begins at a handler, with cells that their kinds hold, is never stuck

@@ -6,7 +6,7 @@ ghost use Rattle.int_kinds.specs.Kind.{IsNumber};
 ghost use Rattle.signal_codec.specs.Signal.{IsUsable};
 ghost use Rattle.bytecode.specs.Message.{IsMessage};
 ghost use Rattle.bytecode.specs.Rule.{CallsEarlier, GoesTheRightWay, IsArray, IsOperation, IsReached, KeepsRule, NamesWhatExists, ReturnsAsItSays, targets};
-ghost use Rattle.bytecode.specs.Shape.{gives_number};
+ghost use Rattle.bytecode.specs.Shape.{numbers_given};
 
 use crate::code::{Code, Fun};
 use crate::instr::Instr;

@@ -1,7 +1,7 @@
 // The table of what each instruction takes and gives, where it goes, and what it names.
 
 ghost use Rattle.std.specs.Prelude.{◌≡◌, ◌≤◌, Some, slice_get};
-ghost use Rattle.bytecode.specs.Shape.{gives_number, numbers_of, shape_of};
+ghost use Rattle.bytecode.specs.Shape.{given_by_call, shape_of, taken_by_line};
 
 use crate::code::Code;
 use crate::instr::Instr;
@@ -96,7 +96,7 @@ pub(crate) fn shape_of(code: &Code, instr: Instr) -> Shape
         Instr::Turn => (0, 0, Flow::Next, Named::Nothing),
         Instr::Call(f) => (0, given_by_call(code, f), Flow::Call(f), Named::Nothing),
         Instr::Ret => (0, 0, Flow::Return, Named::Nothing),
-        Instr::Write(f) => (numbers_of(code, f), 0, Flow::Next, Named::Format(f)),
+        Instr::Write(f) => (taken_by_line(code, f), 0, Flow::Next, Named::Format(f)),
         Instr::Send(at) => (0, 0, Flow::Next, Named::Message(at)),
         Instr::Copy(to, from) => (0, 0, Flow::Next, Named::Messages(to, from)),
         Instr::Stop => (0, 0, Flow::Next, Named::Nothing),
@@ -114,8 +114,8 @@ pub(crate) fn shape_of(code: &Code, instr: Instr) -> Shape
 }
 
 /// How many numbers a line of a format takes.
-fn numbers_of(code: &Code, format: u32) -> usize
-    ensures { result ≡ numbers_of code.now format }
+fn taken_by_line(code: &Code, format: u32) -> usize
+    ensures { result ≡ taken_by_line code.now format }
 {
     let formats = code.formats.as_slice();
     formats
@@ -123,9 +123,9 @@ fn numbers_of(code: &Code, format: u32) -> usize
         .map_or(0, |format| format.numbers_taken())
 }
 
-/// How many numbers a function gives to its caller: one or none.
+/// How many numbers a call of a function gives: one or none.
 fn given_by_call(code: &Code, function: u32) -> u8
-    ensures value { result ≡ gives_number (slice_get code.now.functions function) }
+    ensures value { result ≡ given_by_call code.now function }
     ensures small { result ≤ 1 }
 {
     match code.functions.as_slice().get(function as usize) {

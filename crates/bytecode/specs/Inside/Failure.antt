@@ -20,7 +20,8 @@ KeepsRulesOf code number function = (place : ℕ) → IsIn function place → Ke
 pub record FailsFirstIn (code : Code) (number : ℕ) (function : Fun) (place : ℕ) : Type 0 where
   pub inside : IsIn function place
   pub breaks : ¬ (KeepsRuleIn code number function place)
-  pub earlier_keep : (earlier : ℕ) → IsIn function earlier → earlier < place → KeepsRuleIn code number function earlier
+  pub earlier_keep : (earlier : ℕ) → IsIn function earlier → earlier < place →
+      KeepsRuleIn code number function earlier
 
 -- the first place of all that breaks its rule
 pub record FailsFirstOfAll (code : Code) (place : ℕ) : Type 0 where
