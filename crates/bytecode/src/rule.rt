@@ -12,7 +12,7 @@ use crate::code::{Code, Fun};
 use crate::instr::Instr;
 use crate::message::is_message;
 use crate::shape::{Flow, Named, Shape, shape_of};
-use int_kinds::{BinOp, Kind};
+use int_kinds::{BinOp, Kind, is_number};
 use signal_codec::usable;
 
 /// The greatest depth.
@@ -123,13 +123,6 @@ fn names_what_exists(code: &Code, named: Named) -> bool
         Named::Format(format) => (format as usize) < code.formats.len(),
         Named::Timer(timer) => (timer as usize) < code.timers.len(),
     }
-}
-
-/// Whether a number lies from -2^63 to 2^64 - 1.
-pub(crate) fn is_number(n: i128) -> bool
-    ensures { IsTrue result ↔ IsNumber n }
-{
-    -(1 << 63) <= n && n < 1 << 64
 }
 
 /// Whether there is an array of at least one cell.

@@ -9,8 +9,7 @@ ghost use Rattle.bytecode.specs.Tables.{AreApart, BeginWithEvent, GivesNothing, 
 use crate::code::{Code, Fun, Handler};
 use crate::distinct::{keys_differ, selectors_are_apart, timers_differ};
 use crate::message::{MESSAGE_KINDS, is_message};
-use crate::rule::is_number;
-use int_kinds::{Kind, holds};
+use int_kinds::{Kind, holds, is_number};
 use sim_outside::NoMemory;
 use std::alloc::Global;
 use vm_host::{Event, Selector};
