@@ -5,7 +5,7 @@ use Rattle.std.proofs.lemmas.Option.{slice_get_within}
 use Rattle.bytecode.specs.declared.code.Code.{Code}
 use Rattle.bytecode.specs.declared.code.Fun.{Fun}
 use Rattle.bytecode.specs.Rule.{IsIn}
-use Rattle.bytecode.specs.Verified.{IsLaidOut, KeepsAllRules, KeepsRuleAt}
+use Rattle.bytecode.specs.Verified.{IsLaidOut, KeepsAllRules}
 use Rattle.bytecode.specs.Inside.Failure.{FailsFirstIn, FailsFirstOfAll, KeepsRuleIn, KeepsRulesOf}
 use Rattle.bytecode.proofs.CoverLemmas.{Cover-follows}
 use Rattle.bytecode.proofs.PlaceRules.{lies_in_code}
