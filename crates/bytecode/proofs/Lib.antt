@@ -9,6 +9,7 @@ pub mod CoverLemmas
 pub mod FailureLemmas
 pub mod MessageCells
 pub mod Numbers
+pub mod Identifiers
 pub mod MachineStates
 pub mod PlaceRules
 pub mod Moves

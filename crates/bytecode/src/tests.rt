@@ -186,6 +186,7 @@ fn handlers_share_nothing(rt: HostRuntime) -> Result<(), Fail> {
 
 #[test]
 fn laws_can_be_called() {
+    laws::a_message_names_the_identifier_of_its_frame();
     laws::a_run_has_one_end();
     laws::a_run_keeps_its_effects();
     laws::verified_code_runs_to_its_end();
