@@ -1,0 +1,106 @@
+-- A message variable (CAPL manual, message): 14 cells, and the rules by which its fields are written.
+use Rattle.std.specs.Prelude.{◌≡◌, ℕ, zero, suc, ◌+◌, ◌-◌, ◌*◌, ◌/◌, ◌%◌, ◌^◌, if◌then◌else◌, nat_le, ◌==◌, not, List, [], ◌∷◌, map, length, take, drop, min, slice_index_or, ℤ, pos, Option, Some, None}
+use Rattle.std.specs.List.{splice}
+use Rattle.int_kinds.specs.declared.kinds.Kind.{Kind}
+use Rattle.int_kinds.specs.declared.kinds.Kind.TheVariants.{Byte, Word, Dword}
+use Rattle.int_kinds.specs.Kind.{width, wrap}
+use Rattle.int_kinds.specs.Arithmetic.{residue}
+use Rattle.can_frame.specs.declared.Ident.{Ident}
+use Rattle.can_frame.specs.declared.Ident.TheVariants.{Std, Ext}
+use Rattle.can_frame.specs.Frame.{FrameFields, padded}
+
+-- the kinds of a message's cells: identifier, length, remote bit, channel, direction, time, and 8 bytes
+abbrev pub message_kinds : List Kind
+message_kinds =
+    Dword ∷ Byte ∷ Byte ∷ Word ∷ Byte ∷ Dword ∷
+    Byte ∷ Byte ∷ Byte ∷ Byte ∷ Byte ∷ Byte ∷ Byte ∷ Byte ∷ []
+
+-- a message begins at a cell: the cells from there on have a message's kinds
+abbrev pub IsMessage : List Kind → ℕ → Type 0
+IsMessage kinds at = take 14 (drop at kinds) ≡ message_kinds
+
+-- the message that begins at a cell: the 14 cells from there on
+abbrev pub message_of : ℕ → List ℤ → List ℤ
+message_of at cells = take 14 (drop at cells)
+
+-- the message that begins at a cell, if its 14 cells are there
+abbrev pub message_at : ℕ → List ℤ → Option (List ℤ)
+message_at at cells = if nat_le (at + 14) (length cells) then Some (message_of at cells) else None
+
+-- the payload of a message's cells
+abbrev pub payload_of : List ℤ → List ℕ
+payload_of message = map (residue Byte) (drop 6 message)
+
+-- identifier: with bit 31, which marks an extended one, the low 29 bits are kept, else the low 11
+abbrev pub written_id : ℤ → ℕ
+written_id n =
+    if nat_le (2 ^ 31) (residue Dword n) then (2 ^ 31 + residue Dword n % 2 ^ 29)
+    else residue Dword n % 2 ^ 11
+
+-- length: wrapped to byte, and above 8 it becomes 8
+abbrev pub written_dlc : ℤ → ℕ
+written_dlc n = min (residue Byte n) 8
+
+-- remote bit: wrapped to byte, and what is not 0 becomes 1
+abbrev pub written_rtr : ℤ → ℕ
+written_rtr n = min (residue Byte n) 1
+
+-- channel: wrapped to word
+abbrev pub written_can : ℤ → ℕ
+written_can n = residue Word n
+
+-- the rules by which the fields of the first four cells are written
+abbrev pub write_rules : List (ℤ → ℕ)
+write_rules = written_id ∷ written_dlc ∷ written_rtr ∷ written_can ∷ []
+
+-- the identifier that a written identifier cell names
+abbrev pub ident_of : ℕ → Ident
+ident_of id = if nat_le (2 ^ 31) id then Ext (id - 2 ^ 31) else Std id
+
+-- the number in a message's cell
+abbrev pub field : List ℤ → ℕ → ℤ
+field message cell = slice_index_or message cell (pos 0)
+
+-- how many data bytes a frame of a message has: none where its remote bit is set
+abbrev pub data_len_of : List ℤ → ℕ
+data_len_of message = if written_rtr (field message 2) == 0 then written_dlc (field message 1) else 0
+
+-- the frame of a message, with each field brought to its range by its write rule, on channel 1
+abbrev pub frame_of : List ℤ → FrameFields
+frame_of message = record {
+  ident = ident_of (written_id (field message 0));
+  remote = not (written_rtr (field message 2) == 0);
+  dlc = written_dlc (field message 1);
+  payload = padded (data_len_of message) (payload_of message);
+  can = 1;
+}
+
+-- how many bytes a kind has
+abbrev pub size : Kind → ℕ
+size k = width k / 8
+
+-- the number that bytes spell, the least significant byte first
+abbrev pub number_of_bytes : List ℕ → ℕ
+number_of_bytes [] = 0
+number_of_bytes (byte ∷ bytes) = byte + 256 * number_of_bytes bytes
+
+-- so many bytes of a number, the least significant first
+abbrev pub bytes_of_number : ℕ → ℕ → List ℕ
+bytes_of_number zero n = []
+bytes_of_number (suc count) n = n % 256 ∷ bytes_of_number count (n / 256)
+
+-- the number of a kind that begins at a byte of a payload
+unfoldable pub number_at : Kind → ℕ → List ℕ → ℤ
+number_at k i payload = wrap k (pos (number_of_bytes (take (size k) (drop i payload))))
+
+-- the bytes of a number of a kind
+unfoldable pub bytes_of : Kind → ℤ → List ℕ
+bytes_of k n = bytes_of_number (size k) (residue k n)
+
+-- cells once bytes are put in the payload of the message that begins at a cell, from one of its bytes on
+abbrev pub with_bytes : ℕ → ℕ → List ℕ → List ℤ → List ℤ
+with_bytes at i bytes cells = splice cells (at + 6 + i) (at + 6 + i + length bytes) (map pos bytes)
+
+-- cells once a message is copied to the 14 cells from a cell on
+abbrev pub with_message : ℕ → List ℤ → List ℤ → List ℤ
+with_message at message cells = splice cells at (at + 14) message
