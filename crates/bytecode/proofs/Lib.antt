@@ -3,13 +3,11 @@ pub mod ListItems
 pub mod ListPairs
 pub mod ZippedLists
 pub mod HandlerLists
-pub mod KindLists
 pub mod SelectorRanks
 pub mod CoverLemmas
 pub mod FailureLemmas
 pub mod MessageCells
 pub mod Numbers
-pub mod Identifiers
 pub mod MachineStates
 pub mod PlaceRules
 pub mod Moves

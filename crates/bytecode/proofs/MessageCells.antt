@@ -13,16 +13,13 @@ use Rattle.int_kinds.proofs.Congruence.{rem_below}
 use Rattle.signal_codec.specs.declared.layout.Layout.{Layout}
 use Rattle.signal_codec.specs.Signal.{IsUsable, payload_with}
 use Rattle.signal_codec.proofs.Payloads.{IsPayload, IsPayload-payload_with}
-use Rattle.bytecode.specs.Message.{IsMessage, bytes_of, bytes_of_number, message_at, message_kinds, payload_of, size}
+use Rattle.message_cells.specs.Message.{IsMessage, bytes_of, bytes_of_number, message_at, message_kinds, payload_of, size}
+use Rattle.message_cells.proofs.MessageLemmas.{message_within}
 use Rattle.bytecode.specs.Runs.{HoldKinds}
 use Rattle.bytecode.proofs.ListItems.{drop-drop, slice_get-drop, slice_get-take, take-take}
 use Rattle.bytecode.proofs.ZippedLists.{AllZip-same_length, AllZip-splice, AllZip-take, AllZip-drop}
 
 -- ---- the kinds of a message's cells
-
--- a message's cells are among the cells
-pub message_within : (kinds : List Kind) (at : ℕ) → IsMessage kinds at → at + 14 ≤ length kinds
-message_within kinds at is = omega (arith, ap length is, length-take 14 (drop at kinds), length-drop at kinds)
 
 -- the kind of a message's cell
 pub message_kind : (kinds : List Kind) (at i cell : ℕ) (k : Kind) → IsMessage kinds at → i < 14 → cell ≡ at + i →

@@ -11,7 +11,7 @@ use Rattle.int_kinds.proofs.Values.{Holds-truth, IsNumber-held, IsNumber-wrap}
 use Rattle.signal_codec.specs.declared.layout.Layout.{Layout}
 use Rattle.signal_codec.specs.Signal.{CanHave, IsUsable, signal_value}
 use Rattle.signal_codec.proofs.Values.{CanHave-signal_value}
-use Rattle.bytecode.specs.Message.{number_at, number_of_bytes, size, written_can, written_dlc, written_id, written_rtr}
+use Rattle.message_cells.specs.Message.{number_at, number_of_bytes, size, written_can, written_dlc, written_id, written_rtr}
 use Rattle.bytecode.proofs.MessageCells.{residue-lt}
 
 -- a truth value is a number

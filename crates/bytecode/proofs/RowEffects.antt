@@ -16,7 +16,7 @@ use Rattle.bytecode.specs.declared.instr.Instr.{Instr}
 use Rattle.bytecode.specs.declared.instr.Instr.TheVariants.{Push, Load, Store, Check, Elem, SetElem, Bytes, SetBytes, Sig, SetSig, SetField, Bin, Neg, Inv, Conv, Not, Dup, Drop, Jump, Zero, Case, Back, Turn, Call, Ret, Write, Send, Copy, Stop, Set, Cancel, Active, Now}
 use Rattle.bytecode.specs.Laws.{BeginsWith}
 use Rattle.bytecode.specs.Machine.{Machine, Next, Goes, Ends, Stuck}
-use Rattle.bytecode.specs.Message.{frame_of, message_at, size, write_rules}
+use Rattle.message_cells.specs.Message.{frame_of, message_at, size, write_rules}
 use Rattle.bytecode.specs.Step.{after_cancel, after_effect, after_set, gives_or_traps, goes_on, indexing, micros, needing, operates, returns_to, row, stores, taking_one, taking_turn, taking_two, unless, writes}
 
 -- a list begins with itself

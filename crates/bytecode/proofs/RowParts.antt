@@ -11,7 +11,7 @@ use Rattle.int_kinds.proofs.Values.{Holds-value, IsNumber-held, IsNumber-wrap}
 use Rattle.int_kinds.proofs.Wrapping.{Holds-wrap}
 use Rattle.bytecode.specs.declared.code.Code.{Code}
 use Rattle.bytecode.specs.Machine.{Machine}
-use Rattle.bytecode.specs.Message.{IsMessage}
+use Rattle.message_cells.specs.Message.{IsMessage}
 use Rattle.bytecode.specs.Rule.{IsOperation, IsReached, Target}
 use Rattle.bytecode.specs.Runs.{HoldKinds}
 use Rattle.bytecode.specs.Step.{goes_on, gives_or_traps, operates, reads, stores, stores_bytes, unless}

@@ -20,7 +20,7 @@ use Rattle.bytecode.specs.declared.code.Code.{Code}
 use Rattle.bytecode.specs.declared.instr.Instr.{Instr}
 use Rattle.bytecode.specs.declared.instr.Instr.TheVariants.{Push, Load, Store, Check, Elem, SetElem, Bytes, SetBytes, Sig, SetSig, SetField, Bin, Neg, Inv, Conv, Not, Dup, Drop, Jump, Zero, Case, Back, Turn, Call, Ret, Write, Send, Copy, Stop, Set, Cancel, Active, Now}
 use Rattle.bytecode.specs.Machine.{Machine, Next, Stuck}
-use Rattle.bytecode.specs.Message.{IsMessage, bytes_of, frame_of, message_at, message_kinds, number_at, payload_of, size, write_rules, written_can, written_dlc, written_id, written_rtr}
+use Rattle.message_cells.specs.Message.{IsMessage, bytes_of, frame_of, message_at, message_kinds, number_at, payload_of, size, write_rules, written_can, written_dlc, written_id, written_rtr}
 use Rattle.bytecode.specs.Rule.{IsReached, KeepsRule, Target, aim, next}
 use Rattle.bytecode.specs.Shape.{given_by_call, numbers_given, shape_of, taken_by_line}
 use Rattle.bytecode.specs.Step.{needing, after_cancel, after_effect, after_set, goes_on, micros, row, writes}

@@ -3,7 +3,6 @@ pub mod Failure
 pub mod Inside
 pub mod Laws
 pub mod Machine
-pub mod Message
 pub mod Refusal
 pub mod Rule
 pub mod Runs

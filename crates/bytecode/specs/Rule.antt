@@ -14,7 +14,7 @@ use Rattle.bytecode.specs.declared.shape.Flow.TheVariants.{Next, Jump, Branch, L
 use Rattle.bytecode.specs.declared.shape.Named.{Named}
 use Rattle.bytecode.specs.declared.shape.Named.TheVariants.{Nothing, Number, Cell, Array, Message, Messages, Signal, Field, Operation, Format, Timer}
 use Rattle.bytecode.specs.declared.shape.Shape.{Shape}
-use Rattle.bytecode.specs.Message.{IsMessage}
+use Rattle.message_cells.specs.Message.{IsMessage}
 use Rattle.bytecode.specs.Shape.{numbers_given, shape_of}
 
 -- a place that an instruction may go to, and the depth with which it arrives there

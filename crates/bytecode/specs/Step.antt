@@ -1,6 +1,6 @@
 -- The instruction table of the stack machine.
 use Rattle.std.specs.Prelude.{ℕ, zero, suc, ◌+◌, ◌-◌, ◌*◌, ◌/◌, Bool, true, false, if◌then◌else◌, nat_lt, nat_le, ◌&&◌, List, [], ◌∷◌, ◌++◌, map, reverse, length, take, drop, ℤ, pos, negsuc, Option, Some, None, slice_get, slice_set, int_le, unsigned_abs}
-use Rattle.std.specs.List.{splice, list_all}
+use Rattle.std.specs.List.{list_all}
 use Rattle.std.specs.Ordering.{int_eq}
 use Rattle.int_kinds.specs.declared.kinds.Kind.{Kind}
 use Rattle.int_kinds.specs.declared.kinds.Kind.TheVariants.{Dword, Long}
@@ -18,7 +18,7 @@ use Rattle.bytecode.specs.declared.code.Code.{Code}
 use Rattle.bytecode.specs.declared.instr.Instr.{Instr}
 use Rattle.bytecode.specs.declared.instr.Instr.TheVariants.{Push, Load, Store, Check, Elem, SetElem, Bytes, SetBytes, Sig, SetSig, SetField, Bin, Neg, Inv, Conv, Not, Dup, Drop, Jump, Zero, Case, Back, Turn, Call, Ret, Write, Send, Copy, Stop, Set, Cancel, Active, Now}
 use Rattle.bytecode.specs.Machine.{Machine, Next, Goes, Ends, Stuck}
-use Rattle.bytecode.specs.Message.{bytes_of, frame_of, message_at, number_at, payload_of, size, write_rules}
+use Rattle.message_cells.specs.Message.{bytes_of, frame_of, message_at, number_at, payload_of, size, with_bytes, with_message, write_rules}
 
 -- what the row does with something that it asks for, and stuck if that is not there
 abbrev pub needing : {A : Type 0} → Option A → (A → Next) → Next
@@ -55,10 +55,6 @@ stores kinds cell n m stack = needing (slice_get m.cells cell) (λ _. needing (s
 abbrev pub indexing : ℤ → ℕ → Machine → (ℕ → Next) → Next
 indexing (pos i) len m row = if nat_lt i len then row i else Ends (Trapped Index) m
 indexing (negsuc i) len m row = Ends (Trapped Index) m
-
--- cells with bytes in the payload of the message that begins at one of them, from one of its bytes on
-abbrev pub with_bytes : ℕ → ℕ → List ℕ → List ℤ → List ℤ
-with_bytes at i bytes cells = splice cells (at + 6 + i) (at + 6 + i + length bytes) (map pos bytes)
 
 -- stores bytes in the payload of a message, and gives a number
 abbrev pub stores_bytes : ℕ → ℕ → List ℕ → ℤ → Machine → List ℤ → Next
@@ -179,7 +175,7 @@ row code closed moment m (Send at) stack =
     goes_on (unless closed (after_effect (effect.Send (frame_of message))) m) stack)
 row code closed moment m (Copy to from) stack =
     needing (message_at to m.cells) (λ _. needing (message_at from m.cells) (λ message.
-    goes_on (record m { cells = splice m.cells to (to + 14) message }) stack))
+    goes_on (record m { cells = with_message to message m.cells }) stack))
 row code closed moment m Stop stack = goes_on (unless closed (after_effect effect.Stop) m) stack
 row code closed moment m (Set timer cyclic) stack =
     taking_one stack (λ n below. needing (slice_get code.timers timer) (λ unit.

@@ -12,7 +12,7 @@ use Rattle.vm_host.specs.declared.event.Selector.{Selector}
 use Rattle.bytecode.specs.declared.code.Code.{Code}
 use Rattle.bytecode.specs.declared.code.Fun.{Fun}
 use Rattle.bytecode.specs.declared.code.Handler.{Handler}
-use Rattle.bytecode.specs.Message.{IsMessage}
+use Rattle.message_cells.specs.Event.{BeginWithEvent}
 
 -- a cell with its initial value, which its kind has
 abbrev pub IsHeldStart : List Kind → ℕ × ℤ → Type 0
@@ -61,11 +61,6 @@ IsUnit unit = (unit ≡ 1000) ⊎ (unit ≡ 1000000)
 -- the function of a number is there and gives nothing
 abbrev pub GivesNothing : List Fun → ℕ → Type 0
 GivesNothing functions number = IsSomeAnd (slice_get functions number) (λ function. function.gives ≡ false)
-
--- cells that begin with a message, that of the event, and then its key
-pub record BeginWithEvent (kinds : List Kind) : Type 0 where
-  pub message : IsMessage kinds 0
-  pub key : slice_get kinds 14 ≡ Some Char
 
 -- selectors of known ranks, of which no two of one rank have a key in common
 pub record KeepsSelectors (selectors : List Selector) : Type 0 where

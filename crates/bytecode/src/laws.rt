@@ -1,21 +1,12 @@
 //! Laws of runs. Each call does nothing: its contract is the law.
 
-ghost use Rattle.std.specs.Prelude.{◌≡◌, ℕ, Bool, pos};
-ghost use Rattle.can_frame.specs.declared.Ident.{Ident};
-ghost use Rattle.can_frame.specs.Frame.{IsIdent};
+ghost use Rattle.std.specs.Prelude.{ℕ, Bool};
 ghost use Rattle.bytecode.specs.declared.code.Code.{Code};
 ghost use Rattle.bytecode.specs.Laws.{HasOneEnd, KeepsEffects, RunsToItsEnd, StepsInCode};
 ghost use Rattle.bytecode.specs.Machine.{Machine};
-ghost use Rattle.bytecode.specs.Message.{id_of, ident_of, written_id};
 ghost use Rattle.bytecode.specs.Runs.{IsStartOf, Reaches};
 ghost use Rattle.bytecode.specs.Step.{step};
 ghost use Rattle.bytecode.specs.Verified.{IsVerified};
-
-/// The number of a frame's identifier, stored in a message as a program stores it, names that
-/// identifier again.
-pub fn a_message_names_the_identifier_of_its_frame()
-    ensures { (ident : Ident) → IsIdent ident → ident_of (written_id (pos (id_of ident))) ≡ ident }
-{}
 
 /// A run of any code has one end: where two numbers of steps end, the outcome and the state are the
 /// same.

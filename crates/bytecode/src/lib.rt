@@ -10,7 +10,6 @@
 
 pub use code::{Code, Fun, Handler};
 pub use instr::Instr;
-pub use message::MESSAGE_KINDS;
 pub use refusal::VerifyRefusal;
 pub use verified::{Verified, verify};
 
@@ -19,7 +18,6 @@ mod distinct;
 mod failure;
 mod instr;
 pub mod laws;
-mod message;
 mod refusal;
 mod rule;
 mod shape;

@@ -4,15 +4,15 @@ ghost use Rattle.std.specs.Prelude.{◌≡◌, ◌↔◌, ◌≤◌, ◌<◌, �
 ghost use Rattle.std.specs.List.{AllByRecursion};
 ghost use Rattle.int_kinds.specs.Kind.{IsNumber};
 ghost use Rattle.signal_codec.specs.Signal.{IsUsable};
-ghost use Rattle.bytecode.specs.Message.{IsMessage};
+ghost use Rattle.message_cells.specs.Message.{IsMessage};
 ghost use Rattle.bytecode.specs.Rule.{CallsEarlier, GoesTheRightWay, IsArray, IsOperation, IsReached, KeepsRule, NamesWhatExists, ReturnsAsItSays, targets};
 ghost use Rattle.bytecode.specs.Shape.{numbers_given};
 
 use crate::code::{Code, Fun};
 use crate::instr::Instr;
-use crate::message::is_message;
 use crate::shape::{Flow, Named, Shape, shape_of};
 use int_kinds::{BinOp, Kind, is_number};
+use message_cells::is_message;
 use signal_codec::usable;
 
 /// The greatest depth.

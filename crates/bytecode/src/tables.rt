@@ -4,19 +4,16 @@ ghost use Rattle.std.specs.Prelude.{◌≡◌, ◌≢◌, ◌⊎◌, ◌↔◌, 
 ghost use Rattle.int_kinds.specs.Kind.{Holds};
 ghost use Rattle.write_format.specs.Arrays.{IsCharArray};
 ghost use Rattle.write_format.specs.Format.{char_arrays};
-ghost use Rattle.bytecode.specs.Tables.{AreApart, BeginWithEvent, GivesNothing, IsHeldStart, IsUnit, KeepsHandlers, KeepsSelectors, KeepsTables, KeepsTimers, all_keys, all_selectors, all_timers, key_of, selectors_of, timer_of};
+ghost use Rattle.bytecode.specs.Tables.{AreApart, GivesNothing, IsHeldStart, IsUnit, KeepsHandlers, KeepsSelectors, KeepsTables, KeepsTimers, all_keys, all_selectors, all_timers, key_of, selectors_of, timer_of};
 
 use crate::code::{Code, Fun, Handler};
 use crate::distinct::{keys_differ, selectors_are_apart, timers_differ};
-use crate::message::{MESSAGE_KINDS, is_message};
 use int_kinds::{Kind, holds, is_number};
+use message_cells::begin_with_event;
 use sim_outside::NoMemory;
 use std::alloc::Global;
 use vm_host::{Event, Selector};
 use write_format::Format;
-
-/// The cell of the event's key, which comes after its message.
-const KEY_CELL: usize = MESSAGE_KINDS.len();
 
 /// Whether the tables keep their rules.
 pub(crate) fn keeps_tables(alloc: Global, code: &Code) -> Result<bool, NoMemory>
@@ -31,13 +28,6 @@ pub(crate) fn keeps_tables(alloc: Global, code: &Code) -> Result<bool, NoMemory>
         && units_are_known(code.timers.as_slice())
         && arrays_exist(kinds, code.formats.as_slice());
     Ok(keeps_lists)
-}
-
-/// Whether the first cells are those of the event: a message and then its key.
-fn begin_with_event(kinds: &[Kind]) -> bool
-    ensures { IsTrue result ↔ BeginWithEvent kinds.now }
-{
-    is_message(kinds, 0) && matches!(kinds.get(KEY_CELL), Some(Kind::Char))
 }
 
 /// Whether each initial value is held by its cell's kind.

@@ -7,6 +7,7 @@ ghost use Rattle.bytecode.specs.Verified.{IsShortCode};
 use super::*;
 use int_kinds::{BinOp, Kind};
 use items::Items;
+use message_cells::MESSAGE_KINDS;
 use std::alloc::{AllocError, Global};
 use std::process::Abort;
 use std::test::Fail;
@@ -186,7 +187,6 @@ fn handlers_share_nothing(rt: HostRuntime) -> Result<(), Fail> {
 
 #[test]
 fn laws_can_be_called() {
-    laws::a_message_names_the_identifier_of_its_frame();
     laws::a_run_has_one_end();
     laws::a_run_keeps_its_effects();
     laws::verified_code_runs_to_its_end();

@@ -1,5 +1,6 @@
 -- A message variable (CAPL manual, message): 14 cells, and the rules by which its fields are written.
-use Rattle.std.specs.Prelude.{◌≡◌, ℕ, zero, suc, ◌+◌, ◌-◌, ◌*◌, ◌/◌, ◌%◌, ◌^◌, if◌then◌else◌, nat_le, ◌==◌, not, List, [], ◌∷◌, map, length, take, drop, min, slice_index_or, ℤ, pos, Option, Some, None}
+use Rattle.std.specs.Prelude.{◌≡◌, ℕ, zero, suc, ◌+◌, ◌-◌, ◌*◌, ◌/◌, ◌%◌, ◌^◌, if◌then◌else◌, nat_le, ◌==◌, not, List, [], ◌∷◌, map, length, take, drop, replicate, min, ℤ, pos, Option, Some, None}
+use Rattle.std.specs.Prelude.{slice_index_or}
 use Rattle.std.specs.List.{splice}
 use Rattle.int_kinds.specs.declared.kinds.Kind.{Kind}
 use Rattle.int_kinds.specs.declared.kinds.Kind.TheVariants.{Byte, Word, Dword}
@@ -11,9 +12,7 @@ use Rattle.can_frame.specs.Frame.{FrameFields, padded}
 
 -- the kinds of a message's cells: identifier, length, remote bit, channel, direction, time, and 8 bytes
 abbrev pub message_kinds : List Kind
-message_kinds =
-    Dword ∷ Byte ∷ Byte ∷ Word ∷ Byte ∷ Dword ∷
-    Byte ∷ Byte ∷ Byte ∷ Byte ∷ Byte ∷ Byte ∷ Byte ∷ Byte ∷ []
+message_kinds = Dword ∷ Byte ∷ Byte ∷ Word ∷ Byte ∷ Dword ∷ replicate 8 Byte
 
 -- a message begins at a cell: the cells from there on have a message's kinds
 abbrev pub IsMessage : List Kind → ℕ → Type 0
@@ -56,6 +55,11 @@ write_rules = written_id ∷ written_dlc ∷ written_rtr ∷ written_can ∷ []
 -- the identifier that a written identifier cell names
 abbrev pub ident_of : ℕ → Ident
 ident_of id = if nat_le (2 ^ 31) id then Ext (id - 2 ^ 31) else Std id
+
+-- the number of an identifier in its cell, which `ident_of` undoes
+abbrev pub id_of : Ident → ℕ
+id_of (Std id) = id
+id_of (Ext id) = 2 ^ 31 + id
 
 -- the number in a message's cell
 abbrev pub field : List ℤ → ℕ → ℤ

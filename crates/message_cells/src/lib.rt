@@ -6,47 +6,37 @@
 //! was on the bus, and the key.
 //!
 //! The definitions are in specs/: `Message` has the cells, what they hold and the rules by which the
-//! fields are written, `Event` the cells of an event. The code here has their kinds alone.
+//! fields are written, `Event` the cells of an event. What a typed tree means and what the machine does
+//! are both said with them. The code here has their kinds alone.
 #![tactic(auto)]
 
+pub use event::begin_with_event;
+pub use message::{MESSAGE_KINDS, is_message};
+
+mod event;
 pub mod laws;
+mod message;
 
-use int_kinds::Kind;
+#[cfg(test)]
+mod tests {
+    use super::*;
+    use int_kinds::Kind;
+    use std::test::Fail;
 
-/// The kinds of a message's cells: identifier, length, remote bit, channel, direction, time and 8
-/// bytes.
-pub const MESSAGE_KINDS: [Kind; 14] = [
-    Kind::Dword,
-    Kind::Byte,
-    Kind::Byte,
-    Kind::Word,
-    Kind::Byte,
-    Kind::Dword,
-    Kind::Byte,
-    Kind::Byte,
-    Kind::Byte,
-    Kind::Byte,
-    Kind::Byte,
-    Kind::Byte,
-    Kind::Byte,
-    Kind::Byte,
-];
+    #[test]
+    fn an_event_is_a_message_and_a_key(rt: HostRuntime) -> Result<(), Fail> {
+        let mut kinds = MESSAGE_KINDS.to_vec(rt.alloc())?;
+        assert!(rt; is_message(&kinds, 0));
+        assert!(rt; !is_message(&kinds, 1));
+        assert!(rt; !begin_with_event(&kinds));
+        kinds.push(Kind::Char)?;
+        assert!(rt; begin_with_event(&kinds));
+        Ok(())
+    }
 
-/// The kinds of an event's cells: those of a message, and the key.
-pub const EVENT_KINDS: [Kind; 15] = [
-    Kind::Dword,
-    Kind::Byte,
-    Kind::Byte,
-    Kind::Word,
-    Kind::Byte,
-    Kind::Dword,
-    Kind::Byte,
-    Kind::Byte,
-    Kind::Byte,
-    Kind::Byte,
-    Kind::Byte,
-    Kind::Byte,
-    Kind::Byte,
-    Kind::Byte,
-    Kind::Char,
-];
+    #[test]
+    fn laws_can_be_called() {
+        laws::kinds_are_those_of_the_definition();
+        laws::a_message_names_the_identifier_of_its_frame();
+    }
+}

@@ -6,7 +6,7 @@ use Rattle.int_kinds.specs.declared.kinds.Kind.{Kind}
 use Rattle.int_kinds.specs.declared.kinds.Kind.TheVariants.{Char}
 use Rattle.int_kinds.specs.Kind.{Holds}
 use Rattle.bytecode.specs.declared.code.Code.{Code}
-use Rattle.bytecode.specs.Message.{message_kinds}
+use Rattle.message_cells.specs.Message.{message_kinds}
 use Rattle.bytecode.specs.Runs.{HoldKinds}
 use Rattle.bytecode.specs.Verified.{IsVerified}
 use Rattle.bytecode.proofs.MessageCells.{slice_get-take, take-take}

@@ -19,11 +19,12 @@ use Rattle.bytecode.specs.declared.instr.Instr.TheVariants.{Bytes, SetBytes, Sig
 use Rattle.vm_host.specs.declared.outcome.Outcome.TheVariants.{Trapped}
 use Rattle.vm_host.specs.declared.outcome.TrapKind.TheVariants.{Index}
 use Rattle.bytecode.specs.Machine.{Machine, Next, Ends}
-use Rattle.bytecode.specs.Message.{bytes_of, bytes_of_number, message_at, number_at, number_of_bytes, payload_of, size, write_rules, written_can}
+use Rattle.message_cells.specs.Message.{bytes_of, bytes_of_number, message_at, number_at, number_of_bytes, payload_of, size, write_rules, written_can}
 use Rattle.bytecode.specs.Rule.{IsMessage}
 use Rattle.bytecode.specs.Runs.{HoldKinds}
 use Rattle.bytecode.specs.Step.{goes_on, indexing, needing, row, stores_bytes}
-use Rattle.bytecode.proofs.MessageCells.{drop-drop, message_within}
+use Rattle.message_cells.proofs.MessageLemmas.{message_within}
+use Rattle.bytecode.proofs.MessageCells.{drop-drop}
 use Rattle.bytecode.proofs.Pairs.{AllZip-same_length}
 use Rattle.stack_vm.specs.Index.{index_of}
 use Rattle.stack_vm.proofs.Cells.{eight_items}

@@ -10,7 +10,7 @@ use Rattle.bytecode.specs.declared.instr.Instr.TheVariants.{Send}
 use Rattle.bytecode.specs.Machine.{Machine}
 use Rattle.bytecode.specs.Step.{after_effect, goes_on, needing, row, unless}
 use Rattle.stack_vm.proofs.MessageRows.{cells_at}
-use Rattle.bytecode.specs.Message.{data_len_of, field, frame_of, ident_of, message_at, payload_of, written_dlc, written_id, written_rtr}
+use Rattle.message_cells.specs.Message.{data_len_of, field, frame_of, ident_of, message_at, payload_of, written_dlc, written_id, written_rtr}
 
 either_way : (b : Bool) (d : ℕ) → cond (not b) 0 d ≡ cond b d 0
 either_way true d = refl

@@ -3,7 +3,7 @@
 ghost use Rattle.std.specs.Prelude.{◌≡◌, ◌⊎◌, ◌+◌, ◌<◌, ◌≤◌, drop, length, reverse, take, All, IfOk, IsErrOf, None, OnErr, OnOk};
 ghost use Rattle.bytecode.specs.declared.code.Code.{Code};
 ghost use Rattle.bytecode.specs.declared.instr.Instr.TheVariants.{Stop, Send, Set, Write, Cancel, Active, Now};
-ghost use Rattle.bytecode.specs.Message.{frame_of, ident_of, written_id};
+ghost use Rattle.message_cells.specs.Message.{frame_of, ident_of, written_id};
 ghost use Rattle.bytecode.specs.Step.{micros};
 ghost use Rattle.bytecode.specs.Verified.{IsVerified};
 ghost use Rattle.can_frame.specs.Frame.{IsIdent};

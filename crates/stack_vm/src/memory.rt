@@ -2,7 +2,7 @@
 
 ghost use Rattle.std.specs.Prelude.{◌≡◌, ◌+◌, ◌<◌, ◌≤◌, ◌++◌, ◌∷◌, [], drop, length, map, pos, replicate, slice_set, IfOk};
 ghost use Rattle.bytecode.specs.declared.code.Code.{Code};
-ghost use Rattle.bytecode.specs.Message.{message_kinds};
+ghost use Rattle.message_cells.specs.Message.{message_kinds};
 ghost use Rattle.bytecode.specs.Runs.{HoldKinds};
 ghost use Rattle.bytecode.specs.Verified.{IsVerified};
 ghost use Rattle.stack_vm.specs.Frame.{message_numbers, message_of};

@@ -4,7 +4,7 @@ ghost use Rattle.std.specs.Prelude.{◌≡◌, ◌+◌, ◌<◌, ◌≤◌, drop
 ghost use Rattle.int_kinds.specs.Arithmetic.{residue};
 ghost use Rattle.bytecode.specs.declared.code.Code.{Code};
 ghost use Rattle.bytecode.specs.declared.instr.Instr.TheVariants.{Bytes, SetBytes, Sig, SetSig, SetField, Copy};
-ghost use Rattle.bytecode.specs.Message.{number_at, payload_of, size, write_rules, written_can, written_id};
+ghost use Rattle.message_cells.specs.Message.{number_at, payload_of, size, write_rules, written_can, written_id};
 ghost use Rattle.stack_vm.specs.Run.{Does, IsReady};
 
 use crate::places::index;

@@ -1,7 +1,7 @@
 use Rattle.std.proofs.Common.{arith, ◌≡◌, ◌+◌, ℕ, List, take, drop, get_or, not, ap, ◌∙◌, ◌==◌, lit<}
 use Rattle.std.specs.Prelude.{ℤ, pos}
 use Rattle.can_frame.specs.Frame.{data_len, padded}
-use Rattle.bytecode.specs.Message.{field, ident_of, written_dlc, written_id, written_rtr}
+use Rattle.message_cells.specs.Message.{field, ident_of, written_dlc, written_id, written_rtr}
 use Rattle.stack_vm.proofs.Numbers.{got}
 use Rattle.stack_vm.proofs.Sending.{field_at, frame_same}
 use Rattle.stack_vm.proofs.effects.frame.Goals as goal

@@ -2,7 +2,7 @@ use Rattle.std.proofs.Common.{◌+◌, ℕ, Bool, true, false, List, subst, refl
 use Rattle.can_frame.specs.Frame.{FrameFields}
 use Rattle.vm_host.specs.Effect as effect
 use Rattle.bytecode.specs.declared.instr.Instr.TheVariants.{Send}
-use Rattle.bytecode.specs.Message.{frame_of}
+use Rattle.message_cells.specs.Message.{frame_of}
 use Rattle.stack_vm.specs.State.{RunState}
 use Rattle.stack_vm.proofs.Hosts.{does_either, does_open, does_quietly}
 use Rattle.stack_vm.proofs.MessageRows.{cells_at, message_in}

@@ -2,7 +2,7 @@ use Rattle.std.proofs.Common.{◌≡◌, ◌+◌, ◌-◌, ℕ, List, ◌∷◌,
 use Rattle.std.specs.Prelude.{ℤ, pos}
 use Rattle.std.specs.Int.{cast_signed, cast_unsigned, w128}
 use Rattle.bytecode.specs.declared.instr.Instr.TheVariants.{Bytes}
-use Rattle.bytecode.specs.Message.{number_at, payload_of, size}
+use Rattle.message_cells.specs.Message.{number_at, payload_of, size}
 use Rattle.bytecode.proofs.MessageCells.{message_there}
 use Rattle.stack_vm.specs.Index.{index_of}
 use Rattle.stack_vm.specs.Run.{machine}

@@ -9,7 +9,7 @@ use Rattle.int_kinds.specs.Kind.{IsNumber, wrap}
 use Rattle.int_kinds.proofs.Values.{IsNumber-wrap}
 use Rattle.bytecode.specs.declared.instr.Instr.TheVariants.{SetBytes}
 use Rattle.bytecode.specs.Machine.{Stuck}
-use Rattle.bytecode.specs.Message.{bytes_of, size}
+use Rattle.message_cells.specs.Message.{bytes_of, size}
 use Rattle.bytecode.proofs.MessageCells.{message_there}
 use Rattle.stack_vm.specs.Index.{index_of}
 use Rattle.stack_vm.specs.Run.{machine}

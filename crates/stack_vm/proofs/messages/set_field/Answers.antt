@@ -2,7 +2,7 @@ use Rattle.std.proofs.Common.{◌+◌, ℕ, ◌∷◌, get_or, drop, None, ap, �
 use Rattle.std.specs.Prelude.{ℤ, pos, slice_set, slice_index_or}
 use Rattle.std.specs.Int.{cast_signed, cast_unsigned, w128}
 use Rattle.bytecode.specs.declared.instr.Instr.TheVariants.{SetField}
-use Rattle.bytecode.specs.Message.{write_rules, written_can}
+use Rattle.message_cells.specs.Message.{write_rules, written_can}
 use Rattle.bytecode.proofs.MessageCells.{message_there}
 use Rattle.stack_vm.specs.Run.{machine}
 use Rattle.stack_vm.specs.State.{RunState}

@@ -5,7 +5,7 @@ use Rattle.std.specs.List.{splice}
 use Rattle.std.proofs.lemmas.List.{length-map}
 use Rattle.signal_codec.specs.Signal.{payload_with, signal_value}
 use Rattle.bytecode.specs.declared.instr.Instr.TheVariants.{SetSig}
-use Rattle.bytecode.specs.Message.{payload_of}
+use Rattle.message_cells.specs.Message.{payload_of}
 use Rattle.bytecode.proofs.MessageCells.{message_there}
 use Rattle.stack_vm.specs.Run.{machine}
 use Rattle.stack_vm.specs.State.{RunState}

@@ -2,7 +2,7 @@ use Rattle.std.proofs.Common.{◌+◌, List, ◌∷◌, None, ap, ◌∙◌, ref
 use Rattle.std.specs.Prelude.{ℕ, ℤ}
 use Rattle.signal_codec.specs.Signal.{signal_value}
 use Rattle.bytecode.specs.declared.instr.Instr.TheVariants.{Sig}
-use Rattle.bytecode.specs.Message.{payload_of}
+use Rattle.message_cells.specs.Message.{payload_of}
 use Rattle.bytecode.proofs.MessageCells.{message_there}
 use Rattle.stack_vm.specs.Run.{machine}
 use Rattle.stack_vm.specs.State.{RunState}

@@ -4,7 +4,7 @@ use Rattle.std.specs.Int.{w128}
 use Rattle.std.proofs.lemmas.Int.{to_z-of_z}
 use Rattle.int_kinds.specs.declared.kinds.Kind.TheVariants.{Byte}
 use Rattle.int_kinds.specs.Arithmetic.{residue}
-use Rattle.bytecode.specs.Message.{write_rules, written_can}
+use Rattle.message_cells.specs.Message.{write_rules, written_can}
 use Rattle.stack_vm.proofs.messages.written.Goals as goal
 
 pub returns-in-2 : goal.returns-in-2

@@ -1,7 +1,7 @@
 use Rattle.std.proofs.Common.{◌≡◌, ◌+◌, ◌++◌, ℕ, List, length, map, drop, sym, ap, ◌∙◌, subst, arith}
 use Rattle.std.specs.Prelude.{ℤ, pos}
 use Rattle.int_kinds.specs.Kind.{Holds}
-use Rattle.bytecode.specs.Message.{message_kinds}
+use Rattle.message_cells.specs.Message.{message_kinds}
 use Rattle.bytecode.specs.Runs.{HoldKinds}
 use Rattle.bytecode.proofs.Pairs.{AllZip-same_length}
 use Rattle.stack_vm.specs.Frame.{message_of}

@@ -4,10 +4,10 @@ use Rattle.std.specs.Cmp.Lexicographic.{pointwise}
 use denote.Enum.Bare.{sameb}
 use Rattle.int_kinds.specs.contracts.kinds.Kind.{the_type}
 use Rattle.int_kinds.specs.declared.kinds.Kind.{Kind}
-use Rattle.bytecode.specs.Message.{IsMessage, message_kinds}
-use Rattle.bytecode.proofs.KindLists.{kinds_decide}
-use Rattle.bytecode.proofs.MessageCells.{message_within}
-use Rattle.bytecode.proofs.message.is_message.Goals as goal
+use Rattle.message_cells.specs.Message.{IsMessage, message_kinds}
+use Rattle.message_cells.proofs.KindLists.{kinds_decide}
+use Rattle.message_cells.proofs.MessageLemmas.{message_within}
+use Rattle.message_cells.proofs.message.is_message.Goals as goal
 
 -- what the comparison of the cells' kinds says
 compared : (kinds ms : List Kind) (at : ℕ) (r : Bool) → ms ≡ message_kinds →

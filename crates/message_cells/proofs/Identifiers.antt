@@ -6,7 +6,7 @@ use Rattle.can_frame.specs.declared.Ident.TheVariants.{Std, Ext}
 use Rattle.can_frame.specs.Frame.{IsIdent}
 use Rattle.int_kinds.specs.declared.kinds.Kind.TheVariants.{Dword}
 use Rattle.int_kinds.specs.Arithmetic.{residue}
-use Rattle.bytecode.specs.Message.{id_of, ident_of, written_id}
+use Rattle.message_cells.specs.Message.{id_of, ident_of, written_id}
 
 -- a number of 32 bits is its own residue
 residue_same : (n : ℕ) → n < 2 ^ 32 → residue Dword (pos n) ≡ n

@@ -1,7 +1,7 @@
 // The cells of a message.
 
 ghost use Rattle.std.specs.Prelude.{◌↔◌, IsTrue};
-ghost use Rattle.bytecode.specs.Message.{IsMessage};
+ghost use Rattle.message_cells.specs.Message.{IsMessage};
 
 use int_kinds::Kind;
 
@@ -24,8 +24,8 @@ pub const MESSAGE_KINDS: [Kind; 14] = [
     Kind::Byte,
 ];
 
-/// Whether the cells from one on have a message's kinds.
-pub(crate) fn is_message(kinds: &[Kind], at: u32) -> bool
+/// Whether the cells from one on have a message's kinds, where all have these.
+pub fn is_message(kinds: &[Kind], at: u32) -> bool
     ensures { IsTrue result ↔ IsMessage kinds.now at }
 {
     let from = at as usize;

@@ -1,6 +1,0 @@
--- The identifier of a frame, by its number in a message's cell.
-use Rattle.bytecode.proofs.Identifiers.{ident_of-written_id}
-use Rattle.bytecode.proofs.laws.a_message_names_the_identifier_of_its_frame.Goals as goal
-
-pub returns : goal.returns
-returns c = ident_of-written_id

@@ -1,0 +1,4 @@
+-- The proofs of this crate.
+pub mod KindLists
+pub mod MessageLemmas
+pub mod Identifiers
