@@ -17,7 +17,8 @@ use Rattle.bytecode.specs.declared.instr.Instr.TheVariants.{Push, Load, Store, C
 use Rattle.bytecode.specs.Laws.{BeginsWith}
 use Rattle.bytecode.specs.Machine.{Machine, Next, Goes, Ends, Stuck}
 use Rattle.message_cells.specs.Message.{frame_of, message_at, size, write_rules}
-use Rattle.bytecode.specs.Step.{after_cancel, after_effect, after_set, gives_or_traps, goes_on, indexing, micros, needing, operates, returns_to, row, stores, taking_one, taking_turn, taking_two, unless, writes}
+use Rattle.vm_host.specs.Duration.{micros}
+use Rattle.bytecode.specs.Step.{after_cancel, after_effect, after_set, gives_or_traps, goes_on, indexing, needing, operates, returns_to, row, stores, taking_one, taking_turn, taking_two, unless, writes}
 
 -- a list begins with itself
 pub BeginsWith-self : (xs : List Effect) → BeginsWith xs xs

@@ -23,7 +23,8 @@ use Rattle.bytecode.specs.Machine.{Machine, Next, Stuck}
 use Rattle.message_cells.specs.Message.{IsMessage, bytes_of, frame_of, message_at, message_kinds, number_at, payload_of, size, write_rules, written_can, written_dlc, written_id, written_rtr}
 use Rattle.bytecode.specs.Rule.{IsReached, KeepsRule, Target, aim, next}
 use Rattle.bytecode.specs.Shape.{given_by_call, numbers_given, shape_of, taken_by_line}
-use Rattle.bytecode.specs.Step.{needing, after_cancel, after_effect, after_set, goes_on, micros, row, writes}
+use Rattle.vm_host.specs.Duration.{micros}
+use Rattle.bytecode.specs.Step.{needing, after_cancel, after_effect, after_set, goes_on, row, writes}
 use Rattle.bytecode.specs.Verified.{IsVerified}
 use Rattle.bytecode.proofs.Calls.{IsSafeStep-call, IsSafeStep-return}
 use Rattle.bytecode.proofs.ListItems.{item_below}

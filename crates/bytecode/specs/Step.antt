@@ -1,9 +1,9 @@
 -- The instruction table of the stack machine.
-use Rattle.std.specs.Prelude.{ℕ, zero, suc, ◌+◌, ◌-◌, ◌*◌, ◌/◌, Bool, true, false, if◌then◌else◌, nat_lt, nat_le, ◌&&◌, List, [], ◌∷◌, ◌++◌, map, reverse, length, take, drop, ℤ, pos, negsuc, Option, Some, None, slice_get, slice_set, int_le, unsigned_abs}
+use Rattle.std.specs.Prelude.{ℕ, zero, suc, ◌+◌, ◌-◌, ◌*◌, ◌/◌, Bool, true, false, if◌then◌else◌, nat_lt, nat_le, ◌&&◌, List, [], ◌∷◌, ◌++◌, map, reverse, length, take, drop, ℤ, pos, negsuc, Option, Some, None, slice_get, slice_set}
 use Rattle.std.specs.List.{list_all}
 use Rattle.std.specs.Ordering.{int_eq}
 use Rattle.int_kinds.specs.declared.kinds.Kind.{Kind}
-use Rattle.int_kinds.specs.declared.kinds.Kind.TheVariants.{Dword, Long}
+use Rattle.int_kinds.specs.declared.kinds.Kind.TheVariants.{Dword}
 use Rattle.int_kinds.specs.declared.operators.BinOp.{BinOp}
 use Rattle.int_kinds.specs.declared.operators.BinOp.TheVariants.{OrElse, AndAlso}
 use Rattle.int_kinds.specs.Kind.{wrap}
@@ -12,6 +12,7 @@ use Rattle.signal_codec.specs.Signal.{payload_with, signal_value}
 use Rattle.write_format.specs.Format.{FormatText, char_arrays, numbers_taken, rendered}
 use Rattle.vm_host.specs.Effect.{Effect}
 use Rattle.vm_host.specs.Effect as effect
+use Rattle.vm_host.specs.Duration.{micros}
 use Rattle.vm_host.specs.declared.outcome.Outcome.TheVariants.{Done, Trapped, Cut}
 use Rattle.vm_host.specs.declared.outcome.TrapKind.TheVariants.{ZeroDivisor, Index}
 use Rattle.bytecode.specs.declared.code.Code.{Code}
@@ -105,10 +106,6 @@ writes format m stack =
     if nat_le (numbers_taken format) (length stack) && has_arrays format m.cells
     then goes_on (after_effect line m) (drop (numbers_taken format) stack)
     else Stuck
-
--- how many microseconds a duration in a unit is: wrapped to long, and below 1 it is 1
-abbrev pub micros : ℕ → ℤ → ℕ
-micros unit n = (if int_le (pos 1) (wrap Long n) then unsigned_abs (wrap Long n) else 1) * unit
 
 -- the machine after a timer was set
 abbrev pub after_set : ℕ → ℕ → Bool → Machine → Machine

@@ -1,5 +1,5 @@
 -- A message variable (CAPL manual, message): 14 cells, and the rules by which its fields are written.
-use Rattle.std.specs.Prelude.{◌≡◌, ℕ, zero, suc, ◌+◌, ◌-◌, ◌*◌, ◌/◌, ◌%◌, ◌^◌, if◌then◌else◌, nat_le, ◌==◌, not, List, [], ◌∷◌, map, length, take, drop, replicate, min, ℤ, pos, Option, Some, None}
+use Rattle.std.specs.Prelude.{◌≡◌, ℕ, Bool, zero, suc, ◌+◌, ◌-◌, ◌*◌, ◌/◌, ◌%◌, ◌^◌, if◌then◌else◌, nat_le, ◌==◌, not, List, [], ◌∷◌, map, length, take, drop, replicate, min, ℤ, pos, Option, Some, None}
 use Rattle.std.specs.Prelude.{slice_index_or}
 use Rattle.std.specs.List.{splice}
 use Rattle.int_kinds.specs.declared.kinds.Kind.{Kind}
@@ -8,7 +8,7 @@ use Rattle.int_kinds.specs.Kind.{width, wrap}
 use Rattle.int_kinds.specs.Arithmetic.{residue}
 use Rattle.can_frame.specs.declared.Ident.{Ident}
 use Rattle.can_frame.specs.declared.Ident.TheVariants.{Std, Ext}
-use Rattle.can_frame.specs.Frame.{FrameFields, padded}
+use Rattle.can_frame.specs.Frame.{FrameFields, data_len_of, padded}
 
 -- the kinds of a message's cells: identifier, length, remote bit, channel, direction, time, and 8 bytes
 abbrev pub message_kinds : List Kind
@@ -65,17 +65,17 @@ id_of (Ext id) = 2 ^ 31 + id
 abbrev pub field : List ℤ → ℕ → ℤ
 field message cell = slice_index_or message cell (pos 0)
 
--- how many data bytes a frame of a message has: none where its remote bit is set
-abbrev pub data_len_of : List ℤ → ℕ
-data_len_of message = if written_rtr (field message 2) == 0 then written_dlc (field message 1) else 0
+-- whether a message is remote, by its remote bit
+abbrev pub is_remote : List ℤ → Bool
+is_remote message = not (written_rtr (field message 2) == 0)
 
 -- the frame of a message, with each field brought to its range by its write rule, on channel 1
 abbrev pub frame_of : List ℤ → FrameFields
 frame_of message = record {
   ident = ident_of (written_id (field message 0));
-  remote = not (written_rtr (field message 2) == 0);
+  remote = is_remote message;
   dlc = written_dlc (field message 1);
-  payload = padded (data_len_of message) (payload_of message);
+  payload = padded (data_len_of (is_remote message) (written_dlc (field message 1))) (payload_of message);
   can = 1;
 }
 
