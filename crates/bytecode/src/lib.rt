@@ -5,7 +5,7 @@
 //! or that it is stuck, since an operand, a place, a cell or an entry of a table is not there.
 //! [`verify`] takes code and gives [`Verified`] code exactly where every rule of the verifier
 //! holds, and the first place whose rule fails otherwise. Verified code is never stuck, and each of
-//! its runs ends.
+//! its runs ends; [`laws`] says what else holds of runs.
 #![tactic(auto)]
 
 pub use code::{Code, Fun, Handler};
