@@ -1,0 +1,4 @@
+-- The definitions of this crate.
+pub mod Control
+pub mod Turns
+pub mod World
