@@ -1,0 +1,11 @@
+-- The definitions of this crate.
+pub mod Events
+pub mod Expression
+pub mod Memory
+pub mod Program
+pub mod Shape
+pub mod Size
+pub mod Sound
+pub mod SoundExpression
+pub mod SoundStatement
+pub mod Statement

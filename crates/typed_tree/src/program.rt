@@ -1,0 +1,48 @@
+// Whole programs.
+
+use crate::statement::TStmt;
+use int_kinds::Kind;
+use items::Items;
+use vm_host::Event;
+use write_format::Format;
+
+/// A function.
+#[derive(Debug, Drop)]
+pub struct TFun {
+    /// The cells of its parameters.
+    pub params: Items<u32>,
+    /// The kind of what it gives, if it gives a number.
+    pub gives: Option<Kind>,
+    /// The body.
+    pub body: Items<TStmt>,
+}
+
+/// An event procedure.
+#[derive(Debug, Drop)]
+pub struct THandler {
+    /// What it reacts to.
+    pub event: Event,
+    /// The body.
+    pub body: Items<TStmt>,
+    /// The number of the file that it stands in.
+    pub file: u32,
+    /// The line of its first word.
+    pub line: u32,
+}
+
+/// A typed program.
+#[derive(Debug, Drop)]
+pub struct Typed {
+    /// The functions. Each calls only earlier ones.
+    pub functions: Items<TFun>,
+    /// The event procedures.
+    pub handlers: Items<THandler>,
+    /// The kinds of the cells. The first 15 are the event's.
+    pub cells: Items<Kind>,
+    /// Cells with their initial values. A cell that is not here begins with 0.
+    pub starts: Items<(u32, i128)>,
+    /// The unit of each timer in microseconds.
+    pub timers: Items<u64>,
+    /// The formats of the lines that are written.
+    pub formats: Items<Format>,
+}

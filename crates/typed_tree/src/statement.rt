@@ -1,0 +1,123 @@
+// Statements.
+
+use crate::expression::TExpr;
+use items::Items;
+
+/// A statement.
+#[derive(Debug, Drop)]
+#[cycle(statement)]
+pub enum TStmt {
+    /// Does nothing.
+    Empty,
+    /// Statements in a row.
+    Block(Vec<TStmt>),
+    /// The body of the first arm whose test is not 0, and what stands after the last `else` where
+    /// there is none.
+    If {
+        /// The arms.
+        arms: Vec<TArm>,
+        /// What stands after the last `else`.
+        other: Option<Box<TStmt>>,
+    },
+    /// Tests, takes a turn and runs the body, again and again until the test is 0.
+    While {
+        /// The test.
+        test: TExpr,
+        /// The body.
+        body: Box<TStmt>,
+    },
+    /// Takes a turn, runs the body and tests, again and again until the test is 0.
+    Do {
+        /// The body.
+        body: Box<TStmt>,
+        /// The test.
+        test: TExpr,
+    },
+    /// Runs its first part, and then tests, takes a turn, runs the body and its third part, again and
+    /// again until the test is 0.
+    For {
+        /// The first part.
+        init: Option<Box<TStmt>>,
+        /// The test. Where there is none the loop goes on.
+        test: Option<TExpr>,
+        /// The third part, to which a `continue` in the body leads.
+        step: Option<Box<TStmt>>,
+        /// The body.
+        body: Box<TStmt>,
+    },
+    /// Runs the groups from the first on that has the value among its labels, or else from the first
+    /// one with `default` on, to the end or a `break`.
+    Switch {
+        /// The value.
+        on: TExpr,
+        /// The groups.
+        groups: Vec<TGroup>,
+    },
+    /// Leaves the loop or `switch` around it.
+    Break,
+    /// Ends the round of the loop around it.
+    Continue,
+    /// Ends the procedure.
+    Return {
+        /// What it gives, if its function gives a number.
+        value: Option<TExpr>,
+    },
+    /// Evaluates an expression and drops its value. A call of a function that gives nothing may stand
+    /// here.
+    Eval(TExpr),
+    /// Writes a line.
+    Write {
+        /// The format's number.
+        format: u32,
+        /// The numbers that the format takes.
+        args: Items<TExpr>,
+    },
+    /// Requests the frame of a message.
+    Send {
+        /// The message's first cell.
+        msg: u32,
+    },
+    /// Copies one message to another.
+    Copy {
+        /// The first cell of the message that changes.
+        to: u32,
+        /// The first cell of the other.
+        from: u32,
+    },
+    /// Asks to stop the measurement.
+    Halt,
+    /// Sets a timer.
+    Set {
+        /// The timer's number.
+        timer: u32,
+        /// Whether it is set again whenever it is due.
+        cyclic: bool,
+        /// The duration in the timer's unit. Below 1 it counts as 1.
+        value: TExpr,
+    },
+    /// Cancels a timer.
+    Cancel {
+        /// The timer's number.
+        timer: u32,
+    },
+}
+
+/// An arm of an `if`.
+#[derive(Debug, Drop)]
+#[cycle(statement)]
+pub struct TArm {
+    /// The test.
+    pub test: TExpr,
+    /// What runs where it is not 0.
+    pub body: TStmt,
+}
+
+/// Labels of a `switch` that stand together, and the statements after them.
+#[derive(Debug, Drop)]
+#[cycle(statement)]
+pub struct TGroup {
+    /// The numbers of the labels, with `None` for `default`.
+    pub labels: Items<Option<i128>>,
+    /// The statements.
+    pub body: Vec<TStmt>,
+}
