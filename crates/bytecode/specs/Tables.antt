@@ -12,26 +12,9 @@ use Rattle.vm_host.specs.declared.event.Selector.{Selector}
 use Rattle.bytecode.specs.declared.code.Code.{Code}
 use Rattle.bytecode.specs.declared.code.Fun.{Fun}
 use Rattle.bytecode.specs.declared.code.Handler.{Handler}
-use Rattle.message_cells.specs.Event.{BeginWithEvent}
-
--- a cell with its initial value, which its kind has
-abbrev pub IsHeldStart : List Kind → ℕ × ℤ → Type 0
-IsHeldStart kinds start = IsSomeAnd (slice_get kinds start.0) (λ k. Holds k start.1)
-
--- the selectors of a message procedure: rank, least and greatest key
-abbrev pub selectors_of : Event → List Selector
-selectors_of (Message selectors) = selectors
-selectors_of _ = []
-
--- the timer of a timer procedure
-abbrev pub timer_of : Event → Option ℕ
-timer_of (Timer timer) = Some timer
-timer_of _ = None
-
--- the key of a key procedure, where none stands for `*`
-abbrev pub key_of : Event → Option (Option ℕ)
-key_of (Key key) = Some key
-key_of _ = None
+use Rattle.message_cells.specs.Cells.{BeginWithEvent, IsHeldStart}
+use Rattle.vm_host.specs.Duration.{IsUnit}
+use Rattle.vm_host.specs.Event.{KeepsSelectors, KeepsTimers, key_of, selectors_of, timer_of}
 
 -- all selectors of the handlers
 abbrev pub all_selectors : List Handler → List Selector
@@ -45,32 +28,9 @@ all_timers handlers = filter_map (λ handler. timer_of handler.event) handlers
 abbrev pub all_keys : List Handler → List (Option ℕ)
 all_keys handlers = filter_map (λ handler. key_of handler.event) handlers
 
--- a selector holds a selection key
-pub record IsWithin (selector : Selector) (key : ℕ) : Type 0 where
-  pub from : selector.low ≤ key
-  pub to : key ≤ selector.high
-
--- two selectors have no key in common, if they are of one rank
-abbrev pub AreApart : Selector → Selector → Type 0
-AreApart a b = a.rank ≡ b.rank → (key : ℕ) → IsWithin a key → IsWithin b key → ⊥
-
--- a unit of a timer in microseconds: a millisecond or a second
-abbrev pub IsUnit : ℕ → Type 0
-IsUnit unit = (unit ≡ 1000) ⊎ (unit ≡ 1000000)
-
 -- the function of a number is there and gives nothing
 abbrev pub GivesNothing : List Fun → ℕ → Type 0
 GivesNothing functions number = IsSomeAnd (slice_get functions number) (λ function. function.gives ≡ false)
-
--- selectors of known ranks, of which no two of one rank have a key in common
-pub record KeepsSelectors (selectors : List Selector) : Type 0 where
-  pub ranks : All (λ selector. selector.rank ≤ 2) selectors
-  pub apart : AllPairs AreApart selectors
-
--- timers among so many, of which no two are the same
-pub record KeepsTimers (timers : List ℕ) (count : ℕ) : Type 0 where
-  pub exist : All (λ timer. timer < count) timers
-  pub differ : AllPairs (λ a b. a ≢ b) timers
 
 -- handlers of functions that give nothing, of which no two react to one key, to one timer, or with one
 -- rank to one frame

@@ -3,7 +3,7 @@
 ghost use Rattle.std.specs.Prelude.{◌≡◌, ◌≢◌, ◌↔◌, ◌≤◌, AllPairs, All, IsSomeAnd, IsTrue};
 ghost use Rattle.std.specs.List.Sorted.{IsNonDecreasing, IsNonDecreasingBy};
 ghost use Rattle.bytecode.specs.Inside.Distinct.{AreApartIn};
-ghost use Rattle.bytecode.specs.Tables.{AreApart};
+ghost use Rattle.vm_host.specs.Event.{AreApart};
 
 use vm_host::Selector;
 

@@ -4,7 +4,10 @@ ghost use Rattle.std.specs.Prelude.{◌≡◌, ◌≢◌, ◌⊎◌, ◌↔◌, 
 ghost use Rattle.int_kinds.specs.Kind.{Holds};
 ghost use Rattle.write_format.specs.Arrays.{IsCharArray};
 ghost use Rattle.write_format.specs.Format.{char_arrays};
-ghost use Rattle.bytecode.specs.Tables.{AreApart, GivesNothing, IsHeldStart, IsUnit, KeepsHandlers, KeepsSelectors, KeepsTables, KeepsTimers, all_keys, all_selectors, all_timers, key_of, selectors_of, timer_of};
+ghost use Rattle.message_cells.specs.Cells.{IsHeldStart};
+ghost use Rattle.vm_host.specs.Duration.{IsUnit};
+ghost use Rattle.vm_host.specs.Event.{AreApart, KeepsSelectors, KeepsTimers, key_of, selectors_of, timer_of};
+ghost use Rattle.bytecode.specs.Tables.{GivesNothing, KeepsHandlers, KeepsTables, all_keys, all_selectors, all_timers};
 
 use crate::code::{Code, Fun, Handler};
 use crate::distinct::{keys_differ, selectors_are_apart, timers_differ};

@@ -1,7 +1,7 @@
 // What no contract says of the verifier: which place it gives for some codes.
 
 ghost use Rattle.std.specs.Prelude.{◌<◌, ◌^◌, IsTrue, length};
-ghost use Rattle.bytecode.specs.Tables.{selectors_of};
+ghost use Rattle.vm_host.specs.Event.{selectors_of};
 ghost use Rattle.bytecode.specs.Verified.{IsShortCode};
 
 use super::*;

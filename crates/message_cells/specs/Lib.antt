@@ -1,3 +1,3 @@
 -- The definitions of this crate.
-pub mod Event
+pub mod Cells
 pub mod Message

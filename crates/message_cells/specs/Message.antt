@@ -1,6 +1,5 @@
 -- A message variable (CAPL manual, message): 14 cells, and the rules by which its fields are written.
-use Rattle.std.specs.Prelude.{◌≡◌, ℕ, Bool, zero, suc, ◌+◌, ◌-◌, ◌*◌, ◌/◌, ◌%◌, ◌^◌, if◌then◌else◌, nat_le, ◌==◌, not, List, [], ◌∷◌, map, length, take, drop, replicate, min, ℤ, pos, Option, Some, None}
-use Rattle.std.specs.Prelude.{slice_index_or}
+use Rattle.std.specs.Prelude.{◌≡◌, ℕ, Bool, zero, suc, ◌+◌, ◌-◌, ◌*◌, ◌/◌, ◌%◌, ◌^◌, if◌then◌else◌, nat_le, ◌==◌, not, List, [], ◌∷◌, map, length, take, drop, replicate, min, ℤ, pos, Option, Some, None, slice_index_or}
 use Rattle.std.specs.List.{splice}
 use Rattle.int_kinds.specs.declared.kinds.Kind.{Kind}
 use Rattle.int_kinds.specs.declared.kinds.Kind.TheVariants.{Byte, Word, Dword}

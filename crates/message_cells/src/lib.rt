@@ -6,14 +6,14 @@
 //! was on the bus, and the key.
 //!
 //! The definitions are in specs/: `Message` has the cells, what they hold and the rules by which the
-//! fields are written, `Event` the cells of an event. What a typed tree means and what the machine does
+//! fields are written, `Cells` those of an event. What a typed tree means and what the machine does
 //! are both said with them. The code here has their kinds alone.
 #![tactic(auto)]
 
-pub use event::begin_with_event;
+pub use cells::begin_with_event;
 pub use message::{MESSAGE_KINDS, is_message};
 
-mod event;
+mod cells;
 pub mod laws;
 mod message;
 

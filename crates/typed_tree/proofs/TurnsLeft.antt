@@ -1,7 +1,6 @@
 -- No expression, statement or call adds turns.
 use mathlib.Core.Former.{Count}
-use Rattle.std.specs.Prelude.{◌≡◌, ℕ, zero, suc, ◌≤◌, Bool, List, [], ◌∷◌, nat_lt, Option, Some, None, true, false, if◌then◌else◌, ℤ, pos, negsuc}
-use Rattle.std.specs.Prelude.{slice_get, slice_index_or}
+use Rattle.std.specs.Prelude.{◌≡◌, ℕ, zero, suc, ◌≤◌, Bool, List, [], ◌∷◌, nat_lt, Option, Some, None, true, false, if◌then◌else◌, ℤ, pos, negsuc, slice_get, slice_index_or}
 use Rattle.std.specs.Option.{option_map_or}
 use Rattle.std.proofs.Common.{arith, refl}
 use Rattle.int_kinds.specs.declared.kinds.Kind.{Kind}
@@ -26,7 +25,8 @@ use Rattle.typed_tree.specs.declared.statement.TStmt.TheVariants.{Empty, Block',
 use Rattle.typed_tree.specs.declared.statement.TStmt.TheBlock.{Held-TStmt-If-1, None', Some', Row_of-TArm, end_of-TArm, more_of-TArm, Row_of-TGroup, end_of-TGroup, more_of-TGroup}
 use Rattle.typed_tree.specs.Memory.{Memory, read, with_timer}
 use Rattle.typed_tree.specs.Expression.{Setting, gives_or_traps, indexing, operated, spot_of, stores, value_of, values_of}
-use Rattle.typed_tree.specs.Statement.{arms_of, for_test, groups_of, group_for, labels_of, numbers_of, part_of, micros, returns, sets, stmt_of, stmts_of, unless_closed, writes}
+use Rattle.vm_host.specs.Duration.{micros}
+use Rattle.typed_tree.specs.Statement.{arms_of, for_test, groups_of, group_for, labels_of, numbers_of, part_of, returns, sets, stmt_of, stmts_of, unless_closed, writes}
 use Rattle.typed_tree.specs.Program.{body_of, calls_of, runs}
 
 at_most_indexing : {A : Type 0} (len : ℕ) (i : ℤ) (w : World Memory) (spot : ℕ → A) → LeavesAtMost w.turns (indexing len i w spot)

@@ -1,5 +1,4 @@
 -- The definitions of this crate.
-pub mod Events
 pub mod Expression
 pub mod Memory
 pub mod Program

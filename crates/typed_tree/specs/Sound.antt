@@ -6,11 +6,12 @@ use Rattle.int_kinds.specs.Kind.{Holds}
 use Rattle.write_format.specs.Arrays.{IsCharArray}
 use Rattle.write_format.specs.Format.{IsShort, char_arrays}
 use Rattle.vm_host.specs.declared.event.Selector.{Selector}
-use Rattle.message_cells.specs.Event.{event_kinds}
+use Rattle.vm_host.specs.Duration.{IsUnit}
+use Rattle.vm_host.specs.Event.{KeepsSelectors, KeepsTimers, AreApart, key_of, selectors_of, timer_of}
+use Rattle.message_cells.specs.Cells.{BeginWithEvent, IsHeldStart}
 use Rattle.typed_tree.specs.declared.program.TFun.{TFun}
 use Rattle.typed_tree.specs.declared.program.THandler.{THandler}
 use Rattle.typed_tree.specs.declared.program.Typed.{Typed}
-use Rattle.typed_tree.specs.Events.{AreApart, key_of, selectors_of, timer_of}
 use Rattle.typed_tree.specs.SoundStatement.{Around, IsSoundStmt}
 
 -- what the body of a function of a number stands in
@@ -46,10 +47,6 @@ pub record IsShortProgram (typed : Typed) : Type 0 where
   pub formats : length typed.formats < 2 ^ 32
   pub texts : All IsShort typed.formats
 
--- a cell with its initial value, which its kind has
-abbrev pub IsHeldStart : List Kind → ℕ × ℤ → Type 0
-IsHeldStart kinds start = IsSomeAnd (slice_get kinds start.0) (λ k. Holds k start.1)
-
 -- all selectors of the event procedures
 abbrev pub all_selectors : List THandler → List Selector
 all_selectors handlers = flat_map (λ handler. selectors_of handler.event) handlers
@@ -68,12 +65,10 @@ pub record IsSound (typed : Typed) : Type 0 where
   pub functions : (number : ℕ) (function : TFun) →
       slice_get typed.functions number ≡ Some function → IsSoundFunction typed number function
   pub handlers : All (IsSoundHandler typed) typed.handlers
-  pub event_cells : take 15 typed.cells ≡ event_kinds
+  pub event_cells : BeginWithEvent typed.cells
   pub starts_held : All (IsHeldStart typed.cells) typed.starts
-  pub units : All (λ unit. (unit ≡ 1000) ⊎ (unit ≡ 1000000)) typed.timers
+  pub units : All IsUnit typed.timers
   pub arrays_exist : All (λ format. All (IsCharArray typed.cells) (char_arrays format)) typed.formats
-  pub ranks : All (λ selector. selector.rank ≤ 2) (all_selectors typed.handlers)
-  pub selectors_apart : AllPairs AreApart (all_selectors typed.handlers)
-  pub timers_exist : All (λ timer. timer < length typed.timers) (all_timers typed.handlers)
-  pub timers_differ : AllPairs (λ a b. a ≢ b) (all_timers typed.handlers)
+  pub selectors : KeepsSelectors (all_selectors typed.handlers)
+  pub timers : KeepsTimers (all_timers typed.handlers) (length typed.timers)
   pub keys_differ : AllPairs (λ a b. a ≢ b) (all_keys typed.handlers)

@@ -6,6 +6,7 @@ use Rattle.std.specs.Ordering.{int_eq}
 use Rattle.int_kinds.specs.declared.kinds.Kind.TheVariants.{Long}
 use Rattle.int_kinds.specs.Kind.{wrap}
 use Rattle.write_format.specs.Format.{FormatText, rendered}
+use Rattle.vm_host.specs.Duration.{micros}
 use Rattle.vm_host.specs.Effect as effect
 use Rattle.message_cells.specs.Message.{frame_of, message_of, with_message}
 use Rattle.worlds.specs.World.{World, Run, Gives, and_then, run_map, after_effect}
@@ -44,10 +45,6 @@ sends s at = unless_closed s (λ w. after_effect (effect.Send (frame_of (message
 abbrev pub copies : ℕ → ℕ → Does Memory
 copies to from w =
     Gives GoesOn (with_cells (with_message to (message_of from w.memory.cells) w.memory.cells) w)
-
--- how many microseconds a duration in a unit is: wrapped to long, and below 1 it is 1
-abbrev pub micros : ℕ → ℤ → ℕ
-micros unit n = (if int_le (pos 1) (wrap Long n) then unsigned_abs (wrap Long n) else 1) * unit
 
 -- sets a timer to a duration in its unit
 abbrev pub sets : Setting → ℕ → Bool → ℤ → Does Memory

@@ -1,4 +1,5 @@
 -- The definitions of this crate.
 pub mod Effect
+pub mod Event
 pub mod Host
 pub mod Duration

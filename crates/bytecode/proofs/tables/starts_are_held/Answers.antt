@@ -5,7 +5,7 @@ use Rattle.std.proofs.lemmas.Int.{to_z-of_z}
 use Rattle.std.proofs.lemmas.List.{get_or_default}
 use mir.Syntax.{w128}
 use mir.Val.{SFits}
-use Rattle.bytecode.specs.Tables.{IsHeldStart}
+use Rattle.message_cells.specs.Cells.{IsHeldStart}
 use Rattle.bytecode.proofs.ListPairs.{All-take_more, All-taken}
 use Rattle.bytecode.proofs.tables.starts_are_held.Goals as goal
 

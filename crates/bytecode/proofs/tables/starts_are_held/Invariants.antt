@@ -1,7 +1,7 @@
 -- The initial values so far are held.
 use Rattle.std.proofs.Common.{take}
 use Rattle.std.specs.Prelude.{All}
-use Rattle.bytecode.specs.Tables.{IsHeldStart}
+use Rattle.message_cells.specs.Cells.{IsHeldStart}
 use Rattle.bytecode.proofs.tables.starts_are_held.Given as goal
 
 abbrev pub invariant-loop-cell : goal.invariant-loop-cell

@@ -1,11 +1,11 @@
 -- What the event procedures of a program react to (CAPL manual, event procedures): selectors of frames,
 -- timers and keys.
-use Rattle.std.specs.Prelude.{◌≡◌, ℕ, ◌≤◌, List, [], Option, Some, None}
+use Rattle.std.specs.Prelude.{◌≡◌, ◌≢◌, ℕ, ◌<◌, ◌≤◌, List, [], Option, Some, None, All, AllPairs}
 use Rattle.vm_host.specs.declared.event.Event.{Event}
 use Rattle.vm_host.specs.declared.event.Event.TheVariants.{Message, Timer, Key}
 use Rattle.vm_host.specs.declared.event.Selector.{Selector}
 
--- the selectors of a message procedure
+-- the selectors of a message procedure: rank, least and greatest key
 abbrev pub selectors_of : Event → List Selector
 selectors_of (Message selectors) = selectors
 selectors_of _ = []
@@ -28,3 +28,13 @@ pub record IsWithin (selector : Selector) (key : ℕ) : Type 0 where
 -- two selectors have no key in common, if they are of one rank
 abbrev pub AreApart : Selector → Selector → Type 0
 AreApart a b = a.rank ≡ b.rank → (key : ℕ) → IsWithin a key → IsWithin b key → ⊥
+
+-- selectors of known ranks, of which no two of one rank have a key in common
+pub record KeepsSelectors (selectors : List Selector) : Type 0 where
+  pub ranks : All (λ selector. selector.rank ≤ 2) selectors
+  pub apart : AllPairs AreApart selectors
+
+-- timers among so many, of which no two are the same
+pub record KeepsTimers (timers : List ℕ) (count : ℕ) : Type 0 where
+  pub exist : All (λ timer. timer < count) timers
+  pub differ : AllPairs (λ a b. a ≢ b) timers

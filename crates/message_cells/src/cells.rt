@@ -1,7 +1,7 @@
-// The cells of an event.
+// The first cells of a program.
 
 ghost use Rattle.std.specs.Prelude.{◌↔◌, IsTrue};
-ghost use Rattle.message_cells.specs.Event.{BeginWithEvent};
+ghost use Rattle.message_cells.specs.Cells.{BeginWithEvent};
 
 use crate::message::{MESSAGE_KINDS, is_message};
 use int_kinds::Kind;
