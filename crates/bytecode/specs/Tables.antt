@@ -1,13 +1,8 @@
 -- The verifier's rules of the tables of code.
-use Rattle.std.specs.Prelude.{◌≡◌, ◌≢◌, ◌⊎◌, ℕ, ◌<◌, ◌≤◌, false, List, [], length, All, AllPairs, slice_get, Option, Some, None, IsSomeAnd, ℤ}
+use Rattle.std.specs.Prelude.{◌≡◌, ◌≢◌, ℕ, false, List, length, All, AllPairs, slice_get, Option, IsSomeAnd}
 use Rattle.std.specs.List.{flat_map, filter_map}
-use Rattle.int_kinds.specs.declared.kinds.Kind.{Kind}
-use Rattle.int_kinds.specs.declared.kinds.Kind.TheVariants.{Char}
-use Rattle.int_kinds.specs.Kind.{Holds}
 use Rattle.write_format.specs.Arrays.{IsCharArray}
 use Rattle.write_format.specs.Format.{char_arrays}
-use Rattle.vm_host.specs.declared.event.Event.{Event}
-use Rattle.vm_host.specs.declared.event.Event.TheVariants.{Message, Timer, Key}
 use Rattle.vm_host.specs.declared.event.Selector.{Selector}
 use Rattle.bytecode.specs.declared.code.Code.{Code}
 use Rattle.bytecode.specs.declared.code.Fun.{Fun}

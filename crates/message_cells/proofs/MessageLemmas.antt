@@ -1,5 +1,5 @@
 -- Where the cells of a message lie.
-use Rattle.std.proofs.Common.{◌≡◌, ◌≤◌, ◌+◌, ℕ, List, length, drop, ap, arith, length-take, length-drop}
+use Rattle.std.proofs.Common.{◌≤◌, ◌+◌, ℕ, List, length, drop, ap, arith, length-take, length-drop}
 use Rattle.int_kinds.specs.declared.kinds.Kind.{Kind}
 use Rattle.message_cells.specs.Message.{IsMessage}
 

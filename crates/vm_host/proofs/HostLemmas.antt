@@ -1,5 +1,5 @@
 -- What calls on a host keep, one after another.
-use Rattle.std.proofs.Common.{◌≤◌, ◌∙◌, refl, arith}
+use Rattle.std.proofs.Common.{◌∙◌, refl, arith}
 use Rattle.vm_host.specs.Host.{HostMeaning, HostStays}
 
 -- no call changes nothing
