@@ -24,7 +24,7 @@ use Rattle.typed_tree.specs.declared.statement.TStmt.{TStmt, Row_of-TStmt, end_o
 use Rattle.typed_tree.specs.declared.statement.TStmt.TheVariants.{Empty, Block', If', While', Do', For', Switch', Break, Continue, Return, Eval, Write, Send, Copy, Halt, Set, Cancel}
 use Rattle.typed_tree.specs.declared.statement.TStmt.TheBlock.{Held-TStmt-If-1, None', Some', Row_of-TArm, end_of-TArm, more_of-TArm, Row_of-TGroup, end_of-TGroup, more_of-TGroup}
 use Rattle.typed_tree.specs.Memory.{Memory, read, with_timer}
-use Rattle.typed_tree.specs.Expression.{Setting, gives_or_traps, indexing, operated, spot_of, stores, value_of, values_of}
+use Rattle.typed_tree.specs.Expression.{Setting, gives_or_traps, indexing, operates, spot_of, stores, value_of, values_of}
 use Rattle.vm_host.specs.Duration.{micros}
 use Rattle.typed_tree.specs.Statement.{arms_of, for_test, groups_of, group_for, labels_of, numbers_of, part_of, returns, sets, stmt_of, stmts_of, unless_closed, writes}
 use Rattle.typed_tree.specs.Program.{body_of, calls_of, runs}
@@ -37,8 +37,8 @@ at_most_indexing len (pos i) w spot = at_most_if (nat_lt i len)
     at_most_if false = omega arith
 at_most_indexing len (negsuc i) w spot = omega arith
 
-at_most_operated : (op : BinOp) (k : Kind) (a b : ℤ) (w : World Memory) → LeavesAtMost w.turns (operated op k a b w)
-at_most_operated op k a b w = at_most_value (value op k a b)
+at_most_operates : (op : BinOp) (k : Kind) (a b : ℤ) (w : World Memory) → LeavesAtMost w.turns (operates op k a b w)
+at_most_operates op k a b w = at_most_value (value op k a b)
   where
     at_most_value : (n : Option ℤ) → LeavesAtMost w.turns (gives_or_traps n w)
     at_most_value None = omega arith
@@ -57,17 +57,17 @@ module _ (s : Setting) (call : Calls Memory) (calls : (f : ℕ) → AddsNoTurns 
     value_adds_none (Update' op k back place p e) = record {
       turns = λ w. at_most_then w.turns _ _ ((spot_adds_none place).turns w) (λ spot w.
           at_most_then w.turns _ _ ((value_adds_none e).turns w) (λ n w.
-          at_most_then w.turns _ _ (at_most_operated op k _ n w) (λ new w. omega arith)));
+          at_most_then w.turns _ _ (at_most_operates op k _ n w) (λ new w. omega arith)));
     }
     value_adds_none (Bump place k up post) = record {
       turns = λ w. at_most_then w.turns _ _ ((spot_adds_none place).turns w) (λ spot w.
-          at_most_then w.turns _ _ (at_most_operated (if up then Add else Sub) k (read spot w.memory.cells) (pos 1) w) (λ new w'.
+          at_most_then w.turns _ _ (at_most_operates (if up then Add else Sub) k (read spot w.memory.cells) (pos 1) w) (λ new w'.
           at_most_map w'.turns (λ now. if post then read spot w.memory.cells else now) (stores s spot new w') (omega arith)));
     }
     value_adds_none (Unary' op k p e) = record { turns = λ w. at_most_map w.turns _ _ ((value_adds_none e).turns w) }
     value_adds_none (Binary' op k p a q b) = record {
       turns = λ w. at_most_then w.turns _ _ ((value_adds_none a).turns w) (λ m w.
-          at_most_then w.turns _ _ ((value_adds_none b).turns w) (λ n w. at_most_operated op k m n w));
+          at_most_then w.turns _ _ ((value_adds_none b).turns w) (λ n w. at_most_operates op k m n w));
     }
     value_adds_none (Both' p a q b) = record {
       turns = λ w. at_most_deciding w.turns _ _ _ ((value_adds_none a).turns w)

@@ -45,17 +45,17 @@ gives_or_traps None w = Fails (Trapped ZeroDivisor) w
 gives_or_traps (Some n) w = Gives n w
 
 -- the value of a binary operator in a kind, with the trap of a zero divisor
-abbrev pub operated : BinOp → Kind → ℤ → ℤ → Computes Memory
-operated op k a b w = gives_or_traps (value op k a b) w
+abbrev pub operates : BinOp → Kind → ℤ → ℤ → Computes Memory
+operates op k a b w = gives_or_traps (value op k a b) w
 
 -- the value of a prefix operator in a kind; `++` and `--` are none
-abbrev pub prefixed : UnOp → Kind → ℤ → ℤ
-prefixed Minus k n = negated k n
-prefixed Plus k n = wrap k n
-prefixed Not k n = truth (int_eq n (pos 0))
-prefixed Inv k n = inverted k n
-prefixed Up k n = n
-prefixed Down k n = n
+abbrev pub prefix_value : UnOp → Kind → ℤ → ℤ
+prefix_value Minus k n = negated k n
+prefix_value Plus k n = wrap k n
+prefix_value Not k n = truth (int_eq n (pos 0))
+prefix_value Inv k n = inverted k n
+prefix_value Up k n = n
+prefix_value Down k n = n
 
 -- the number at a spot
 abbrev pub reads : Spot → World Memory → Run Memory ℤ
@@ -90,15 +90,15 @@ abbrev mutual
       and_then (spot_of s call place w) (λ spot w. and_then (value_of s call e w) (stores s spot))
   value_of s call (Update' op k back place p e) w =
       and_then (spot_of s call place w) (λ spot w. and_then (reads spot w) (λ old w.
-      and_then (value_of s call e w) (λ n w. and_then (operated op k old n w) (λ new w.
+      and_then (value_of s call e w) (λ n w. and_then (operates op k old n w) (λ new w.
       stores s spot (wrap back new) w))))
   value_of s call (Bump place k up post) w =
       and_then (spot_of s call place w) (λ spot w. and_then (reads spot w) (λ old w.
-      and_then (operated (if up then Add else Sub) k old (pos 1) w) (λ new w.
+      and_then (operates (if up then Add else Sub) k old (pos 1) w) (λ new w.
       run_map (λ now. if post then old else now) (stores s spot new w))))
-  value_of s call (Unary' op k p e) w = run_map (prefixed op k) (value_of s call e w)
+  value_of s call (Unary' op k p e) w = run_map (prefix_value op k) (value_of s call e w)
   value_of s call (Binary' op k p a q b) w =
-      and_then (value_of s call a w) (λ m w. and_then (value_of s call b w) (λ n w. operated op k m n w))
+      and_then (value_of s call a w) (λ m w. and_then (value_of s call b w) (λ n w. operates op k m n w))
   value_of s call (Both' p a q b) w =
       deciding (value_of s call a w) (λ w. run_map truth_of (value_of s call b w)) (Gives (pos 0))
   value_of s call (Either' p a q b) w =

@@ -1,5 +1,5 @@
 -- The memory of a typed program, and reading and storing in it (CAPL manual, variables, message variables,
--- signals).
+-- signals). In a sound program each cell that is named is there, and what these say elsewhere is of no use.
 use Rattle.std.specs.Prelude.{ℕ, ◌+◌, Bool, List, slice_index_or, slice_set, slice_get, unwrap_or, ℤ, pos}
 use Rattle.int_kinds.specs.declared.kinds.Kind.{Kind}
 use Rattle.int_kinds.specs.declared.kinds.Kind.TheVariants.{Long}

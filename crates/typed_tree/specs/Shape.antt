@@ -20,9 +20,11 @@ use Rattle.typed_tree.specs.Memory.{kind_of}
 
 -- a place has an index, which stands on the stack while it is used
 abbrev pub has_index : Place → Bool
+has_index (Cell cell) = false
 has_index (Elem' base len p index) = true
+has_index (Set at field) = false
 has_index (Bytes' at k p index) = true
-has_index _ = false
+has_index (Signal at l) = false
 
 -- on how many low bits of a number it depends what a store to a place leaves there
 abbrev pub stored_width : Typed → Place → ℕ
@@ -58,7 +60,7 @@ abbrev pub is_not : UnOp → Bool
 is_not Not = true
 is_not _ = false
 
--- an expression that gives 0 or 1, whatever the world is
+-- an expression that gives 0 or 1 and nothing else
 abbrev pub is_truth : TExpr → Bool
 is_truth (Unary' op k p e) = is_not op
 is_truth (Binary' op k p a q b) = is_comparison op
@@ -94,8 +96,7 @@ abbrev mutual
   has_plain_index (Signal at l) = true
 
 -- An assignment has an instruction that checks the index before the right side is evaluated. Where the right
--- side is plain there is none, since the store checks the index too, and nothing can be seen of the right
--- side before.
+-- side is plain there is none: the store checks the index too, and it makes no difference which comes first.
 abbrev pub is_checked_first : Place → TExpr → Bool
 is_checked_first place e = has_index place && not (is_plain e)
 

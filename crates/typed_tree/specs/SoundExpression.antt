@@ -16,8 +16,8 @@ use Rattle.typed_tree.specs.declared.expression.TExpr.TheVariants.{Const, Load, 
 use Rattle.typed_tree.specs.declared.program.Typed.{Typed}
 use Rattle.typed_tree.specs.Memory.{kind_of}
 
--- an array: at least one cell, and all of one kind
-pub record IsArray (kinds : List Kind) (base len : ℕ) : Type 0 where
+-- an array: at least one cell, and all its cells of one kind
+pub record IsUniformArray (kinds : List Kind) (base len : ℕ) : Type 0 where
   pub at_least_one : 1 ≤ len
   pub there : base + len ≤ length kinds
   pub of_one_kind : All (λ k. k ≡ kind_of kinds base) (cells_of base len kinds)
@@ -25,7 +25,7 @@ pub record IsArray (kinds : List Kind) (base len : ℕ) : Type 0 where
 -- all that a place names exists
 abbrev pub PlaceExists : Typed → Place → Type 0
 PlaceExists typed (Cell cell) = cell < length typed.cells
-PlaceExists typed (Elem' base len p index) = IsArray typed.cells base len
+PlaceExists typed (Elem' base len p index) = IsUniformArray typed.cells base len
 PlaceExists typed (Set at field) = (field ≤ 3) × IsMessage typed.cells at
 PlaceExists typed (Bytes' at k p index) = IsMessage typed.cells at
 PlaceExists typed (Signal at l) = IsUsable l × IsMessage typed.cells at
