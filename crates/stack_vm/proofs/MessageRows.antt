@@ -1,6 +1,6 @@
 -- The rows of instructions on messages.
 use Rattle.std.proofs.Common.{◌≡◌, ◌≤◌, ◌<◌, ◌+◌, ◌-◌, ◌*◌, ◌/◌, ◌%◌, ◌^◌, ℕ, zero, suc, Bool, true, false, cond, List, [], ◌∷◌, length, take, drop, map, get_or, Option, Some, None, refl, sym, ap, ◌∙◌, arith, length-take, length-drop}
-use Rattle.std.specs.Prelude.{ℤ, pos, slice_set, slice_index_or, negsuc, nat_lt}
+use Rattle.std.specs.Prelude.{ℤ, pos, slice_set, slice_index_or}
 use Rattle.std.specs.Int.{byte_at, bytes_low_first, from_le_bytes, to_le_bytes, w64}
 use Rattle.std.proofs.lemmas.List.{drop-take}
 use Rattle.std.proofs.lemmas.Nat.{pow-add, pow_pos, shr-shr}
@@ -16,26 +16,25 @@ use Rattle.signal_codec.specs.declared.layout.Layout.{Layout}
 use Rattle.signal_codec.specs.Signal.{payload_with, signal_value}
 use Rattle.bytecode.specs.declared.code.Code.{Code}
 use Rattle.bytecode.specs.declared.instr.Instr.TheVariants.{Bytes, SetBytes, Sig, SetSig, SetField, Copy}
-use Rattle.vm_host.specs.declared.outcome.Outcome.TheVariants.{Trapped}
-use Rattle.vm_host.specs.declared.outcome.TrapKind.TheVariants.{Index}
-use Rattle.bytecode.specs.Machine.{Machine, Next, Ends}
-use Rattle.message_cells.specs.Message.{bytes_of, bytes_of_number, message_at, number_at, number_of_bytes, payload_of, size, write_rules, written_can}
-use Rattle.bytecode.specs.Rule.{IsMessage}
+use Rattle.bytecode.specs.Machine.{Machine, Next}
+use Rattle.message_cells.specs.Message.{IsMessage, bytes_of, bytes_of_number, message_at, number_at, number_of_bytes, payload_of, size, write_rules, written_can}
 use Rattle.bytecode.specs.Runs.{HoldKinds}
 use Rattle.bytecode.specs.Step.{goes_on, indexing, needing, row, stores_bytes}
+use Rattle.bytecode.proofs.ListItems.{drop-drop}
 use Rattle.message_cells.proofs.MessageLemmas.{message_within}
-use Rattle.bytecode.proofs.MessageCells.{drop-drop}
-use Rattle.bytecode.proofs.Pairs.{AllZip-same_length}
-use Rattle.stack_vm.specs.Index.{index_of}
-use Rattle.stack_vm.proofs.Cells.{eight_items}
+use Rattle.bytecode.proofs.ZippedLists.{AllZip-same_length}
+use Rattle.stack_vm.proofs.ListLemmas.{eight_items}
+use Rattle.stack_vm.proofs.StepLemmas.{one_taken, two_taken}
 
 -- the cells of a message
 abbrev pub cells_at : ℕ → List ℤ → List ℤ
 cells_at at cells = take 14 (drop at cells)
 
+-- a message of the code is in the memory
 pub message_in : (kinds : List Kind) (cells : List ℤ) (at : ℕ) → HoldKinds kinds cells → IsMessage kinds at → at + 14 ≤ length cells
 message_in kinds cells at held is = omega (arith, message_within kinds at is, AllZip-same_length Holds kinds cells held)
 
+-- it has 14 cells
 pub length-cells_at : (cells : List ℤ) (at : ℕ) → at + 14 ≤ length cells → length (cells_at at cells) ≡ 14
 length-cells_at cells at h = omega (arith, h, length-take 14 (drop at cells), length-drop at cells)
 
@@ -43,17 +42,9 @@ length-cells_at cells at h = omega (arith, h, length-take 14 (drop at cells), le
 pub payload_at : (cells : List ℤ) (at : ℕ) → map (residue Byte) (take 8 (drop (at + 6) cells)) ≡ payload_of (cells_at at cells)
 payload_at cells at = ap (map (residue Byte)) (ap (take 8) (drop-drop at 6 (at + 6) cells refl) ∙ sym (drop-take 6 8 (drop at cells)))
 
-not_chosen : (j len : ℕ) (b : Bool) (m : Machine) (doing : ℕ → Next) → cond b (Some j) None ≡ None → cond b (doing j) (Ends (Trapped Index) m) ≡ Ends (Trapped Index) m
-not_chosen j len true m doing e = absurd (cc)
-not_chosen j len false m doing e = refl
-
--- a number that is no index
-pub no_index : (n : ℤ) (len : ℕ) (m : Machine) (doing : ℕ → Next) → index_of n len ≡ None → indexing n len m doing ≡ Ends (Trapped Index) m
-no_index (pos j) len m doing e = not_chosen j len (nat_lt j len) m doing e
-no_index (negsuc j) len m doing e = refl
-
 -- ---- the bytes of numbers
 
+-- a kind has 8 bits for each byte
 pub bits_of_size : (k : Kind) → width k ≡ 8 * size k
 bits_of_size Byte = refl
 bits_of_size Word = refl
@@ -64,6 +55,7 @@ bits_of_size Long = refl
 bits_of_size Int64 = refl
 bits_of_size Char = refl
 
+-- a kind has at least one byte
 pub size_at_least : (k : Kind) → 1 ≤ size k
 size_at_least Byte = omega arith
 size_at_least Word = omega arith
@@ -74,6 +66,7 @@ size_at_least Long = omega arith
 size_at_least Int64 = omega arith
 size_at_least Char = omega arith
 
+-- and at most 8
 pub size_at_most : (k : Kind) → size k ≤ 8
 size_at_most Byte = omega arith
 size_at_most Word = omega arith
@@ -185,44 +178,46 @@ needs : (o : Option (List ℤ)) (message : List ℤ) (doing : List ℤ → Next)
 needs o message doing e = ap (λ (o : Option (List ℤ)). needing o doing) e
 
 module _ (code : Code) (closed : Bool) (moment : ℕ) (m : Machine) where
+  -- a message is copied to another
   pub copy_row : (to from : ℕ) (stack : List ℤ) → message_at to m.cells ≡ Some (cells_at to m.cells) → message_at from m.cells ≡ Some (cells_at from m.cells) →
       row code closed moment m (Copy to from) stack ≡ goes_on (record m { cells = splice m.cells to (to + 14) (cells_at from m.cells) }) stack
   copy_row to from stack e e' = needs (message_at to m.cells) (cells_at to m.cells) _ e ∙ needs (message_at from m.cells) (cells_at from m.cells) _ e'
 
+  -- the number of a signal is given
   pub signal_row : (l : Layout) (at : ℕ) (stack : List ℤ) → message_at at m.cells ≡ Some (cells_at at m.cells) →
       row code closed moment m (Sig l at) stack ≡ goes_on m (signal_value l (payload_of (cells_at at m.cells)) ∷ stack)
   signal_row l at stack e = needs (message_at at m.cells) (cells_at at m.cells) _ e
 
+  -- a number is put in a signal
   pub set_signal_row : (l : Layout) (at : ℕ) (stack : List ℤ) (after : List ℕ) → 1 ≤ length stack → message_at at m.cells ≡ Some (cells_at at m.cells) →
       after ≡ payload_with l (payload_of (cells_at at m.cells)) (get_or stack 0 (pos 0)) →
       row code closed moment m (SetSig l at) stack
       ≡ goes_on (record m { cells = splice m.cells (at + 6) (at + 6 + length after) (map pos after) }) (signal_value l after ∷ drop 1 stack)
-  set_signal_row l at [] after t e is = absurd (omega arith)
-  set_signal_row l at (n ∷ stack) after t e is =
+  set_signal_row l at stack after t e is =
       let front : at + 6 + 0 ≡ at + 6 = omega arith in
-      needs (message_at at m.cells) (cells_at at m.cells) _ e ∙ ap (λ (bytes : List ℕ). stores_bytes at 0 bytes (signal_value l bytes) m stack) (sym is)
-      ∙ ap (λ (first : ℕ). goes_on (record m { cells = splice m.cells first (first + length after) (map pos after) }) (signal_value l after ∷ stack)) front
+      one_taken stack t _ ∙ needs (message_at at m.cells) (cells_at at m.cells) _ e
+      ∙ ap (λ (bytes : List ℕ). stores_bytes at 0 bytes (signal_value l bytes) m (drop 1 stack)) (sym is)
+      ∙ ap (λ (first : ℕ). goes_on (record m { cells = splice m.cells first (first + length after) (map pos after) }) (signal_value l after ∷ drop 1 stack)) front
 
+  -- a field is written by its rule
   pub set_field_row : (f at : ℕ) (stack : List ℤ) → f ≤ 3 → 1 ≤ length stack → message_at at m.cells ≡ Some (cells_at at m.cells) →
       row code closed moment m (SetField f at) stack
       ≡ goes_on (record m { cells = slice_set m.cells (at + f) (pos (slice_index_or write_rules f written_can (get_or stack 0 (pos 0)))) })
       (pos (slice_index_or write_rules f written_can (get_or stack 0 (pos 0))) ∷ drop 1 stack)
-  set_field_row f at [] h t e = absurd (omega arith)
-  set_field_row zero at (n ∷ stack) h t e = needs (message_at at m.cells) (cells_at at m.cells) _ e
-  set_field_row (suc zero) at (n ∷ stack) h t e = needs (message_at at m.cells) (cells_at at m.cells) _ e
-  set_field_row (suc (suc zero)) at (n ∷ stack) h t e = needs (message_at at m.cells) (cells_at at m.cells) _ e
-  set_field_row (suc (suc (suc zero))) at (n ∷ stack) h t e = needs (message_at at m.cells) (cells_at at m.cells) _ e
-  set_field_row (suc (suc (suc (suc f)))) at (n ∷ stack) h t e = absurd (omega arith)
+  set_field_row zero at stack h t e = one_taken stack t _ ∙ needs (message_at at m.cells) (cells_at at m.cells) _ e
+  set_field_row (suc zero) at stack h t e = one_taken stack t _ ∙ needs (message_at at m.cells) (cells_at at m.cells) _ e
+  set_field_row (suc (suc zero)) at stack h t e = one_taken stack t _ ∙ needs (message_at at m.cells) (cells_at at m.cells) _ e
+  set_field_row (suc (suc (suc zero))) at stack h t e = one_taken stack t _ ∙ needs (message_at at m.cells) (cells_at at m.cells) _ e
+  set_field_row (suc (suc (suc (suc f)))) at stack h t e = absurd (omega arith)
 
+  -- the number at a byte is given
   pub bytes_row : (k : Kind) (at : ℕ) (stack : List ℤ) → 1 ≤ length stack → message_at at m.cells ≡ Some (cells_at at m.cells) →
       row code closed moment m (Bytes k at) stack
       ≡ indexing (get_or stack 0 (pos 0)) (9 - size k) m (λ byte. goes_on m (number_at k byte (payload_of (cells_at at m.cells)) ∷ drop 1 stack))
-  bytes_row k at [] t e = absurd (omega arith)
-  bytes_row k at (i ∷ stack) t e = needs (message_at at m.cells) (cells_at at m.cells) _ e
+  bytes_row k at stack t e = one_taken stack t _ ∙ needs (message_at at m.cells) (cells_at at m.cells) _ e
 
+  -- the bytes of a number are put
   pub set_bytes_row : (k : Kind) (at : ℕ) (stack : List ℤ) → 2 ≤ length stack → message_at at m.cells ≡ Some (cells_at at m.cells) →
       row code closed moment m (SetBytes k at) stack
       ≡ indexing (get_or stack 1 (pos 0)) (9 - size k) m (λ byte. stores_bytes at byte (bytes_of k (get_or stack 0 (pos 0))) (wrap k (get_or stack 0 (pos 0))) m (drop 2 stack))
-  set_bytes_row k at [] t e = absurd (omega arith)
-  set_bytes_row k at (n ∷ []) t e = absurd (omega arith)
-  set_bytes_row k at (n ∷ i ∷ stack) t e = needs (message_at at m.cells) (cells_at at m.cells) _ e
+  set_bytes_row k at stack t e = two_taken stack t _ ∙ needs (message_at at m.cells) (cells_at at m.cells) _ e

@@ -1,9 +1,7 @@
-pub mod State
+-- The definitions of this crate.
 pub mod Frame
-pub mod Host
-pub mod Index
+pub mod Inside
 pub mod Memory
 pub mod Meter
 pub mod Room
-pub mod Run
-pub mod Whole
+pub mod Runs

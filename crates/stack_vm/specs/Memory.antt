@@ -1,9 +1,9 @@
 -- The memory of a node's runs.
 use Rattle.std.specs.Prelude.{◌≡◌, ℕ, ◌≤◌, Bool, List, [], ◌∷◌, length, ℤ, slice_set}
 use Rattle.bytecode.specs.declared.code.Code.{Code}
-use Rattle.bytecode.specs.Machine.{Machine, Goes}
-use Rattle.bytecode.specs.Runs.{HoldKinds, IsStartOf}
-use Rattle.bytecode.specs.Step.{go}
+use Rattle.bytecode.specs.Machine.{Machine}
+use Rattle.bytecode.specs.Runs.{HoldKinds, IsStartOf, Reaches}
+use Rattle.bytecode.specs.Verified.{IsVerified}
 
 -- the cells, and how many numbers and how many calls there is room for
 pub record MemoryState : Type 0 where
@@ -21,8 +21,17 @@ pub record HasRoomFor (numbers_room calls_room : ℕ) (m : Machine) : Type 0 whe
   pub numbers : length m.stack ≤ numbers_room
   pub calls : length m.calls ≤ calls_room
 
--- a memory of this code: its cells hold numbers of their kinds, and there is room for every state that a run reaches
+-- there is room for every state that a run of a handler reaches
+abbrev pub HasRoomForRuns : Code → MemoryState → Type 0
+HasRoomForRuns code memory = (handler : ℕ) (start reached : Machine) (closed : Bool) (moment : ℕ) →
+    IsStartOf code handler start → Reaches code closed moment start reached →
+    HasRoomFor memory.numbers_room memory.calls_room reached
+
+-- a memory of this code: its cells hold numbers of their kinds, and there is room for its runs
 pub record IsMemoryOf (code : Code) (memory : MemoryState) : Type 0 where
   pub cells_held : HoldKinds code.cells memory.cells
-  pub room : (handler : ℕ) (start reached : Machine) (closed : Bool) (moment steps : ℕ) → IsStartOf code handler start →
-      go code closed moment steps start ≡ Goes reached → HasRoomFor memory.numbers_room memory.calls_room reached
+  pub room : HasRoomForRuns code memory
+
+-- a memory of verified code is one still
+abbrev pub StaysMemory : MemoryState → MemoryState → Type 0
+StaysMemory before after = (code : Code) → IsVerified code → IsMemoryOf code before → IsMemoryOf code after

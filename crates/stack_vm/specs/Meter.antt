@@ -13,5 +13,6 @@ row_after turns row = record { runs = sum_in_row row.runs 1; turns = sum_in_row 
 -- a run that took these turns was added to a row, and to no other
 pub record AddsRun (number turns : ℕ) (before after : List MeterRow) : Type 0 where
   pub as_many : length after ≡ length before
-  pub added : (row : MeterRow) → slice_get before number ≡ Some row → slice_get after number ≡ Some (row_after turns row)
+  pub added : (row : MeterRow) → slice_get before number ≡ Some row →
+      slice_get after number ≡ Some (row_after turns row)
   pub others_stay : (other : ℕ) → other ≢ number → slice_get after other ≡ slice_get before other

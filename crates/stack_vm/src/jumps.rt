@@ -1,9 +1,10 @@
 // The rows of jumps.
 
-ghost use Rattle.std.specs.Prelude.{◌≡◌, None};
+ghost use Rattle.std.specs.Prelude.{None};
+ghost use Rattle.std.specs.Result.{result_err};
 ghost use Rattle.bytecode.specs.declared.code.Code.{Code};
 ghost use Rattle.bytecode.specs.declared.instr.Instr.TheVariants.{Jump, Zero, Case, Back};
-ghost use Rattle.stack_vm.specs.Run.{Does, IsReady};
+ghost use Rattle.stack_vm.specs.Inside.Step.{Does, IsReady};
 
 use crate::operands::is_equal;
 use crate::state::State;
@@ -13,7 +14,7 @@ use vm_host::Outcome;
 #[inline]
 pub(crate) fn jump(state: &mut State, target: u32)
     requires { (code : Code) × IsReady code (Jump target) state.old }
-    ensures { (code : Code) → Does code (Jump target) state.old None state.new }
+    ensures { Does (Jump target) state.old None state.new }
 {
     state.jump(target as usize, 0);
 }
@@ -22,7 +23,7 @@ pub(crate) fn jump(state: &mut State, target: u32)
 #[inline]
 pub(crate) fn jump_at_zero(state: &mut State, target: u32)
     requires { (code : Code) × IsReady code (Zero target) state.old }
-    ensures { (code : Code) → Does code (Zero target) state.old None state.new }
+    ensures { Does (Zero target) state.old None state.new }
 {
     if is_equal(state.top(), 0) {
         state.jump(target as usize, 1);
@@ -35,29 +36,26 @@ pub(crate) fn jump_at_zero(state: &mut State, target: u32)
 #[inline]
 pub(crate) fn jump_at(state: &mut State, label: i128, target: u32)
     requires { (code : Code) × IsReady code (Case label target) state.old }
-    ensures { (code : Code) → Does code (Case label target) state.old None state.new }
+    ensures { Does (Case label target) state.old None state.new }
 {
     if is_equal(state.top(), label) {
         state.jump(target as usize, 1);
     } else {
-        state.forget(0);
+        state.go_on();
     }
 }
 
 /// Takes a number and, where it is not 0, takes a turn and goes to a place.
 #[inline]
-pub(crate) fn jump_back(state: &mut State, target: u32) -> Option<Outcome>
+pub(crate) fn jump_back(state: &mut State, target: u32) -> Result<(), Outcome>
     requires { (code : Code) × IsReady code (Back target) state.old }
-    ensures { (code : Code) → Does code (Back target) state.old result state.new }
+    ensures { Does (Back target) state.old (result_err result) state.new }
 {
     if is_equal(state.top(), 0) {
         state.forget(1);
-        return None;
+        return Ok(());
     }
-    if state.turns() == 0 {
-        return Some(Outcome::Cut);
-    }
-    state.take_turn();
+    state.take_turn()?;
     state.jump(target as usize, 1);
-    None
+    Ok(())
 }

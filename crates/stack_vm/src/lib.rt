@@ -8,18 +8,20 @@
 
 pub use memory::Memory;
 pub use meter::{Meter, MeterRow};
-pub use running::run;
+pub use runs::run;
 
 mod calls;
+mod cells;
 mod effects;
+mod frame;
 mod jumps;
+pub mod laws;
 mod memory;
 mod messages;
 mod meter;
 mod operands;
-mod places;
 mod room;
-mod running;
+mod runs;
 mod state;
 mod step;
 #[cfg(test)]

@@ -1,17 +1,15 @@
 // The memory of a node's runs.
 
-ghost use Rattle.std.specs.Prelude.{◌≡◌, ◌+◌, ◌<◌, ◌≤◌, ◌++◌, ◌∷◌, [], drop, length, map, pos, replicate, slice_set, IfOk};
-ghost use Rattle.bytecode.specs.declared.code.Code.{Code};
-ghost use Rattle.message_cells.specs.Message.{message_kinds};
-ghost use Rattle.bytecode.specs.Runs.{HoldKinds};
-ghost use Rattle.bytecode.specs.Verified.{IsVerified};
-ghost use Rattle.stack_vm.specs.Frame.{message_numbers, message_of};
-ghost use Rattle.stack_vm.specs.Memory.{IsMemoryOf, with_starts};
+ghost use Rattle.std.specs.Prelude.{◌≡◌, ◌++◌, drop, length, pos, replicate, slice_set, IfOk};
+ghost use Rattle.stack_vm.specs.Frame.{message_of};
+ghost use Rattle.stack_vm.specs.Memory.{IsMemoryOf, StaysMemory, with_starts};
+ghost use Rattle.stack_vm.specs.Room.{calls_room, numbers_room};
 
+use crate::frame::message;
 use crate::room::numbers_room;
 use crate::state::State;
 use bytecode::Verified;
-use can_frame::{Frame, sel_key};
+use can_frame::Frame;
 use sim_outside::NoMemory;
 use std::alloc::Global;
 use std::marker::Model;
@@ -41,11 +39,16 @@ impl Model for Memory {
 
 impl Memory {
     /// The memory of the runs of this code. A cell holds its initial value, the last one where it
-    /// has several, and 0 where it has none. Takes time and memory linear in the code, but for the
-    /// room for numbers, which is as large as the greatest depths of all functions together.
+    /// has several, and 0 where it has none.
+    ///
+    /// Takes time and memory linear in the code: the room for numbers is, for each function, its
+    /// greatest depth and no more than its instructions.
     pub fn make(alloc: Global, code: &Verified) -> Result<Memory, NoMemory>
-        ensures cells { IfOk result (λ memory. memory.cells ≡ with_starts (replicate (length code.now.cells) (pos 0)) code.now.starts) }
+        ensures cells { IfOk result (λ memory.
+            memory.cells ≡ with_starts (replicate (length code.now.cells) (pos 0)) code.now.starts) }
         ensures of_code { IfOk result (IsMemoryOf code.now) }
+        ensures numbers { IfOk result (λ memory. memory.numbers_room ≡ numbers_room code.now) }
+        ensures calls { IfOk result (λ memory. memory.calls_room ≡ calls_room code.now) }
     {
         let code = code.code();
         let numbers = numbers_room(code)?;
@@ -68,52 +71,19 @@ impl Memory {
     /// Sets cells 0 to 13 to the message of a frame that was on the bus at this moment in
     /// microseconds, sent by this node or received. The other cells stay.
     pub fn set_frame(&mut self, f: &Frame, sent: bool, now: u64)
-        ensures sets { self.new ≡ record self.old { cells = message_of f.now sent now ++ drop 14 self.old.cells } }
-        ensures stays { (code : Code) → IsVerified code → IsMemoryOf code self.old → IsMemoryOf code self.new }
+        ensures sets { self.new ≡ record self.old {
+          cells = message_of f.now sent now ++ drop 14 self.old.cells;
+        } }
+        ensures stays { StaysMemory self.old self.new }
     {
-        self.state.put(0, &cells_of(message(f, sent, now)));
+        self.state.put(0, &message(f, sent, now));
     }
 
     /// Sets cell 14 to a key. The other cells stay.
     pub fn set_key(&mut self, key: u8)
         ensures sets { self.new ≡ record self.old { cells = slice_set self.old.cells 14 (pos key) } }
-        ensures stays { (code : Code) → IsVerified code → IsMemoryOf code self.old → IsMemoryOf code self.new }
+        ensures stays { StaysMemory self.old self.new }
     {
         self.state.set_cell(14, i128::from(key));
     }
-}
-
-/// The cells of the message that a frame is.
-fn message(f: &Frame, sent: bool, now: u64) -> [u32; 14]
-    ensures numbers { result ≡ message_numbers f.now sent now }
-    ensures held { HoldKinds message_kinds (map pos result) }
-{
-    let bytes = f.payload();
-    [
-        sel_key(f),
-        u32::from(f.dlc()),
-        u32::from(f.rtr()),
-        u32::from(f.can()),
-        u32::from(sent),
-        (now / 10 % 0x1_0000_0000) as u32,
-        u32::from(bytes[0]),
-        u32::from(bytes[1]),
-        u32::from(bytes[2]),
-        u32::from(bytes[3]),
-        u32::from(bytes[4]),
-        u32::from(bytes[5]),
-        u32::from(bytes[6]),
-        u32::from(bytes[7]),
-    ]
-}
-
-/// Cells of these numbers.
-fn cells_of(numbers: [u32; 14]) -> [i128; 14]
-    ensures { result ≡ map pos numbers }
-{
-    let mut cells = [0i128; 14];
-    for (i, number) in numbers.iter().enumerate() {
-        cells[i] = i128::from(*number);
-    }
-    cells
 }

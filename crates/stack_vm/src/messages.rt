@@ -1,58 +1,50 @@
 // The rows of instructions on messages.
 
 ghost use Rattle.std.specs.Prelude.{◌≡◌, ◌+◌, ◌<◌, ◌≤◌, drop, length, map, None, pos, slice_index_or, take};
-ghost use Rattle.int_kinds.specs.Arithmetic.{residue};
+ghost use Rattle.std.specs.Result.{result_err};
 ghost use Rattle.bytecode.specs.declared.code.Code.{Code};
 ghost use Rattle.bytecode.specs.declared.instr.Instr.TheVariants.{Bytes, SetBytes, Sig, SetSig, SetField, Copy};
 ghost use Rattle.message_cells.specs.Message.{number_at, payload_of, size, write_rules, written_can, written_id};
-ghost use Rattle.stack_vm.specs.Run.{Does, IsReady};
+ghost use Rattle.stack_vm.specs.Inside.Step.{Does, IsReady};
 
-use crate::places::index;
+use crate::cells::index;
 use crate::state::State;
-use int_kinds::{Kind, bits, wrap};
+use int_kinds::{Kind, bits, residue, wrap};
 use signal_codec::{Layout, get, put};
-use vm_host::{Outcome, TrapKind};
+use vm_host::Outcome;
 
 /// Gives the number of a kind that begins at a byte of a message's payload.
 #[inline]
-pub(crate) fn bytes(state: &mut State, kind: Kind, at: u32) -> Option<Outcome>
+pub(crate) fn bytes(state: &mut State, kind: Kind, at: u32) -> Result<(), Outcome>
     requires { (code : Code) × IsReady code (Bytes kind at) state.old }
-    ensures { (code : Code) → Does code (Bytes kind at) state.old result state.new }
+    ensures { Does (Bytes kind at) state.old (result_err result) state.new }
 {
-    match index(state.top(), 9 - size(kind)) {
-        None => Some(Outcome::Trapped(TrapKind::Index)),
-        Some(first) => {
-            let n = number_at(kind, first, payload(state, at));
-            state.replace(n);
-            None
-        }
-    }
+    let first = index(state.top(), 9 - size(kind))?;
+    let n = number_at(kind, first, payload(state, at));
+    state.replace(n);
+    Ok(())
 }
 
 /// Puts the bytes of a number of a kind in a message's payload, from one of its bytes on, and gives
 /// what is put.
 #[inline]
-pub(crate) fn set_bytes(state: &mut State, kind: Kind, at: u32) -> Option<Outcome>
+pub(crate) fn set_bytes(state: &mut State, kind: Kind, at: u32) -> Result<(), Outcome>
     requires { (code : Code) × IsReady code (SetBytes kind at) state.old }
-    ensures { (code : Code) → Does code (SetBytes kind at) state.old result state.new }
+    ensures { Does (SetBytes kind at) state.old (result_err result) state.new }
 {
-    match index(state.under(), 9 - size(kind)) {
-        None => Some(Outcome::Trapped(TrapKind::Index)),
-        Some(first) => {
-            let n = state.top();
-            let cells = cells_of(residue(Kind::Qword, n).to_le_bytes());
-            state.put(at as usize + 6 + first, &cells[..size(kind)]);
-            state.replace_two(wrap(kind, n));
-            None
-        }
-    }
+    let first = index(state.under(), 9 - size(kind))?;
+    let n = state.top();
+    let cells = cells_of(residue(Kind::Qword, n).to_le_bytes());
+    state.put(at as usize + 6 + first, &cells[..size(kind)]);
+    state.replace_two(wrap(kind, n));
+    Ok(())
 }
 
 /// Gives the number of a signal in a message's payload.
 #[inline]
 pub(crate) fn signal(state: &mut State, layout: Layout, at: u32)
     requires { (code : Code) × IsReady code (Sig layout at) state.old }
-    ensures { (code : Code) → Does code (Sig layout at) state.old None state.new }
+    ensures { Does (Sig layout at) state.old None state.new }
 {
     let n = get(&layout, &payload(state, at));
     state.give(n);
@@ -62,7 +54,7 @@ pub(crate) fn signal(state: &mut State, layout: Layout, at: u32)
 #[inline]
 pub(crate) fn set_signal(state: &mut State, layout: Layout, at: u32)
     requires { (code : Code) × IsReady code (SetSig layout at) state.old }
-    ensures { (code : Code) → Does code (SetSig layout at) state.old None state.new }
+    ensures { Does (SetSig layout at) state.old None state.new }
 {
     let mut bytes = payload(state, at);
     put(&layout, &mut bytes, state.top());
@@ -75,7 +67,7 @@ pub(crate) fn set_signal(state: &mut State, layout: Layout, at: u32)
 #[inline]
 pub(crate) fn set_field(state: &mut State, field: u8, at: u32)
     requires { (code : Code) × IsReady code (SetField field at) state.old }
-    ensures { (code : Code) → Does code (SetField field at) state.old None state.new }
+    ensures { Does (SetField field at) state.old None state.new }
 {
     let n = i128::from(written(field, state.top()));
     state.set_cell(at as usize + usize::from(field), n);
@@ -86,11 +78,11 @@ pub(crate) fn set_field(state: &mut State, field: u8, at: u32)
 #[inline]
 pub(crate) fn copy(state: &mut State, to: u32, from: u32)
     requires { (code : Code) × IsReady code (Copy to from) state.old }
-    ensures { (code : Code) → Does code (Copy to from) state.old None state.new }
+    ensures { Does (Copy to from) state.old None state.new }
 {
     let message = message(state, from);
     state.put(to as usize, &message);
-    state.forget(0);
+    state.go_on();
 }
 
 /// The cells of the message that begins at a cell.
@@ -121,7 +113,7 @@ pub(crate) fn payload(state: &State, at: u32) -> [u8; 8]
 
 /// Cells of these bytes.
 #[inline]
-fn cells_of(bytes: [u8; 8]) -> [i128; 8]
+pub(crate) fn cells_of(bytes: [u8; 8]) -> [i128; 8]
     ensures { result ≡ map pos bytes }
 {
     let mut cells = [0i128; 8];
@@ -173,12 +165,4 @@ pub(crate) fn written_id(n: i128) -> u64
     } else {
         id % 0x800
     }
-}
-
-/// The lowest bits of a number in two's complement, as many as a kind has.
-#[inline]
-fn residue(kind: Kind, n: i128) -> u64
-    ensures { result ≡ residue kind n }
-{
-    (n.cast_unsigned() % (1u128 << bits(kind))) as u64
 }

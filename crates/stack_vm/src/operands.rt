@@ -1,25 +1,26 @@
 // The rows of instructions on numbers.
 
 ghost use Rattle.std.specs.Prelude.{◌≡◌, None, int_le, int_lt};
+ghost use Rattle.std.specs.Result.{result_err};
 ghost use Rattle.std.specs.Ordering.{int_eq};
-ghost use Rattle.int_kinds.specs.Arithmetic.{truth, value};
+ghost use Rattle.int_kinds.specs.Arithmetic.{value};
 ghost use Rattle.int_kinds.specs.Kind.{IsNumber};
 ghost use Rattle.bytecode.specs.declared.code.Code.{Code};
 ghost use Rattle.bytecode.specs.declared.instr.Instr.TheVariants.{Push, Bin, Neg, Inv, Conv, Not, Dup, Drop};
 ghost use Rattle.bytecode.specs.Rule.{IsOperation};
-ghost use Rattle.stack_vm.specs.Run.{Does, IsReady};
-ghost use Rattle.vm_host.specs.declared.outcome.Outcome.TheVariants.{Trapped};
-ghost use Rattle.vm_host.specs.declared.outcome.TrapKind.TheVariants.{ZeroDivisor};
+ghost use Rattle.stack_vm.specs.Inside.Step.{Does, IsReady};
 
 use crate::state::State;
-use int_kinds::{BinOp, Kind, add, and, div, inv, mul, neg, or, rem, shl, shr, sub, wrap, xor};
+use int_kinds::{
+    BinOp, Kind, add, and, div, inv, mul, neg, or, rem, shl, shr, sub, truth, wrap, xor,
+};
 use vm_host::{Outcome, TrapKind};
 
 /// Gives a number.
 #[inline]
 pub(crate) fn push(state: &mut State, n: i128)
     requires { (code : Code) × IsReady code (Push n) state.old }
-    ensures { (code : Code) → Does code (Push n) state.old None state.new }
+    ensures { Does (Push n) state.old None state.new }
 {
     state.give(n);
 }
@@ -28,7 +29,7 @@ pub(crate) fn push(state: &mut State, n: i128)
 #[inline]
 pub(crate) fn negate(state: &mut State, kind: Kind)
     requires { (code : Code) × IsReady code (Neg kind) state.old }
-    ensures { (code : Code) → Does code (Neg kind) state.old None state.new }
+    ensures { Does (Neg kind) state.old None state.new }
 {
     let n = neg(kind, state.top());
     state.replace(n);
@@ -38,7 +39,7 @@ pub(crate) fn negate(state: &mut State, kind: Kind)
 #[inline]
 pub(crate) fn invert(state: &mut State, kind: Kind)
     requires { (code : Code) × IsReady code (Inv kind) state.old }
-    ensures { (code : Code) → Does code (Inv kind) state.old None state.new }
+    ensures { Does (Inv kind) state.old None state.new }
 {
     let n = inv(kind, state.top());
     state.replace(n);
@@ -48,7 +49,7 @@ pub(crate) fn invert(state: &mut State, kind: Kind)
 #[inline]
 pub(crate) fn convert(state: &mut State, kind: Kind)
     requires { (code : Code) × IsReady code (Conv kind) state.old }
-    ensures { (code : Code) → Does code (Conv kind) state.old None state.new }
+    ensures { Does (Conv kind) state.old None state.new }
 {
     let n = wrap(kind, state.top());
     state.replace(n);
@@ -58,7 +59,7 @@ pub(crate) fn convert(state: &mut State, kind: Kind)
 #[inline]
 pub(crate) fn not(state: &mut State)
     requires { (code : Code) × IsReady code Not state.old }
-    ensures { (code : Code) → Does code Not state.old None state.new }
+    ensures { Does Not state.old None state.new }
 {
     let n = truth(is_equal(state.top(), 0));
     state.replace(n);
@@ -68,7 +69,7 @@ pub(crate) fn not(state: &mut State)
 #[inline]
 pub(crate) fn duplicate(state: &mut State)
     requires { (code : Code) × IsReady code Dup state.old }
-    ensures { (code : Code) → Does code Dup state.old None state.new }
+    ensures { Does Dup state.old None state.new }
 {
     let n = state.top();
     state.give(n);
@@ -78,24 +79,21 @@ pub(crate) fn duplicate(state: &mut State)
 #[inline]
 pub(crate) fn take(state: &mut State)
     requires { (code : Code) × IsReady code Drop state.old }
-    ensures { (code : Code) → Does code Drop state.old None state.new }
+    ensures { Does Drop state.old None state.new }
 {
     state.forget(1);
 }
 
 /// Gives the value of an operator.
 #[inline]
-pub(crate) fn operate(state: &mut State, op: BinOp, kind: Kind) -> Option<Outcome>
+pub(crate) fn operate(state: &mut State, op: BinOp, kind: Kind) -> Result<(), Outcome>
     requires { (code : Code) × IsReady code (Bin op kind) state.old }
-    ensures { (code : Code) → Does code (Bin op kind) state.old result state.new }
+    ensures { Does (Bin op kind) state.old (result_err result) state.new }
 {
-    match value_of(op, kind, state.under(), state.top()) {
-        Some(n) => {
-            state.replace_two(n);
-            None
-        }
-        None => Some(Outcome::Trapped(TrapKind::ZeroDivisor)),
-    }
+    let value = value_of(op, kind, state.under(), state.top());
+    let n = value.ok_or(Outcome::Trapped(TrapKind::ZeroDivisor))?;
+    state.replace_two(n);
+    Ok(())
 }
 
 /// The value of an operator, or `None` where the divisor is 0.
@@ -127,14 +125,7 @@ fn value_of(op: BinOp, kind: Kind, a: i128, b: i128) -> Option<i128>
     }
 }
 
-/// 1 for a test that holds, and 0 for one that does not.
-#[inline]
-pub(crate) fn truth(holds: bool) -> i128
-    ensures { result ≡ truth holds }
-{
-    if holds { 1 } else { 0 }
-}
-
+/// Whether two numbers are equal.
 #[inline]
 pub(crate) fn is_equal(a: i128, b: i128) -> bool
     ensures { result ≡ int_eq a b }
@@ -142,6 +133,7 @@ pub(crate) fn is_equal(a: i128, b: i128) -> bool
     a == b
 }
 
+/// Whether a number is less than another.
 #[inline]
 fn is_less(a: i128, b: i128) -> bool
     ensures { result ≡ int_lt a b }
@@ -149,6 +141,7 @@ fn is_less(a: i128, b: i128) -> bool
     a < b
 }
 
+/// Whether a number is less than another, or equal to it.
 #[inline]
 fn is_at_most(a: i128, b: i128) -> bool
     ensures { result ≡ int_le a b }

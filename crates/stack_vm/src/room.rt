@@ -2,32 +2,33 @@
 
 ghost use Rattle.std.specs.Prelude.{◌≡◌, ◌≤◌, length, IfOk};
 ghost use Rattle.bytecode.specs.Verified.{IsVerified};
-ghost use Rattle.stack_vm.specs.Room.{deepest, greatest, numbers_room};
+ghost use Rattle.stack_vm.specs.Room.{greatest, numbers_room, room_of};
 
 use bytecode::{Code, Fun};
 use sim_outside::NoMemory;
 
 /// How many numbers the runs of this code may have on the stack. A number above what memory can
-/// hold is no memory.
+/// hold is no memory. Takes time linear in the code.
 pub(crate) fn numbers_room(code: &Code) -> Result<usize, NoMemory>
     requires { IsVerified code.now }
     ensures { IfOk result (λ room. room ≡ numbers_room code.now) }
 {
     let mut room = 0usize;
     for function in code.functions.as_slice() {
-        let most = deepest(code.depths.as_slice(), function) as usize;
-        room = room.checked_add(most).ok_or(NoMemory)?;
+        let more = room_of(code.depths.as_slice(), function) as usize;
+        room = room.checked_add(more).ok_or(NoMemory)?;
     }
     Ok(room)
 }
 
-/// The greatest depth in a function.
-fn deepest(depths: &[u32], function: &Fun) -> u32
+/// How many numbers a function may have: as many as its greatest depth, and no more than places.
+fn room_of(depths: &[u32], function: &Fun) -> u32
     requires order { function.now.start ≤ function.now.end }
     requires inside { function.now.end ≤ length depths.now }
-    ensures { result ≡ deepest depths.now function.now }
+    ensures { result ≡ room_of depths.now function.now }
 {
-    greatest(&depths[function.start as usize..function.end as usize])
+    let places = &depths[function.start as usize..function.end as usize];
+    greatest(places).min(function.end - function.start)
 }
 
 /// The greatest of some depths, or 0.

@@ -1,12 +1,15 @@
-// The part of the machine's state that a run holds by itself: its place, numbers, calls, cells and turns.
+// The part of the machine's state that a run holds by itself.
 
 use sim_outside::NoMemory;
 use std::alloc::Global;
 use std::marker::Model;
+use vm_host::Outcome;
 
-/// A place of the code, the numbers on the stack, where open calls return to, the cells and the turns that are left.
+/// A place of the code, the numbers on the stack, where open calls return to, the cells and the
+/// turns that are left.
 ///
-/// The numbers and calls stand in lists of a fixed length, from their beginning up to `top` and `open_calls`.
+/// The numbers and calls stand in lists of a fixed length, from their beginning up to `top` and
+/// `open_calls`.
 #[derive(Debug, Drop)]
 pub(crate) struct State {
     cells: Vec<i128>,
@@ -20,7 +23,7 @@ pub(crate) struct State {
 
 impl Model for State {
     ghost use Rattle.std.specs.Prelude.{◌≤◌, length, reverse, take};
-    ghost use Rattle.stack_vm.specs.State.{RunState};
+    ghost use Rattle.stack_vm.specs.Inside.State.{RunState};
 
     ghost Value = { RunState };
 
@@ -34,12 +37,14 @@ impl Model for State {
       calls_room = length state.calls.items;
     } };
 
-    ghost invariant = { λ state. (state.top ≤ length state.stack.items) × (state.open_calls ≤ length state.calls.items) };
+    ghost invariant = { λ state.
+        (state.top ≤ length state.stack.items) × (state.open_calls ≤ length state.calls.items) };
 }
 
 impl State {
-    ghost use Rattle.std.specs.Prelude.{◌≡◌, ◌+◌, ◌-◌, ◌^◌, ◌<◌, ◌≤◌, ◌↔◌, [], ◌∷◌, drop, length, pos, replicate, reverse, slice_index, slice_index_or, slice_set, take, IfOk, IsTrue};
+    ghost use Rattle.std.specs.Prelude.{◌≡◌, ◌+◌, ◌-◌, ◌^◌, ◌<◌, ◌≤◌, ◌↔◌, [], ◌∷◌, drop, length, pos, replicate, reverse, slice_index, slice_index_or, slice_set, take, IfOk, IsTrue, MatchResult, OnErr, OnOk};
     ghost use Rattle.std.specs.List.{splice};
+    ghost use Rattle.vm_host.specs.declared.outcome.Outcome.TheVariants.{Cut};
 
     /// A state of this many cells of 0, with room for so many numbers and calls.
     pub(crate) fn make(
@@ -87,7 +92,9 @@ impl State {
     /// Sets neighbouring cells.
     pub(crate) fn put(&mut self, at: usize, numbers: &[i128])
         requires { at + length numbers.now ≤ length self.old.cells }
-        ensures { self.new ≡ record self.old { cells = splice self.old.cells at (at + length numbers.now) numbers.now } }
+        ensures { self.new ≡ record self.old {
+          cells = splice self.old.cells at (at + length numbers.now) numbers.now;
+        } }
     {
         self.cells[at..at + numbers.len()].copy_from_slice(numbers);
     }
@@ -167,7 +174,10 @@ impl State {
     pub(crate) fn replace(&mut self, n: i128)
         requires there { 1 ≤ length self.old.stack }
         requires place { self.old.place + 1 < 2 ^ 64 }
-        ensures { self.new ≡ record self.old { place = self.old.place + 1; stack = n ∷ drop 1 self.old.stack } }
+        ensures { self.new ≡ record self.old {
+          place = self.old.place + 1;
+          stack = n ∷ drop 1 self.old.stack;
+        } }
     {
         self.stack[self.top - 1] = n;
         self.place += 1;
@@ -178,10 +188,22 @@ impl State {
     pub(crate) fn replace_two(&mut self, n: i128)
         requires there { 2 ≤ length self.old.stack }
         requires place { self.old.place + 1 < 2 ^ 64 }
-        ensures { self.new ≡ record self.old { place = self.old.place + 1; stack = n ∷ drop 2 self.old.stack } }
+        ensures { self.new ≡ record self.old {
+          place = self.old.place + 1;
+          stack = n ∷ drop 2 self.old.stack;
+        } }
     {
         self.top -= 1;
         self.stack[self.top - 1] = n;
+        self.place += 1;
+    }
+
+    /// Goes on to the next place.
+    #[inline]
+    pub(crate) fn go_on(&mut self)
+        requires { self.old.place + 1 < 2 ^ 64 }
+        ensures { self.new ≡ record self.old { place = self.old.place + 1 } }
+    {
         self.place += 1;
     }
 
@@ -190,7 +212,10 @@ impl State {
     pub(crate) fn forget(&mut self, count: usize)
         requires there { count ≤ length self.old.stack }
         requires place { self.old.place + 1 < 2 ^ 64 }
-        ensures { self.new ≡ record self.old { place = self.old.place + 1; stack = drop count self.old.stack } }
+        ensures { self.new ≡ record self.old {
+          place = self.old.place + 1;
+          stack = drop count self.old.stack;
+        } }
     {
         self.top -= count;
         self.place += 1;
@@ -206,13 +231,19 @@ impl State {
         self.place = place;
     }
 
-    /// Takes a turn.
+    /// Takes a turn. Where none is left, this ends the run.
     #[inline]
-    pub(crate) fn take_turn(&mut self)
-        requires { 0 < self.old.turns }
-        ensures { self.new ≡ record self.old { turns = self.old.turns - 1 } }
+    pub(crate) fn take_turn(&mut self) -> Result<(), Outcome>
+        ensures cut { MatchResult result (λ _. 0 < self.old.turns)
+            (λ end. (end ≡ Cut) × (self.old.turns ≡ 0)) }
+        ensures taken { OnOk result (self.new ≡ record self.old { turns = self.old.turns - 1 }) }
+        ensures stays { OnErr result (self.new ≡ self.old) }
     {
+        if self.turns == 0 {
+            return Err(Outcome::Cut);
+        }
         self.turns -= 1;
+        Ok(())
     }
 
     /// Calls the function that begins at a place.
@@ -220,7 +251,10 @@ impl State {
     pub(crate) fn call(&mut self, place: usize)
         requires room { length self.old.calls < self.old.calls_room }
         requires place { self.old.place + 1 < 2 ^ 64 }
-        ensures { self.new ≡ record self.old { place = place; calls = (self.old.place + 1) ∷ self.old.calls } }
+        ensures { self.new ≡ record self.old {
+          place = place;
+          calls = (self.old.place + 1) ∷ self.old.calls;
+        } }
     {
         self.calls[self.open_calls] = self.place + 1;
         self.open_calls += 1;
@@ -239,7 +273,10 @@ impl State {
     #[inline]
     pub(crate) fn give_back(&mut self)
         requires { 1 ≤ length self.old.calls }
-        ensures { self.new ≡ record self.old { place = slice_index self.old.calls 0; calls = drop 1 self.old.calls } }
+        ensures { self.new ≡ record self.old {
+          place = slice_index self.old.calls 0;
+          calls = drop 1 self.old.calls;
+        } }
     {
         self.open_calls -= 1;
         self.place = self.calls[self.open_calls];

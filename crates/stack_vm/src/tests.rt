@@ -9,6 +9,7 @@ use bytecode::{Code, Fun, Handler, Instr, Verified, VerifyRefusal, verify};
 use can_frame::{Frame, Ident};
 use int_kinds::{BinOp, Kind};
 use items::Items;
+use message_cells::MESSAGE_KINDS;
 use sim_outside::NoMemory;
 use std::alloc::{AllocError, Global};
 use std::process::Abort;
@@ -30,17 +31,14 @@ struct Bench {
 impl Host for Bench {
     ghost use Rattle.std.specs.Prelude.{false, ⊤};
 
-    ghost active_timers = { λ host. host.active };
-
-    ghost moment = { λ host. 1250 };
-
-    ghost is_closed = { λ host. false };
-
-    ghost faults = { λ host. 0 };
-
-    ghost takes = { λ before effect after. ⊤ };
-
-    ghost refuses = { λ before after. ⊤ };
+    ghost meaning = { record {
+      active_timers = λ host. host.active;
+      moment = λ host. 1250;
+      is_closed = λ host. false;
+      faults = λ host. 0;
+      takes = λ before effect after. ⊤;
+      refuses = λ before after. ⊤;
+    } };
 
     fn line(&mut self, text: &[u8]) -> Result<(), RecordFault> {
         if self.lines_left == 0 || self.text.extend_from_slice(text).is_err() {
@@ -89,33 +87,15 @@ fn empty_bench(alloc: Global, lines: u32) -> Bench {
     }
 }
 
-/// The kinds of a message's cells.
-const MESSAGE: [Kind; 14] = [
-    Kind::Dword,
-    Kind::Byte,
-    Kind::Byte,
-    Kind::Word,
-    Kind::Byte,
-    Kind::Dword,
-    Kind::Byte,
-    Kind::Byte,
-    Kind::Byte,
-    Kind::Byte,
-    Kind::Byte,
-    Kind::Byte,
-    Kind::Byte,
-    Kind::Byte,
-];
-
 /// Code of one function, which runs when the measurement begins. After the event's cells there are a
 /// long, which begins with 7, and a message from cell 16 on. Format 0 is the line `go`.
 fn code(alloc: Global, instrs: &[Instr], depths: &[u32]) -> Result<Code, AllocError>
     ensures { IfOk result (λ code. All IsShort code.formats) }
 {
     let end = u32::try_from(instrs.len()).unwrap_or(u32::MAX);
-    let mut cells = MESSAGE.to_vec(alloc)?;
+    let mut cells = MESSAGE_KINDS.to_vec(alloc)?;
     cells.extend_from_slice(&[Kind::Char, Kind::Long])?;
-    cells.extend_from_slice(&MESSAGE)?;
+    cells.extend_from_slice(&MESSAGE_KINDS)?;
     let format = Format::read(alloc, b"go", &[]).map_err(|_| AllocError)?;
     Ok(Code {
         instrs: Items::from_list(instrs.to_vec(alloc)?),
@@ -145,6 +125,7 @@ fn code(alloc: Global, instrs: &[Instr], depths: &[u32]) -> Result<Code, AllocEr
 /// No list is as long as this.
 const LIMIT: usize = 0x1_0000_0000;
 
+/// Whether no list of the code is too long for the verifier.
 fn is_short(code: &Code) -> bool
     requires { All IsShort code.now.formats }
     ensures { IsTrue result → IsShortCode code.now }

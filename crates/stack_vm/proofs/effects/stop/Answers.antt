@@ -1,16 +1,16 @@
-use Rattle.std.proofs.Common.{◌+◌, true, refl}
-use Rattle.vm_host.specs.Effect.{Effect}
+-- The wish to stop the measurement.
+use Rattle.std.proofs.Common.{◌+◌, Bool, true, false, List, refl}
 use Rattle.vm_host.specs.Effect as effect
 use Rattle.bytecode.specs.declared.instr.Instr.TheVariants.{Stop}
-use Rattle.stack_vm.specs.State.{RunState}
-use Rattle.stack_vm.proofs.Hosts.{does_either, does_open, does_quietly}
+use Rattle.stack_vm.specs.Inside.State.{RunState}
+use Rattle.stack_vm.proofs.HostRows.{does_unless_closed}
 use Rattle.stack_vm.proofs.effects.stop.Goals as goal
 
 pub returns-clause-does : goal.returns-clause-does
 returns-clause-does g c =
     let s : RunState = c.args.state.now in
-    let host = c.args.host.now in
+    let host = g.H.Host.meaning in
+    let stands = c.args.host.now in
     let there : RunState = record s { place = s.place + 1 } in
-    λ code. does_either g.H.Host.takes g.H.Host.active_timers (g.H.Host.moment host) code Stop s host c.forget.new.self c.stop.new.self (g.H.Host.is_closed host)
-    (λ closed. does_quietly g.H.Host.takes g.H.Host.active_timers (g.H.Host.moment host) code Stop s host c.forget.new.self c.stop.new.self true there refl refl (λ effects. refl) c.forget.ensures (c.stop.ensures.closed closed))
-    (λ opened. does_open g.H.Host.takes g.H.Host.active_timers (g.H.Host.moment host) code Stop s host c.forget.new.self c.stop.new.self there effect.Stop (g.H.Host.active_timers host) refl refl (λ effects. refl) c.forget.ensures c.stop.ensures.timers (c.stop.ensures.taken opened))
+    λ code. does_unless_closed host code Stop s stands c.go_on.new.self c.stop.new.self there refl refl c.go_on.ensures effect.Stop (host.active_timers stands)
+    (elim [ true ↦ λ effects. refl | false ↦ λ effects. refl ]) (λ _. c.stop.ensures.timers_stay) c.stop.ensures.taken

@@ -1,3 +1,4 @@
+-- The bytes that were put in cells so far.
 use Rattle.std.proofs.Common.{◌≡◌, length, map, take}
 use Rattle.std.specs.Prelude.{pos}
 use Rattle.stack_vm.proofs.messages.cells_of.Given as goal

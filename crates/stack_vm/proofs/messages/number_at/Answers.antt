@@ -1,10 +1,11 @@
+-- The number at a byte, from the word of the payload.
 use Rattle.std.proofs.Common.{◌≡◌, ◌<◌, ◌*◌, ◌/◌, ◌^◌, ℕ, get_or, length, ap, ◌∙◌, rules}
 use Rattle.std.specs.Prelude.{pos}
 use Rattle.std.specs.Int.{from_le_bytes, w64}
 use Rattle.int_kinds.specs.Kind.{wrap}
 use Rattle.message_cells.specs.Message.{number_at}
 use Rattle.stack_vm.proofs.MessageRows.{number_at_word}
-use Rattle.stack_vm.proofs.Numbers.{got}
+use Rattle.stack_vm.proofs.NumberLemmas.{got}
 use Rattle.stack_vm.proofs.messages.number_at.Goals as goal
 
 pub returns : goal.returns

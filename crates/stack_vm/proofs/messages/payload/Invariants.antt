@@ -1,3 +1,4 @@
+-- The bytes that were taken so far.
 use Rattle.std.proofs.Common.{◌≡◌, length, map, take}
 use Rattle.int_kinds.specs.declared.kinds.Kind.TheVariants.{Byte}
 use Rattle.int_kinds.specs.Arithmetic.{residue}

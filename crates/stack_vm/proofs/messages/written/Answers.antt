@@ -1,3 +1,4 @@
+-- The remote bit as it is written.
 use Rattle.std.proofs.Common.{ℕ, get_or, sym, ap, ◌∙◌}
 use Rattle.std.specs.Prelude.{min}
 use Rattle.std.specs.Int.{w128}

@@ -1,5 +1,6 @@
+-- Room for one more number.
 use Rattle.std.proofs.Common.{refl, ◌∷◌}
-use Rattle.stack_vm.proofs.Ready.{room_to_give}
+use Rattle.stack_vm.proofs.StepLemmas.{room_to_give}
 use Rattle.stack_vm.proofs.operands.push.Goals as goal
 
 pub give-requires-clause-room : goal.give-requires-clause-room

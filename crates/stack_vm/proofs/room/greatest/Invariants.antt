@@ -1,3 +1,4 @@
+-- The greatest depth so far, and those that are left.
 use Rattle.std.proofs.Common.{◌≡◌, drop, max}
 use Rattle.stack_vm.specs.Room.{greatest}
 use Rattle.stack_vm.proofs.room.greatest.Given as goal

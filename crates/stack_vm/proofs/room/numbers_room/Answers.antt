@@ -1,10 +1,11 @@
+-- The room of each function.
 use Rattle.std.proofs.Common.{◌<◌, ap, sym, length, get_or, arith, subst, List, false}
 use Rattle.bytecode.specs.declared.code.Fun.{Fun}
-use Rattle.stack_vm.proofs.Rooms.{Lies, lies_at}
+use Rattle.stack_vm.proofs.RoomLemmas.{Lies, lies_at}
 use Rattle.stack_vm.proofs.room.numbers_room.Goals as goal
 
-pub deepest-most-requires : goal.deepest-most-requires
-deepest-most-requires c =
+pub room_of-more-requires : goal.room_of-more-requires
+room_of-more-requires c =
     let i = c.loop-function.function-index in
     let e = c.as_slice-function-items.ensures in
     let h : i < length c.args.code.now.functions = omega (arith, c.loop-function-test.true, ap length e) in

@@ -1,3 +1,4 @@
+-- A memory stays one of its code.
 use Rattle.std.proofs.Common.{IfOk, Result, subst}
 use Rattle.bytecode.specs.Verified.{IsVerified}
 use Rattle.sim_outside.specs.declared.memory.NoMemory.{NoMemory}

@@ -1,14 +1,14 @@
+-- Cells of zeros, and then the initial values in order.
 use Rattle.std.proofs.Common.{◌≡◌, ◌<◌, ◌+◌, ℕ, List, [], length, replicate, get_or, drop, ap, sym, ◌∙◌, subst, arith}
 use Rattle.std.specs.Prelude.{ℤ, pos, slice_set}
 use Rattle.bytecode.specs.declared.code.Code.{Code}
 use Rattle.bytecode.specs.Runs.{HoldKinds}
 use Rattle.bytecode.specs.Verified.{IsVerified}
 use Rattle.stack_vm.specs.Memory.{with_starts}
-use Rattle.stack_vm.specs.State.{RunState}
+use Rattle.stack_vm.specs.Inside.State.{RunState}
 use Rattle.stack_vm.specs.Room.{numbers_room}
-use Rattle.stack_vm.proofs.Frames.{event_cells_held}
-use Rattle.stack_vm.proofs.Rooms.{room_enough}
-use Rattle.stack_vm.proofs.Starts.{HoldKinds-zeros, PutsIn, puts_in}
+use Rattle.stack_vm.proofs.MemoryLemmas.{HoldKinds-zeros, PutsIn, event_cells_held, puts_in}
+use Rattle.stack_vm.proofs.RoomLemmas.{room_enough}
 use Rattle.stack_vm.proofs.memory.Memory.make.Goals as goal
 
 pub loop-start-init : goal.loop-start-init
@@ -66,8 +66,8 @@ returns-clause-of_code c =
     let k = c.loop-start.invariant in
     record {
       cells_held = k.held;
-      room = λ handler start reached closed moment steps is e.
-          let r = room_enough code v handler start reached closed moment steps is e in
+      room = λ handler start reached closed moment is comes.
+          let r = room_enough code v handler start reached closed moment is comes in
           record { numbers = omega (arith, r.numbers, k.numbers); calls = omega (arith, r.calls, k.calls) };
     }
 

@@ -1,7 +1,8 @@
+-- The stack without its top numbers.
 use Rattle.std.proofs.Common.{◌≡◌, ◌≤◌, ◌+◌, ◌-◌, ℕ, List, length, reverse, take, drop, sym, ap, ◌∙◌, arith}
 use Rattle.std.specs.Prelude.{ℤ}
-use Rattle.stack_vm.specs.State.{RunState}
-use Rattle.stack_vm.proofs.Stack.{drop-top_of, length-top_of, top_of}
+use Rattle.stack_vm.specs.Inside.State.{RunState}
+use Rattle.stack_vm.proofs.StackLemmas.{drop-top_of, length-top_of, top_of}
 use Rattle.stack_vm.proofs.state.State.forget.Goals as goal
 
 pub returns : goal.returns

@@ -1,8 +1,8 @@
+-- The numbers that were given last.
 use Rattle.std.proofs.Common.{◌≡◌, ◌≤◌, ◌-◌, ℕ, List, length, reverse, take, drop, ap, ◌∙◌, arith}
 use Rattle.std.specs.Prelude.{ℤ}
-use Rattle.stack_vm.specs.State.{RunState}
-use Rattle.stack_vm.proofs.Stack.{length-top_of, top_of}
-use Rattle.stack_vm.proofs.Writing.{last_items}
+use Rattle.stack_vm.specs.Inside.State.{RunState}
+use Rattle.stack_vm.proofs.StackLemmas.{length-top_of, top_of, last_items}
 use Rattle.stack_vm.proofs.state.State.last_given.Goals as goal
 
 pub returns : goal.returns

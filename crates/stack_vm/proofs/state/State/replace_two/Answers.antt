@@ -1,10 +1,11 @@
+-- One number in the place of two.
 use Rattle.std.proofs.Common.{◌≡◌, ◌≤◌, ◌<◌, ◌+◌, ◌-◌, ℕ, suc, List, ◌∷◌, length, reverse, take, drop, sym, ap, ◌∙◌, arith}
 use Rattle.std.specs.Prelude.{ℤ, slice_set}
 use Rattle.std.specs.Int.{cast_signed, cast_unsigned, w128}
 use Rattle.std.proofs.lemmas.Int.{to_z-of_z}
 use Rattle.std.proofs.lemmas.List.{length-set}
-use Rattle.stack_vm.specs.State.{RunState}
-use Rattle.stack_vm.proofs.Stack.{drop-top_of, length-top_of, set-top_of, top_of}
+use Rattle.stack_vm.specs.Inside.State.{RunState}
+use Rattle.stack_vm.proofs.StackLemmas.{drop-top_of, length-top_of, set-top_of, top_of}
 use Rattle.stack_vm.proofs.state.State.replace_two.Goals as goal
 
 pub returns : goal.returns

@@ -1,0 +1,106 @@
+-- One step: what a state that is ready for an instruction gives, and what a row leads to.
+use Rattle.std.proofs.Common.{◌≡◌, ◌≤◌, ◌<◌, ℕ, zero, suc, Bool, List, [], ◌∷◌, ◌++◌, length, get_or, drop, Option, None, refl, sym, ap, ◌∙◌, subst, arith, append-nil}
+use Rattle.std.specs.Prelude.{ℤ, pos}
+use Rattle.std.specs.List.{AllByRecursion}
+use Rattle.int_kinds.specs.Kind.{IsNumber}
+use Rattle.vm_host.specs.Effect.{Effect}
+use Rattle.vm_host.specs.Host.{HostMeaning}
+use Rattle.vm_host.specs.declared.outcome.Outcome.{Outcome}
+use Rattle.bytecode.specs.declared.code.Code.{Code}
+use Rattle.bytecode.specs.declared.instr.Instr.{Instr}
+use Rattle.bytecode.specs.Machine.{Next}
+use Rattle.bytecode.specs.Step.{goes_on, row, taking_one, taking_two}
+use Rattle.stack_vm.specs.Inside.State.{HasSameRoom, RunState, machine}
+use Rattle.stack_vm.specs.Inside.Step.{Does, DoesIn, DoesOn, IsReady, answered}
+
+-- ---- numbers on the stack
+
+-- a number that is taken is the top
+pub one_taken : (stack : List ℤ) → 1 ≤ length stack → (doing : ℤ → List ℤ → Next) → taking_one stack doing ≡ doing (get_or stack 0 (pos 0)) (drop 1 stack)
+one_taken [] h doing = absurd (omega arith)
+one_taken (n ∷ below) h doing = refl
+
+-- two numbers that are taken are the second and the top
+pub two_taken : (stack : List ℤ) → 2 ≤ length stack → (doing : ℤ → ℤ → List ℤ → Next) →
+    taking_two stack doing ≡ doing (get_or stack 1 (pos 0)) (get_or stack 0 (pos 0)) (drop 2 stack)
+two_taken [] h doing = absurd (omega arith)
+two_taken (b ∷ []) h doing = absurd (omega arith)
+two_taken (b ∷ a ∷ below) h doing = refl
+
+-- each number on the stack is one
+pub number_at : (stack : List ℤ) (i : ℕ) → i < length stack → AllByRecursion IsNumber stack → IsNumber (get_or stack i (pos 0))
+number_at [] i h ns = absurd (omega arith)
+number_at (n ∷ stack) zero h ns = ns.0
+number_at (n ∷ stack) (suc i) h ns = number_at stack i (omega (arith, h)) ns.1
+
+-- there is room for a number where an instruction gives one
+pub room_to_give : (code : Code) (instr : Instr) (s : RunState) (r : IsReady code instr s) (stack : List ℤ) →
+    row code r.closed r.moment (machine s r.active r.effects) instr s.stack ≡ goes_on (machine s r.active r.effects) stack → length stack ≤ s.numbers_room
+room_to_give code instr s r stack e = (r.fits _ e).numbers
+
+-- ---- what a row leads to
+
+-- a state that is another has its room
+pub same_room : (before after there : RunState) → there.numbers_room ≡ before.numbers_room → there.calls_room ≡ before.calls_room → after ≡ there →
+    HasSameRoom before after
+same_room before after there n c e = record {
+  numbers = ap (λ (s : RunState). s.numbers_room) e ∙ n;
+  calls = ap (λ (s : RunState). s.calls_room) e ∙ c;
+}
+
+-- a row leads to a state in a code
+pub does_in : (code : Code) (instr : Instr) (before : RunState) (end : Option Outcome) (after there : RunState) →
+    there.numbers_room ≡ before.numbers_room → there.calls_room ≡ before.calls_room →
+    ((closed : Bool) (moment : ℕ) (active : List Bool) (effects : List Effect) →
+    row code closed moment (machine before active effects) instr before.stack ≡ answered end (machine there active effects)) →
+    after ≡ there → DoesIn code instr before end after
+does_in code instr before end after there numbers calls r e = record {
+  room = same_room before after there numbers calls e;
+  leads = λ closed moment active effects.
+      r closed moment active effects ∙ ap (λ (s : RunState). answered end (machine s active effects)) (sym e);
+}
+
+-- a row leads to a state in any code
+pub does : (instr : Instr) (before : RunState) (end : Option Outcome) (after there : RunState) →
+    there.numbers_room ≡ before.numbers_room → there.calls_room ≡ before.calls_room →
+    ((code : Code) (closed : Bool) (moment : ℕ) (active : List Bool) (effects : List Effect) →
+    row code closed moment (machine before active effects) instr before.stack ≡ answered end (machine there active effects)) →
+    after ≡ there → Does instr before end after
+does instr before end after there numbers calls r e =
+    record { in_code = λ code. does_in code instr before end after there numbers calls (r code) e }
+
+-- ---- an instruction by two names
+
+-- a state that is ready for an instruction is ready for it by another name
+pub ready_as : {code : Code} {s : RunState} {i j : Instr} → i ≡ j → IsReady code i s → IsReady code j s
+ready_as {code} {s} e r = subst (λ (k : Instr). IsReady code k s) e r
+
+-- so it is for some code
+pub ready_some : {code : Code} {s : RunState} {i j : Instr} → i ≡ j → IsReady code i s → (code : Code) × IsReady code j s
+ready_some {code} e r = (code, ready_as e r)
+
+module _ {S : Type 0} (host : HostMeaning S) where
+  -- an instruction that asks nothing of the host does so on any host, by any name
+  pub does_in_on : {code : Code} {i j : Instr} {before : RunState} {end : Option Outcome} {after : RunState} (stands : S) → i ≡ j →
+      DoesIn code j before end after → DoesOn host code i before stands end after stands
+  does_in_on {code} {i} {j} {before} {end} {after} stands e d = subst (λ (k : Instr). DoesOn host code k before stands end after stands) (sym e) (record {
+    new = [];
+    room = d.room;
+    leads = λ effects. d.leads (host.is_closed stands) (host.moment stands) (host.active_timers stands) effects
+        ∙ ap (λ (es : List Effect). answered end (machine after (host.active_timers stands) es)) (sym (append-nil effects));
+    taken = refl;
+  })
+
+  -- the same where it does so in any code
+  pub does_on : (code : Code) {i j : Instr} {before : RunState} {end : Option Outcome} {after : RunState} (stands : S) → i ≡ j →
+      Does j before end after → DoesOn host code i before stands end after stands
+  does_on code stands e d = does_in_on stands e (d.in_code code)
+
+  -- one that asks something of the host is done by any name
+  pub does_on_as : {code : Code} {i j : Instr} {before : RunState} {end : Option Outcome} {after : RunState} {stands stands_after : S} → i ≡ j →
+      DoesOn host code j before stands end after stands_after → DoesOn host code i before stands end after stands_after
+  does_on_as {code} {i} {j} {before} {end} {after} {stands} {stands_after} e d =
+      subst (λ (k : Instr). DoesOn host code k before stands end after stands_after) (sym e) d
+
+-- what is known of an instruction by another name
+pub ruleset by_name = (ready_as, ready_some, does_on, does_in_on, does_on_as)

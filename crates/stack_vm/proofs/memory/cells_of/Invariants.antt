@@ -1,6 +1,0 @@
-use Rattle.std.proofs.Common.{◌≡◌, length, map, take}
-use Rattle.std.specs.Prelude.{pos}
-use Rattle.stack_vm.proofs.memory.cells_of.Given as goal
-
-abbrev pub invariant-loop-i : goal.invariant-loop-i
-invariant-loop-i l = record { same : take l.i l.cells ≡ map pos (take l.i l.number-items); all : length l.cells ≡ 14 }

@@ -1,0 +1,65 @@
+-- One step of a run, as the machine's table has it.
+use Rattle.std.specs.Prelude.{◌≡◌, ◌≢◌, ℕ, ◌+◌, ◌^◌, ◌<◌, ◌≤◌, Bool, List, ◌++◌, length, Option, Some, None}
+use Rattle.std.specs.List.{AllByRecursion}
+use Rattle.int_kinds.specs.Kind.{IsNumber}
+use Rattle.vm_host.specs.Effect.{Effect}
+use Rattle.vm_host.specs.Host.{HostMeaning}
+use Rattle.vm_host.specs.declared.outcome.Outcome.{Outcome}
+use Rattle.bytecode.specs.declared.code.Code.{Code}
+use Rattle.bytecode.specs.declared.instr.Instr.{Instr}
+use Rattle.bytecode.specs.Machine.{Machine, Next, Goes, Ends, Stuck}
+use Rattle.bytecode.specs.Rule.{NamesWhatExists}
+use Rattle.bytecode.specs.Runs.{HoldKinds}
+use Rattle.bytecode.specs.Shape.{shape_of}
+use Rattle.bytecode.specs.Step.{row}
+use Rattle.stack_vm.specs.Memory.{HasRoomFor}
+use Rattle.stack_vm.specs.Runs.{TakesAll}
+use Rattle.stack_vm.specs.Inside.State.{HasSameRoom, RunState, machine}
+
+-- the machine goes on, or ends with an outcome
+abbrev pub answered : Option Outcome → Machine → Next
+answered None m = Goes m
+answered (Some outcome) m = Ends outcome m
+
+-- the row of an instruction that asks nothing of the host leads from a state to another in this code, where
+-- the machine goes on or has ended
+pub record DoesIn (code : Code) (instr : Instr) (before : RunState) (end : Option Outcome) (after : RunState) :
+    Type 0 where
+  pub room : HasSameRoom before after
+  pub leads : (closed : Bool) (moment : ℕ) (active : List Bool) (effects : List Effect) →
+      row code closed moment (machine before active effects) instr before.stack
+      ≡ answered end (machine after active effects)
+
+-- it does so in any code, since it reads nothing of the code
+pub record Does (instr : Instr) (before : RunState) (end : Option Outcome) (after : RunState) : Type 0 where
+  pub in_code : (code : Code) → DoesIn code instr before end after
+
+-- the row of an instruction leads from a state and a host to others, where the machine goes on or has ended
+-- and the host has taken the new effects
+pub record DoesOn {S : Type 0} (host : HostMeaning S) (code : Code) (instr : Instr) (s : RunState)
+    (before : S) (end : Option Outcome) (s_after : RunState) (after : S) : Type 0 where
+  pub new : List Effect
+  pub room : HasSameRoom s s_after
+  pub leads : (effects : List Effect) →
+      row code (host.is_closed before) (host.moment before) (machine s (host.active_timers before) effects)
+      instr s.stack ≡ answered end (machine s_after (host.active_timers after) (effects ++ new))
+  pub taken : TakesAll host before new after
+
+-- What an instruction asks of the state is there: numbers on the stack, cells that their kinds hold, what
+-- it names, the next place, and, on some host with the timers of the code, a row that is not stuck and room
+-- for the state that it leads to.
+pub record IsReady (code : Code) (instr : Instr) (s : RunState) : Type 0 where
+  pub numbers : AllByRecursion IsNumber s.stack
+  pub cells_held : HoldKinds code.cells s.cells
+  pub taken : (shape_of code instr).taken ≤ length s.stack
+  pub named : NamesWhatExists code (shape_of code instr).named
+  pub next : s.place + 1 < 2 ^ 64
+  pub closed : Bool
+  pub moment : ℕ
+  pub active : List Bool
+  pub effects : List Effect
+  pub timers : length code.timers ≤ length active
+  pub runs : row code closed moment (machine s active effects) instr s.stack ≢ Stuck
+  pub fits : (after : Machine) →
+      row code closed moment (machine s active effects) instr s.stack ≡ Goes after →
+      HasRoomFor s.numbers_room s.calls_room after
