@@ -5,20 +5,32 @@
 
 A scenario is a folder with the files that the program reads, and three more:
 `words` (the words, one a line), `stdout` (the bytes that it must write) and
-`status` (the status that it must end with). Where a file `full` stands in it,
-standard output is a device that takes nothing, and `stdout` is not looked at.
+`status` (the status that it must end with). One more file may say what standard
+output is:
+
+    full    a device that takes nothing; `stdout` is not looked at
+    slow    a pipe of one page, from which few bytes are taken at a time
+    room    a file that takes as many bytes as this file says, and then fails
+
 Each scenario runs in a copy of its folder, for at most 60 seconds, and nothing
 may stand on standard error. The last line is 'N passed, M failed'.
 """
+import contextlib
+import fcntl
+import os
 import pathlib
+import resource
 import shutil
 import subprocess
 import sys
 import tempfile
+import threading
 
 ROOT = pathlib.Path(__file__).resolve().parent.parent
 SECONDS = 60
-EXPECTATIONS = ("words", "stdout", "status", "full")
+EXPECTATIONS = ("words", "stdout", "status", "full", "slow", "room")
+PAGE = 4096
+FEW = 7
 
 
 def words_of(folder):
@@ -27,17 +39,59 @@ def words_of(folder):
     return data.removesuffix(b"\n").split(b"\n") if data else []
 
 
+def take_few(end, taken):
+    """Takes few bytes at a time from a pipe until its other end is closed."""
+    with open(end, "rb", buffering=0) as pipe:
+        while piece := pipe.read(FEW):
+            taken += piece
+
+
+@contextlib.contextmanager
+def slow_pipe(taken):
+    """The end to write to of a pipe that takes little at a time."""
+    reading, writing = os.pipe()
+    fcntl.fcntl(writing, fcntl.F_SETPIPE_SZ, PAGE)
+    reader = threading.Thread(target=take_few, args=(reading, taken))
+    reader.start()
+    try:
+        with open(writing, "wb") as pipe:
+            yield pipe
+    finally:
+        reader.join()
+
+
+def limit_files(size):
+    """Lets the process write so many bytes to a file."""
+    resource.setrlimit(resource.RLIMIT_FSIZE, (size, size))
+
+
+def started(program, folder, work, **output):
+    """Runs the program in a folder to its end."""
+    return subprocess.run([program, *words_of(folder)], cwd=work, stdin=subprocess.DEVNULL,
+                          stderr=subprocess.PIPE, timeout=SECONDS, **output)
+
+
 def run(program, folder, work):
     """Runs a scenario in a copy of its folder, and gives status, output and error output."""
     shutil.copytree(folder, work, symlinks=True, ignore=shutil.ignore_patterns(*EXPECTATIONS))
-    full = (folder / "full").exists()
-    out = open("/dev/full", "wb") if full else subprocess.PIPE
-    try:
-        done = subprocess.run([program, *words_of(folder)], cwd=work, stdin=subprocess.DEVNULL,
-                              stdout=out, stderr=subprocess.PIPE, timeout=SECONDS)
-    finally:
-        if full:
-            out.close()
+    if (folder / "full").exists():
+        with open("/dev/full", "wb") as out:
+            done = started(program, folder, work, stdout=out)
+        return done.returncode, None, done.stderr
+    if (folder / "slow").exists():
+        taken = bytearray()
+        with slow_pipe(taken) as out:
+            done = started(program, folder, work, stdout=out)
+        return done.returncode, bytes(taken), done.stderr
+    if (folder / "room").exists():
+        size = int((folder / "room").read_text())
+        with tempfile.TemporaryFile() as out:
+            # The signal of a file that is too long stays ignored, as it is here, so that the write fails.
+            done = started(program, folder, work, stdout=out, restore_signals=False,
+                           preexec_fn=lambda: limit_files(size))
+            out.seek(0)
+            return done.returncode, out.read(), done.stderr
+    done = started(program, folder, work, stdout=subprocess.PIPE)
     return done.returncode, done.stdout, done.stderr
 
 
