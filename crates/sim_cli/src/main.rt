@@ -14,6 +14,7 @@ const NO_MEMORY: u8 = 5;
 // The exit status where a word is not UTF-8.
 const NOT_TEXT: u8 = 6;
 
+/// Runs the words of the command line, and ends with the status.
 fn main(rt: HostRuntime) -> ExitCode {
     match words(&rt) {
         Ok(words) => {
@@ -29,7 +30,7 @@ fn main(rt: HostRuntime) -> ExitCode {
     }
 }
 
-// The words after the program's name.
+/// The words after the program's name.
 fn words<R: Env + AllocGlobal>(rt: &R) -> io::Result<Vec<String>> {
     Ok(env::args(rt)?.skip(1).collect(rt.alloc())?)
 }

@@ -1,10 +1,12 @@
 -- How what was written grows by one piece after another.
 use Rattle.std.proofs.Common.{◌≡◌, ℕ, zero, suc, ◌+◌, ◌<◌, List, [], ◌∷◌, ◌++◌, length, take, drop, get_or, Option, Some, None, refl, sym, ap, ◌∙◌, append_assoc, arith}
 use Rattle.std.proofs.Math.Seq.{take-append-add, take-nil}
-use Rattle.std.proofs.lemmas.List.{append-nil}
+use Rattle.std.proofs.lemmas.List.{append-nil, take_more}
+use Rattle.std.proofs.lemmas.Grind.{flat_map-append}
 use Rattle.std.specs.List.{flat_map}
 use Rattle.std.specs.Option.{option_map}
-use Rattle.sim_outside.specs.Sink.{GrowsBy, GrowsByPrefix}
+use Rattle.std.specs.Prelude.{Result, Ok, Err, IsErr}
+use Rattle.sim_outside.specs.Sink.{GrowsBy, GrowsByPrefix, Writes}
 
 -- the first n of a front are the first n of the whole, or fewer
 front_of : (n : ℕ) (xs ys : List ℕ) → (m : ℕ) × (take m (xs ++ ys) ≡ take n xs)
@@ -34,6 +36,13 @@ flat_map_around f [] i x within is = absurd (omega arith)
 flat_map_around f (y ∷ ys) zero x within is = grind arith
 flat_map_around f (y ∷ ys) (suc i) x within is = grind (arith, flat_map_around f ys i x (omega arith) is, append_assoc {A = ℕ})
 
+-- one more piece
+pub flat_map-take_more : {X A : Type 0} (f : X → List A) (xs : List X) (i : ℕ) (d : X) → i < length xs →
+    flat_map f (take (i + 1) xs) ≡ flat_map f (take i xs) ++ f (get_or xs i d)
+flat_map-take_more f xs i d within =
+    ap (flat_map f) (take_more xs i d within) ∙ flat_map-append f (take i xs) (get_or xs i d ∷ [])
+    ∙ ap (λ l. flat_map f (take i xs) ++ l) (append-nil (f (get_or xs i d)))
+
 -- nothing is written yet
 pub grows_by_none : (old : Option (List ℕ)) → GrowsBy old old []
 grows_by_none None = refl
@@ -44,3 +53,8 @@ pub grows_twice : (old mid new : Option (List ℕ)) (piece more : List ℕ) → 
 grows_twice None mid new piece more first second = second ∙ ap (option_map (λ bytes. bytes ++ more)) first
 grows_twice (Some bytes) mid new piece more first second =
     second ∙ ap (option_map (λ bytes. bytes ++ more)) first ∙ ap Some (append_assoc bytes piece more)
+
+-- after a refusal some of the piece is written
+pub writes_at_refusal : {A E : Type 0} (old new : Option (List ℕ)) (piece : List ℕ) (result : Result A E) → IsErr result → GrowsByPrefix old new piece → Writes old new piece result
+writes_at_refusal old new piece (Ok done) is grows = cc
+writes_at_refusal old new piece (Err refusal) is grows = grows

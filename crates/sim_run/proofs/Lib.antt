@@ -1,8 +1,11 @@
-pub mod Digits
+-- The lemmas of this crate.
+pub mod AnswerLemmas
+pub mod CommandLemmas
+pub mod DigitLemmas
 pub mod Growth
-pub mod OneAnswer
-pub mod Programs
-pub mod Runs
-pub mod Scenarios
-mod Tables
-pub mod Words
+pub mod InputsLemmas
+pub mod LogLemmas
+pub mod NumeralLemmas
+pub mod ProgramLemmas
+pub mod ScenarioLemmas
+pub mod TableLemmas

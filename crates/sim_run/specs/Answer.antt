@@ -1,86 +1,43 @@
 -- The whole answer to the words, over what the files hold.
-use Rattle.std.specs.Prelude.{◌≡◌, ◌^◌, ◌≤◌, ℕ, List, [], ◌∷◌, length, Option, Some, ◌⊎◌, codes}
-use Rattle.can_frame.specs.Frame.{FrameFields}
-use Rattle.capl_parser.specs.declared.tree.FileTree.{FileTree}
-use Rattle.sim_outside.specs.Folder.{beside}
+use Rattle.std.specs.Prelude.{◌≡◌, ℕ, List, []}
+use Rattle.sim_outside.specs.declared.blame.Blame.{Blame}
 use Rattle.sim_run.specs.declared.command.Command.{Command}
 use Rattle.sim_run.specs.declared.command.Command.TheVariants.{Window, Log}
 use Rattle.sim_run.specs.declared.scenario.Scenario.{Scenario}
+use Rattle.sim_run.specs.declared.source.Source.{Source}
 use Rattle.sim_run.specs.declared.status.Status.{Status}
 use Rattle.sim_run.specs.declared.status.Status.TheVariants.{Done, Refused, Usage, ReadFault, WriteFault, OutOfMemory}
-use Rattle.sim_run.specs.Run.{Logged, Logs, started, log_of}
-use Rattle.sim_run.specs.Scenario.{IsScenario}
-use Rattle.sim_run.specs.Source.{IsSource}
-use Rattle.sim_run.specs.Window.{window_of, refusal_line}
+use Rattle.sim_run.specs.Blame.{blame_line}
+use Rattle.sim_run.specs.Command.{IsCommand, IsNoCommand}
+use Rattle.sim_run.specs.Inputs.{Contents, AreAccepted, IsFirstBlame}
+use Rattle.sim_run.specs.Log.{LogEntry, Logs, after_start, log_of}
+use Rattle.sim_run.specs.Window.{window_of}
 
--- what each name holds, or that it holds nothing
-abbrev pub Contents : Type 0
-Contents = List ℕ → Option (List ℕ)
-
--- the first word of a command
-abbrev pub command_word : Command → List ℕ
-command_word Window = codes "window"
-command_word Log = codes "log"
-
--- the words are a command and the name of a scenario
-abbrev pub IsCommand : List (List ℕ) → Command → List ℕ → Type 0
-IsCommand words command name = words ≡ command_word command ∷ name ∷ []
-
--- the words are no command
-abbrev pub IsNoCommand : List (List ℕ) → Type 0
-IsNoCommand words = (command : Command) → (name : List ℕ) → IsCommand words command name → ⊥
-
--- the file of this name is held, with at most 1 MiB
-abbrev pub Holds : Contents → List ℕ → List ℕ → Type 0
-Holds contents name text = (contents name ≡ Some text) × (length text ≤ 2 ^ 20)
-
--- the file of this name is this scenario
-abbrev pub ScenarioAt : Contents → List ℕ → Scenario → Type 0
-ScenarioAt contents name scenario = (text : List ℕ) × Holds contents name text × IsScenario text scenario
-
--- the file of this name is a source with this tree, which asks for these frames
-abbrev pub SourceAt : Contents → List ℕ → FileTree → List FrameFields → Type 0
-SourceAt contents name tree frames = (text : List ℕ) × Holds contents name text × IsSource text tree frames
-
--- the scenario of this name is accepted, with the tree of its source and the frames that it asks for
-pub record IsAccepted (contents : Contents) (name : List ℕ) (scenario : Scenario) (tree : FileTree) (frames : List FrameFields) : Type 0 where
-  pub scenario_at : ScenarioAt contents name scenario
-  pub source_at : SourceAt contents (beside name scenario.file) tree frames
-
--- no source has this name
-abbrev pub HasNoSource : Contents → List ℕ → Type 0
-HasNoSource contents name = (tree : FileTree) → (frames : List FrameFields) → SourceAt contents name tree frames → ⊥
-
--- the first file that is not of its form: the scenario, else its source
-abbrev pub IsBroken : Contents → List ℕ → List ℕ → Type 0
-IsBroken contents name file =
-    ((file ≡ name) × ((scenario : Scenario) → ScenarioAt contents name scenario → ⊥))
-    ⊎ ((scenario : Scenario) × ScenarioAt contents name scenario × (file ≡ beside name scenario.file) × HasNoSource contents file)
-
--- what a command prints of a run: the window, or the log up to the end moment
-abbrev pub Prints : Command → Scenario → FileTree → List FrameFields → List ℕ → Type 0
-Prints Window scenario tree frames bytes = bytes ≡ window_of scenario.node tree
-Prints Log scenario tree frames bytes = (logged : List Logged) × Logs scenario.until (started frames) logged × (bytes ≡ log_of logged)
+-- what a command prints of accepted inputs: the window, or the log up to the end moment
+abbrev pub Prints : Command → Scenario → Source → List ℕ → Type 0
+Prints Window scenario source bytes = bytes ≡ window_of scenario.node source.tree
+Prints Log scenario source bytes =
+    (entries : List LogEntry) × Logs scenario.until (after_start source.frames) entries
+    × (bytes ≡ log_of entries)
 
 -- the words are a command on an accepted scenario, and the bytes are what it prints
 pub record IsDone (contents : Contents) (words : List (List ℕ)) (bytes : List ℕ) : Type 0 where
   pub command : Command
   pub name : List ℕ
   pub scenario : Scenario
-  pub tree : FileTree
-  pub frames : List FrameFields
+  pub source : Source
   pub words_are : IsCommand words command name
-  pub accepted : IsAccepted contents name scenario tree frames
-  pub prints : Prints command scenario tree frames bytes
+  pub accepted : AreAccepted contents name scenario source
+  pub prints : Prints command scenario source bytes
 
--- the words are a command on a scenario that breaks a rule, and the bytes are the line that says so
+-- the words are a command on inputs that break a rule, and the bytes are the line of the first blame
 pub record IsRefused (contents : Contents) (words : List (List ℕ)) (bytes : List ℕ) : Type 0 where
   pub command : Command
   pub name : List ℕ
-  pub file : List ℕ
+  pub blame : Blame
   pub words_are : IsCommand words command name
-  pub broken : IsBroken contents name file
-  pub line : bytes ≡ refusal_line file
+  pub first : IsFirstBlame contents name blame
+  pub line : bytes ≡ blame_line blame
 
 -- the answer to the words is this status with these bytes
 abbrev pub IsAnswer : Contents → List (List ℕ) → Status → List ℕ → Type 0

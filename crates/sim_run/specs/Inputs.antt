@@ -1,29 +1,48 @@
--- What the inputs of a run are found to be.
-use Rattle.std.specs.Prelude.{◌≡◌, ◌≤◌, ℕ, List, ⊤}
-use Rattle.sim_run.specs.declared.command.Command.{Command}
-use Rattle.sim_run.specs.declared.inputs.Inputs.{Inputs}
-use Rattle.sim_run.specs.declared.inputs.Inputs.TheVariants.{Accepted, Broken}
-use Rattle.sim_run.specs.declared.status.Status.{Status}
-use Rattle.sim_run.specs.declared.status.Status.TheVariants.{Done, Refused}
-use Rattle.sim_run.specs.Answer.{Contents, IsAccepted, IsBroken, Prints}
-use Rattle.sim_run.specs.Window.{refusal_line}
+-- What the inputs of a scenario's name are, over what the files hold.
+use Rattle.std.specs.Prelude.{◌≡◌, ◌^◌, ◌≤◌, ℕ, List, length, Option, Some, ◌⊎◌}
+use Rattle.sim_outside.specs.Folder.{beside}
+use Rattle.sim_outside.specs.declared.blame.Blame.{Blame}
+use Rattle.sim_run.specs.declared.scenario.Scenario.{Scenario}
+use Rattle.sim_run.specs.declared.source.Source.{Source}
+use Rattle.sim_run.specs.Blame.{form_not_taken, whole_file}
+use Rattle.sim_run.specs.Scenario.{IsScenario}
+use Rattle.sim_run.specs.Source.{IsSource}
 
--- the inputs are those of the scenario of this name
-abbrev pub AreInputs : Contents → List ℕ → Inputs → Type 0
-AreInputs contents name (Accepted scenario tree frames) = IsAccepted contents name scenario tree frames.items
-AreInputs contents name (Broken file) = IsBroken contents name file
+-- what each name holds, or that it holds nothing
+abbrev pub Contents : Type 0
+Contents = List ℕ → Option (List ℕ)
 
--- the status of an answer that is written to its end
-abbrev pub status_of : Inputs → Status
-status_of (Accepted scenario tree frames) = Done
-status_of (Broken file) = Refused
+-- the file of this name is held, with at most 1 MiB
+abbrev pub Holds : Contents → List ℕ → List ℕ → Type 0
+Holds contents name text = (contents name ≡ Some text) × (length text ≤ 2 ^ 20)
 
--- these are the bytes of the answer to a command
-abbrev pub AreBytesOf : Command → Inputs → List ℕ → Type 0
-AreBytesOf command (Accepted scenario tree frames) bytes = Prints command scenario tree frames.items bytes
-AreBytesOf command (Broken file) bytes = bytes ≡ refusal_line file
+-- the file of this name is this scenario
+abbrev pub ScenarioAt : Contents → List ℕ → Scenario → Type 0
+ScenarioAt contents name scenario = (text : List ℕ) × Holds contents name text × IsScenario text scenario
 
--- the end moment is at most a day away
-abbrev pub EndsWithinADay : Inputs → Type 0
-EndsWithinADay (Accepted scenario tree frames) = scenario.until ≤ 86400000000
-EndsWithinADay (Broken file) = ⊤
+-- the file of this name is this source
+abbrev pub SourceAt : Contents → List ℕ → Source → Type 0
+SourceAt contents name source = (text : List ℕ) × Holds contents name text × IsSource text source
+
+-- the scenario of this name is accepted, and so is its source
+pub record AreAccepted (contents : Contents) (name : List ℕ) (scenario : Scenario) (source : Source)
+    : Type 0 where
+  pub scenario_at : ScenarioAt contents name scenario
+  pub source_at : SourceAt contents (beside name scenario.file) source
+
+-- no scenario stands at this name, which is to blame as a whole
+pub record IsScenarioBlame (contents : Contents) (name : List ℕ) (blame : Blame) : Type 0 where
+  pub none : (scenario : Scenario) → ScenarioAt contents name scenario → ⊥
+  pub blame_is : blame ≡ whole_file name form_not_taken
+
+-- no source stands at this name, which is to blame as a whole
+pub record IsSourceBlame (contents : Contents) (name : List ℕ) (blame : Blame) : Type 0 where
+  pub none : (source : Source) → SourceAt contents name source → ⊥
+  pub blame_is : blame ≡ whole_file name form_not_taken
+
+-- the first blame of the inputs: that of the scenario, else that of its source
+abbrev pub IsFirstBlame : Contents → List ℕ → Blame → Type 0
+IsFirstBlame contents name blame =
+    IsScenarioBlame contents name blame
+    ⊎ ((scenario : Scenario) × ScenarioAt contents name scenario
+    × IsSourceBlame contents (beside name scenario.file) blame)

@@ -1,11 +1,14 @@
+-- The definitions of this crate.
 pub mod Answer
+pub mod Blame
+pub mod Command
+pub mod Digits
 pub mod Inputs
-pub mod Lines
+pub mod Inside
+pub mod Log
 pub mod LogLine
 pub mod Program
-pub mod Run
 pub mod Scenario
 pub mod Source
 pub mod Status
-pub mod Table
 pub mod Window

@@ -21,21 +21,26 @@ pub record IsFileName (file : List ℕ) : Type 0 where
   pub printable : All IsPrintable file
 
 -- 1 to 20 digits that stand for at most a day in milliseconds
-pub record IsEndMoment (digits : List ℕ) : Type 0 where
+pub record IsMillis (digits : List ℕ) : Type 0 where
   pub some : 0 < length digits
   pub short : length digits ≤ 20
   pub decimal : All IsDigit digits
   pub within_a_day : number_in 10 digits ≤ 86400000
 
+-- the end moment in microseconds: without its line, 10 seconds
+abbrev pub end_moment : Option (List ℕ) → ℕ
+end_moment None = 10000000
+end_moment (Some digits) = 1000 * number_in 10 digits
+
+-- the digits of its line, where this stands, stand for this end moment in microseconds
+pub record IsEndMoment (digits : Option (List ℕ)) (until : ℕ) : Type 0 where
+  pub in_range : IfSome digits IsMillis
+  pub value : until ≡ end_moment digits
+
 -- the line `until MS`, where it stands
 abbrev pub until_line : Option (List ℕ) → List ℕ
 until_line None = []
 until_line (Some digits) = codes "until " ++ digits ++ 10 ∷ []
-
--- the end moment in microseconds: without the line, 10 seconds
-abbrev pub end_moment : Option (List ℕ) → ℕ
-end_moment None = 10000000
-end_moment (Some digits) = 1000 * number_in 10 digits
 
 -- the lines `scenario 1`, `node NAME FILE` and perhaps `until MS`
 abbrev pub scenario_text : List ℕ → List ℕ → Option (List ℕ) → List ℕ
@@ -48,5 +53,4 @@ pub record IsScenario (text : List ℕ) (scenario : Scenario) : Type 0 where
   pub spelled : text ≡ scenario_text scenario.node scenario.file digits
   pub node : IsNodeName scenario.node
   pub file : IsFileName scenario.file
-  pub in_range : IfSome digits IsEndMoment
-  pub until : scenario.until ≡ end_moment digits
+  pub until : IsEndMoment digits scenario.until

@@ -1,4 +1,4 @@
--- The lines that are printed (CAPL manual, write).
+-- The lines of the texts that a node writes (CAPL manual, write).
 use Rattle.std.specs.Prelude.{ℕ, List, [], ◌∷◌, ◌++◌, ◌==◌, if◌then◌else◌, codes}
 use Rattle.std.specs.List.{flat_map}
 use Rattle.capl_parser.specs.declared.tree.FileTree.{FileTree}
@@ -14,7 +14,7 @@ shown_byte byte = if byte == 10 then codes "\\n" else (if byte == 13 then codes 
 abbrev pub window_line : List ℕ → List ℕ → List ℕ
 window_line node text = codes "w 0.000000 " ++ node ++ 32 ∷ flat_map shown_byte text ++ 10 ∷ []
 
--- the line of a statement
+-- the line of a statement, if it has one
 abbrev pub statement_line : List ℕ → Statement → List ℕ
 statement_line node (Write text) = window_line node text
 statement_line node (Output name) = []
@@ -23,7 +23,3 @@ statement_line node (Output name) = []
 abbrev pub window_of : List ℕ → FileTree → List ℕ
 window_of node Empty = []
 window_of node (Start variables statements) = flat_map (statement_line node) statements
-
--- `refused FILE N01`, the line where a file is not of the form that is taken
-abbrev pub refusal_line : List ℕ → List ℕ
-refusal_line file = codes "refused " ++ file ++ codes " N01" ++ 10 ∷ []

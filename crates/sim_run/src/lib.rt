@@ -2,21 +2,24 @@
 //!
 //! [`simulate`] reads the scenario that the words name and the source of its node, and writes the
 //! window, one line for each text that the node writes, or the log, one line for each frame on the
-//! bus. Where a file is not of the form that is taken, it writes the one line that says so.
-//! Everything is read before the first byte is written.
+//! bus. Where an input breaks a rule, it writes the one line that says so. Everything is read before
+//! the first byte is written.
+//!
+//! What [`simulate`] is to write is defined in `specs/Answer.antt` and the files that this names;
+//! `specs/Inside/` has what private functions mean.
 #![tactic(auto)]
 
-pub use run::simulate;
+pub use answer::simulate;
 pub use status::Status;
 
+mod answer;
+mod blame;
 mod command;
 mod inputs;
 pub mod laws;
-mod lines;
 mod log;
 mod log_line;
 mod program;
-mod run;
 mod scenario;
 mod source;
 mod status;

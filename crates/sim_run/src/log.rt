@@ -1,10 +1,10 @@
 // Running the bus and writing its log.
 
-ghost use Rattle.std.specs.Prelude.{◌≡◌, ◌≤◌, ◌^◌, IfOk, OnOk, OnErr, IsErrOf, List};
+ghost use Rattle.std.specs.Prelude.{◌≡◌, ◌≤◌, ◌^◌, IfOk, IsErrOf, List};
 ghost use Rattle.can_bus.specs.Bus.{ended};
 ghost use Rattle.sim_outside.specs.Fault.{HasRisen};
-ghost use Rattle.sim_outside.specs.Sink.{GrowsBy, GrowsByPrefix};
-ghost use Rattle.sim_run.specs.Run.{Logged, Logs, started, instant, logged_at, log_of};
+ghost use Rattle.sim_outside.specs.Sink.{Writes};
+ghost use Rattle.sim_run.specs.Log.{LogEntry, Logs, after_start, after_instant, entries_at, log_of};
 
 use crate::log_line::make_log_line;
 use arbitration::PlainBus;
@@ -19,8 +19,8 @@ const BIT_MICROS: u32 = 2;
 // The number of the one node on the bus.
 const NODE: u32 = 0;
 
-/// Runs the bus on the frames that the node asks for at the start, up to the end moment, and writes
-/// the line of each frame when it ends.
+/// Runs the bus on the frames that the node requests at the start, up to the end moment, and writes
+/// the line of each frame when it ends. Takes time that grows with the square of the number of frames.
 pub(crate) fn write_log<S: Sink>(
     alloc: Global,
     until: u64,
@@ -28,8 +28,8 @@ pub(crate) fn write_log<S: Sink>(
     out: &mut S,
 ) -> Result<(), SinkRefusal>
     requires { until ≤ 2 ^ 63 }
-    ensures ok { OnOk result ((logged : List Logged) × Logs until (started frames.now) logged × GrowsBy (S.written out.old) (S.written out.new) (log_of logged)) }
-    ensures err { OnErr result ((logged : List Logged) → Logs until (started frames.now) logged → GrowsByPrefix (S.written out.old) (S.written out.new) (log_of logged)) }
+    ensures grows { (entries : List LogEntry) → Logs until (after_start frames.now) entries →
+        Writes (S.written out.old) (S.written out.new) (log_of entries) result }
     ensures failed { IsErrOf result SinkRefusal.Failed → HasRisen (S.faults out.old) (S.faults out.new) }
 {
     let mut bus = start(alloc, frames)?;
@@ -42,9 +42,9 @@ pub(crate) fn write_log<S: Sink>(
     Ok(())
 }
 
-// The bus after the requests of the start and the first arbitration.
+/// The bus after the requests of the start and the first arbitration.
 fn start(alloc: Global, frames: &[Frame]) -> Result<PlainBus, NoMemory>
-    ensures { IfOk result (λ bus. bus ≡ started frames.now) }
+    ensures { IfOk result (λ bus. bus ≡ after_start frames.now) }
 {
     let mut bus = PlainBus::make(alloc, BIT_MICROS);
     for frame in frames {
@@ -54,7 +54,7 @@ fn start(alloc: Global, frames: &[Frame]) -> Result<PlainBus, NoMemory>
     Ok(bus)
 }
 
-// One instant of the bus: writes the line of the frame that ends, if one does.
+/// Does an instant of the bus, and writes the line of the frame that ends, if one does.
 fn write_instant<S: Sink>(
     alloc: Global,
     bus: &mut PlainBus,
@@ -62,9 +62,9 @@ fn write_instant<S: Sink>(
     out: &mut S,
 ) -> Result<(), SinkRefusal>
     requires { now ≤ 2 ^ 63 }
-    ensures bus { bus.new ≡ instant bus.old now }
-    ensures ok { OnOk result (GrowsBy (S.written out.old) (S.written out.new) (log_of (logged_at now (ended bus.old now)))) }
-    ensures err { OnErr result (GrowsByPrefix (S.written out.old) (S.written out.new) (log_of (logged_at now (ended bus.old now)))) }
+    ensures bus { bus.new ≡ after_instant bus.old now }
+    ensures grows { Writes (S.written out.old) (S.written out.new)
+        (log_of (entries_at now (ended bus.old now))) result }
     ensures failed { IsErrOf result SinkRefusal.Failed → HasRisen (S.faults out.old) (S.faults out.new) }
     ensures faults_stay { S.faults out.old ≤ S.faults out.new }
 {

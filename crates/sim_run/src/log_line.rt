@@ -1,90 +1,76 @@
 // The lines of the bus log.
 
-ghost use Rattle.std.specs.Prelude.{◌≡◌, ◌<◌, ◌≤◌, ◌++◌, ◌∷◌, [], OnOk, IfOk};
+ghost use Rattle.std.specs.Prelude.{◌≡◌, ◌++◌, OnOk, IfOk, string_bytes};
 ghost use Rattle.std.specs.List.{flat_map};
-ghost use Rattle.sim_run.specs.LogLine.{digit_byte, digits_of, ident_text, data_text, log_line};
+ghost use Rattle.sim_run.specs.LogLine.{stamp, byte_text, ident_text, data_text, log_line};
 
 use can_frame::{Frame, Ident};
 use sim_outside::{NoMemory, Text};
 use std::alloc::Global;
 
-/// The line of a frame that ends at this moment, in microseconds, in the form of `candump -L`. The
-/// seconds have ten digits.
+const MICROS_PER_SECOND: u64 = 1_000_000;
+
+/// The line of a frame that ends at this moment, in microseconds, with its line end, in the form of
+/// `candump -L`. The seconds have ten digits, or more where they need them.
 pub(crate) fn make_log_line(alloc: Global, moment: u64, frame: &Frame) -> Result<Text, NoMemory>
     ensures { IfOk result (λ line. line ≡ log_line moment frame.now) }
 {
-    let mut line = Vec::from_slice(alloc, b"(")?;
-    append_digits(&mut line, 10, 10, moment / 1_000_000)?;
-    line.push(b'.')?;
-    append_digits(&mut line, 10, 6, moment % 1_000_000)?;
-    line.extend_from_slice(b") can0 ")?;
+    let mut line = String::from_str(alloc, "(")?;
+    append_stamp(&mut line, moment)?;
+    line.push_str(") can0 ")?;
     append_ident(&mut line, frame.ident())?;
     append_data(&mut line, frame)?;
-    line.push(b'\n')?;
-    Text::make(alloc, &line)
+    line.push('\n')?;
+    Text::make(alloc, line.as_bytes())
 }
 
-// Appends an identifier: three hexadecimal digits of a standard one, eight of an extended one.
-fn append_ident(line: &mut Vec<u8>, ident: Ident) -> Result<(), NoMemory>
-    ensures { OnOk result (line.new.items ≡ line.old.items ++ ident_text ident) }
+/// Appends the seconds in at least ten digits and the microseconds in six.
+fn append_stamp(line: &mut String, moment: u64) -> Result<(), NoMemory>
+    ensures { OnOk result (string_bytes line.new ≡ string_bytes line.old ++ stamp moment) }
+{
+    let seconds = moment / MICROS_PER_SECOND;
+    let micros = moment % MICROS_PER_SECOND;
+    write!(line, "{seconds:010}.{micros:06}")?;
+    Ok(())
+}
+
+/// Appends an identifier: three hexadecimal digits of a standard one, eight of an extended one.
+#[tactic(auto, using(crate::proofs::DigitLemmas::hexadecimal_is))]
+fn append_ident(line: &mut String, ident: Ident) -> Result<(), NoMemory>
+    ensures { OnOk result (string_bytes line.new ≡ string_bytes line.old ++ ident_text ident) }
 {
     match ident {
-        Ident::Std(number) => append_digits(line, 16, 3, u64::from(number)),
-        Ident::Ext(number) => append_digits(line, 16, 8, u64::from(number)),
+        Ident::Std(number) => write!(line, "{number:03X}")?,
+        Ident::Ext(number) => write!(line, "{number:08X}")?,
     }
+    Ok(())
 }
 
-// Appends `#` and the data bytes of a data frame, or `#R` and the length code of a remote frame
-// where that is not 0.
-fn append_data(line: &mut Vec<u8>, frame: &Frame) -> Result<(), NoMemory>
-    ensures { OnOk result (line.new.items ≡ line.old.items ++ data_text frame.now) }
+/// Appends `#` and the data bytes of a data frame, or `#R` and the length code of a remote frame
+/// where that is not 0.
+fn append_data(line: &mut String, frame: &Frame) -> Result<(), NoMemory>
+    ensures { OnOk result (string_bytes line.new ≡ string_bytes line.old ++ data_text frame.now) }
 {
     let dlc = frame.dlc();
     if frame.rtr() {
-        line.extend_from_slice(b"#R")?;
+        line.push_str("#R")?;
         if dlc != 0 {
-            append_digits(line, 10, 1, u64::from(dlc))?;
+            write!(line, "{dlc}")?;
         }
         return Ok(());
     }
-    line.push(b'#')?;
+    line.push('#')?;
     append_bytes(line, &frame.payload()[..usize::from(dlc)])
 }
 
-// Appends each byte as two hexadecimal digits.
-fn append_bytes(line: &mut Vec<u8>, bytes: &[u8]) -> Result<(), NoMemory>
-    ensures { OnOk result (line.new.items ≡ line.old.items ++ flat_map (digits_of 16 2) bytes.now) }
+/// Appends each byte as two hexadecimal digits.
+fn append_bytes(line: &mut String, bytes: &[u8]) -> Result<(), NoMemory>
+    ensures { OnOk result (string_bytes line.new ≡ string_bytes line.old ++ flat_map byte_text bytes.now) }
 {
     for byte in bytes {
-        append_digits(line, 16, 2, u64::from(*byte))?;
+        write!(line, "{byte:02X}")?;
     }
     Ok(())
-}
-
-// Appends the lowest `count` digits of a number in a base, the most significant first.
-fn append_digits(line: &mut Vec<u8>, base: u64, count: u32, number: u64) -> Result<(), NoMemory>
-    requires base_from_two { 2 ≤ base }
-    requires base_to_sixteen { base ≤ 16 }
-    requires at_most_ten { count ≤ 10 }
-    ensures { OnOk result (line.new.items ≡ line.old.items ++ digits_of base count number) }
-{
-    for place in (0..count).rev() {
-        let digit = number / base.pow(place) % base;
-        line.push(digit_byte(digit as u8))?;
-    }
-    Ok(())
-}
-
-// The sign of a digit of a base up to sixteen: `0` to `9` and `A` to `F`.
-fn digit_byte(digit: u8) -> u8
-    requires { digit < 16 }
-    ensures { result ≡ digit_byte digit }
-{
-    if digit < 10 {
-        b'0' + digit
-    } else {
-        b'A' + (digit - 10)
-    }
 }
 
 #[cfg(test)]
@@ -143,6 +129,13 @@ mod tests {
                 false,
                 0,
                 "(0000086399.999999) can0 000#\n",
+            ),
+            (
+                u64::MAX,
+                Ident::Std(0),
+                false,
+                0,
+                "(18446744073709.551615) can0 000#\n",
             ),
         ];
         for (moment, ident, rtr, dlc, text) in rows {

@@ -1,11 +1,11 @@
-// What a source asks for at the start.
+// What a source requests at the start.
 
-ghost use Rattle.std.specs.Prelude.{◌≡◌, ◌↔◌, List, IsTrue, Contains, IfOk, MatchOption, ℕ, Bool};
-ghost use Rattle.can_frame.specs.Frame.{FrameFields};
+ghost use Rattle.std.specs.Prelude.{◌≡◌, ◌↔◌, List, IsTrue, Contains, IfOk, MatchOption};
 ghost use Rattle.can_frame.specs.declared.Ident.{Ident};
 ghost use Rattle.capl_parser.specs.declared.tree.Declaration.{Declaration};
-ghost use Rattle.sim_run.specs.Program.{IsProgram, IsFrameOf, IsIdentOf, IsPlainNumber, IsRemoteOf, AreVariables, AsksFor, declarations_of, profile_functions};
-ghost use Rattle.sim_run.specs.Table.{IsTable};
+ghost use Rattle.items.specs.Search.{Finds};
+ghost use Rattle.sim_run.specs.Program.{IsProgram, IsFrameOf, IsIdentOf, IsPlainNumber, IsRemoteOf, AreVariables, RequestFrames, declarations_of, function_names};
+ghost use Rattle.sim_run.specs.Inside.Table.{IsTable};
 
 use can_frame::{Frame, Ident};
 use capl_parser::{Declaration, FileTree, Number, Statement};
@@ -15,7 +15,7 @@ use sim_outside::NoMemory;
 use std::alloc::Global;
 
 // The names of the functions of the language.
-const FUNCTIONS: [&[u8]; 9] = [
+const FUNCTION_NAMES: [&[u8]; 9] = [
     b"output",
     b"write",
     b"setTimer",
@@ -27,29 +27,29 @@ const FUNCTIONS: [&[u8]; 9] = [
     b"elCount",
 ];
 
-/// The frames that a tree asks for, in order, or None where it is no program.
+/// The frames that a tree requests, in order, or None where it is no program. Takes time and memory
+/// linear in the tree.
 ///
 /// It is none where a number of a declaration is out of its range or has a mark that it may not
 /// have, where two variables have one name or one has the name of a function of the language, where
 /// a text has a `%`, and where `output` names no variable.
-pub(crate) fn requests_of(alloc: Global, tree: &FileTree) -> Result<Option<Vec<Frame>>, NoMemory>
-    ensures { IfOk result (λ found.
-        MatchOption found ((frames : List FrameFields) → IsProgram tree.now frames → ⊥) (λ frames. IsProgram tree.now frames.items)) }
+pub(crate) fn requests_of(alloc: Global, tree: &FileTree) -> Result<Option<Items<Frame>>, NoMemory>
+    ensures { IfOk result (Finds (IsProgram tree.now)) }
 {
     let FileTree::Start {
         variables,
         statements,
     } = tree
     else {
-        return Ok(Some(Vec::new(alloc)));
+        return Ok(Some(Items::new(alloc)));
     };
     let Some(table) = table_of(alloc, declarations_in(variables))? else {
         return Ok(None);
     };
-    frames_of(alloc, &table, statements.as_slice())
+    requests_in(alloc, &table, statements.as_slice())
 }
 
-// The declarations of a block of variables, if it stands.
+/// The declarations of a block of variables, if it stands.
 fn declarations_in(variables: &Option<Items<Declaration>>) -> &[Declaration]
     ensures { result.now ≡ declarations_of variables.now }
 {
@@ -59,13 +59,13 @@ fn declarations_in(variables: &Option<Items<Declaration>>) -> &[Declaration]
     }
 }
 
-// The frame of each variable by its name, or None where these are no variables.
+/// The frame of each variable by its name, or None where these are no variables.
 fn table_of(
     alloc: Global,
     declarations: &[Declaration],
 ) -> Result<Option<IndexMap<Vec<u8>, Frame>>, NoMemory>
-    ensures { IfOk result (λ found.
-        MatchOption found (AreVariables declarations.now → ⊥) (λ table. AreVariables declarations.now × IsTable table.entries declarations.now)) }
+    ensures { IfOk result (λ found. MatchOption found (AreVariables declarations.now → ⊥)
+        (λ table. AreVariables declarations.now × IsTable table.entries declarations.now)) }
 {
     let mut table = IndexMap::new(alloc);
     for declaration in declarations {
@@ -73,7 +73,7 @@ fn table_of(
         let Some(frame) = frame_of(declaration) else {
             return Ok(None);
         };
-        if is_profile_function(name) {
+        if is_function_name(name) {
             return Ok(None);
         }
         let earlier = table.insert(Vec::from_slice(alloc, name)?, frame)?;
@@ -84,16 +84,15 @@ fn table_of(
     Ok(Some(table))
 }
 
-// The frames that the statements ask for, in order, or None where a text has a `%` or a name is not
-// that of a variable.
-fn frames_of(
+/// The frames that the statements request, in order, or None where a text has a `%` or a name is not
+/// that of a variable.
+fn requests_in(
     alloc: Global,
     table: &IndexMap<Vec<u8>, Frame>,
     statements: &[Statement],
-) -> Result<Option<Vec<Frame>>, NoMemory>
-    ensures { (declarations : List Declaration) → IsTable table.now.entries declarations → IfOk result (λ found.
-        MatchOption found ((frames : List FrameFields) → AsksFor declarations statements.now frames → ⊥)
-        (λ frames. AsksFor declarations statements.now frames.items)) }
+) -> Result<Option<Items<Frame>>, NoMemory>
+    ensures { (declarations : List Declaration) → IsTable table.now.entries declarations →
+        IfOk result (Finds (RequestFrames declarations statements.now)) }
 {
     let mut frames = Vec::new(alloc);
     for statement in statements {
@@ -109,18 +108,19 @@ fn frames_of(
             },
         }
     }
-    Ok(Some(frames))
+    Ok(Some(Items::from_list(frames)))
 }
 
+/// Whether a text has a `%`.
 fn has_percent_sign(text: &[u8]) -> bool
     ensures { IsTrue result ↔ Contains text.now 37 }
 {
     text.contains(&b'%')
 }
 
-// The frame that a message variable sends, or None where a number is out of its range.
+/// The frame of a message variable, or None where a number is out of its range.
 fn frame_of(declaration: &Declaration) -> Option<Frame>
-    ensures { MatchOption result ((frame : FrameFields) → IsFrameOf declaration.now frame → ⊥) (IsFrameOf declaration.now) }
+    ensures { Finds (IsFrameOf declaration.now) result }
 {
     let ident = ident_of(&declaration.identifier)?;
     let dlc = plain_number(&declaration.dlc, 8)?;
@@ -128,9 +128,9 @@ fn frame_of(declaration: &Declaration) -> Option<Frame>
     Frame::make(ident, remote, dlc as u8, [0; 8], 1)
 }
 
-// The identifier that a number stands for, if any.
+/// The identifier that a number stands for, if any.
 fn ident_of(number: &Number) -> Option<Ident>
-    ensures { MatchOption result ((ident : Ident) → IsIdentOf number.now ident → ⊥) (IsIdentOf number.now) }
+    ensures { Finds {A = Ident} (IsIdentOf number.now) result }
 {
     if !number.ext {
         let value = plain_number(number, 0x7FF)?;
@@ -143,10 +143,10 @@ fn ident_of(number: &Number) -> Option<Ident>
     Some(Ident::Ext(value as u32))
 }
 
-// Whether a message is remote, by the number of its field `rtr`, or None where that is neither 0
-// nor 1.
+/// Whether a message is remote, by the number of its field `rtr`, or None where that is neither 0
+/// nor 1.
 fn remote_of(rtr: &Option<Number>) -> Option<bool>
-    ensures { MatchOption result ((remote : Bool) → IsRemoteOf rtr.now remote → ⊥) (IsRemoteOf rtr.now) }
+    ensures { Finds (IsRemoteOf rtr.now) result }
 {
     match rtr {
         None => Some(false),
@@ -154,9 +154,9 @@ fn remote_of(rtr: &Option<Number>) -> Option<bool>
     }
 }
 
-// The number's value, or None where it has the mark of an extended identifier or is above the limit.
+/// The number's value, or None where it has the mark of an extended identifier or is above the limit.
 fn plain_number(number: &Number, limit: u64) -> Option<u64>
-    ensures { MatchOption result ((n : ℕ) → IsPlainNumber number.now limit n → ⊥) (IsPlainNumber number.now limit) }
+    ensures { Finds (IsPlainNumber number.now limit) result }
 {
     if number.ext {
         return None;
@@ -164,9 +164,9 @@ fn plain_number(number: &Number, limit: u64) -> Option<u64>
     number.value.filter(|value| *value <= limit)
 }
 
-// Whether this is the name of a function of the language.
-fn is_profile_function(name: &[u8]) -> bool
-    ensures { IsTrue result ↔ Contains profile_functions name.now }
+/// Whether this is the name of a function of the language.
+fn is_function_name(name: &[u8]) -> bool
+    ensures { IsTrue result ↔ Contains function_names name.now }
 {
-    FUNCTIONS.contains(&name)
+    FUNCTION_NAMES.contains(&name)
 }

@@ -1,10 +1,10 @@
 // Scenario files.
 
-ghost use Rattle.std.specs.Prelude.{◌≡◌, ◌≢◌, ◌≤◌, ◌↔◌, ◌++◌, ◌∷◌, [], ◌*◌, ℕ, List, Option, IsTrue, IfOk, IfSome, IfNone, All, MatchOption, codes};
-ghost use Rattle.capl_lexer.specs.Bytes.{number_in};
-ghost use Rattle.sim_run.specs.declared.scenario.Scenario.{Scenario};
-ghost use Rattle.sim_run.specs.Scenario.{IsScenario, IsNodeName, IsFileName, IsEndMoment, scenario_text};
-ghost use Rattle.sim_run.specs.Lines.{AreLinesOf, HasNoLines, MillisOf, view_of_option};
+ghost use Rattle.std.specs.Prelude.{◌≡◌, ◌≢◌, ◌≤◌, ◌↔◌, ◌++◌, ◌∷◌, IsTrue, IfOk, IfSome, IfNone, All};
+ghost use Rattle.std.specs.Option.{option_map};
+ghost use Rattle.items.specs.Search.{Finds};
+ghost use Rattle.sim_run.specs.Scenario.{IsScenario, IsNodeName, IsFileName, IsEndMoment};
+ghost use Rattle.sim_run.specs.Inside.Fields.{AreFieldsOf, view_of_fields, view_of_option};
 
 use capl_lexer::{decimal_number, is_name};
 use memchr::memchr;
@@ -22,101 +22,105 @@ pub(crate) struct Scenario {
     pub(crate) until: u64,
 }
 
-// The fields in the lines of a scenario: the name of the node and of its source, and the digits of
-// the end moment, where they stand.
+/// The fields in the lines of a scenario: the name of the node and of its source, and the digits of
+/// the end moment, where they stand.
 #[derive(Clone, Copy)]
-struct Lines<'a> {
+struct Fields<'a> {
     node: &'a [u8],
     file: &'a [u8],
     until: Option<&'a [u8]>,
 }
 
-// The end moment of a scenario that has none, in milliseconds.
-const DEFAULT_MILLIS: u64 = 10_000;
+/// A day, the greatest end moment, in microseconds.
+pub(crate) const DAY: u64 = 86_400_000_000;
 
-// The greatest end moment, a day in milliseconds.
-const GREATEST_MILLIS: u64 = 86_400_000;
+// The end moment of a scenario that has none, in microseconds.
+const DEFAULT_END: u64 = 10_000_000;
 
 const MICROS_PER_MILLI: u64 = 1_000;
 
 /// The scenario that the text is, or None where it is none.
 pub(crate) fn scenario_of(alloc: Global, text: &[u8]) -> Result<Option<Scenario>, NoMemory>
-    ensures found { IfOk result (λ found. MatchOption found ((scenario : Scenario) → IsScenario text.now scenario → ⊥) (IsScenario text.now)) }
-    ensures within_a_day { IfOk result (λ found. IfSome found (λ scenario. scenario.until ≤ 86400000000)) }
+    ensures found { IfOk result (Finds (IsScenario text.now)) }
+    ensures within_a_day { IfOk result (λ found. IfSome found (λ scenario. scenario.until ≤ DAY)) }
 {
-    let Some(lines) = split_lines(text) else {
+    let Some(fields) = split_fields(text) else {
         return Ok(None);
     };
-    if !is_node_name(lines.node) || !is_file_name(lines.file) {
+    if !is_node_name(fields.node) || !is_file_name(fields.file) {
         return Ok(None);
     }
-    let Some(millis) = end_millis(lines.until) else {
+    let Some(until) = end_moment(fields.until) else {
         return Ok(None);
     };
     Ok(Some(Scenario {
-        node: Text::make(alloc, lines.node)?,
-        file: Text::make(alloc, lines.file)?,
-        until: millis * MICROS_PER_MILLI,
+        node: Text::make(alloc, fields.node)?,
+        file: Text::make(alloc, fields.file)?,
+        until,
     }))
 }
 
-// The fields in the two or three lines of a scenario. The node's name has no blank, and the name of
-// its source no line end.
-fn split_lines(text: &[u8]) -> Option<Lines<'_>>
-    ensures { MatchOption result (HasNoLines text.now) (λ lines. AreLinesOf text.now lines.node.now lines.file.now (view_of_option lines.until)) }
+/// The fields in the two or three lines of a scenario, or None where there are no such lines. The
+/// node's name has no blank, and the name of its source no line end.
+fn split_fields(text: &[u8]) -> Option<Fields<'_>>
+    ensures { Finds (AreFieldsOf text.now) (option_map view_of_fields result) }
 {
     let line = text.strip_prefix(b"scenario 1\nnode ")?;
     let (node, line) = split_at_byte(line, b' ')?;
     let (file, rest) = split_at_byte(line, b'\n')?;
     if rest.is_empty() {
-        return Some(Lines {
+        return Some(Fields {
             node,
             file,
             until: None,
         });
     }
     let digits = rest.strip_prefix(b"until ")?.strip_suffix(b"\n")?;
-    Some(Lines {
+    Some(Fields {
         node,
         file,
         until: Some(digits),
     })
 }
 
-// The bytes before and after the first that is this one.
+/// The bytes before and after the first that is this one, or None where none is.
 fn split_at_byte(bytes: &[u8], separator: u8) -> Option<(&[u8], &[u8])>
-    ensures found { IfSome result (λ parts. (bytes.now ≡ parts.0.now ++ separator ∷ parts.1.now) × All (λ byte. byte ≢ separator) parts.0.now) }
+    ensures found { IfSome result (λ parts. bytes.now ≡ parts.0.now ++ separator ∷ parts.1.now) }
+    ensures first { IfSome result (λ parts. All (λ byte. byte ≢ separator) parts.0.now) }
     ensures none { IfNone result (All (λ byte. byte ≢ separator) bytes.now) }
 {
     let place = memchr(separator, bytes)?;
     Some((&bytes[..place], &bytes[place + 1..]))
 }
 
+/// Whether a node may have this name.
 fn is_node_name(name: &[u8]) -> bool
     ensures { IsTrue result ↔ IsNodeName name.now }
 {
     name.len() <= 32 && name != b"replay".as_slice() && is_name(name)
 }
 
+/// Whether a source may have this name.
 fn is_file_name(file: &[u8]) -> bool
     ensures { IsTrue result ↔ IsFileName file.now }
 {
     !file.is_empty() && file.len() <= 255 && file.iter().all(|byte| (33..=126).contains(byte))
 }
 
-// The end moment in milliseconds, or None where the digits stand for none.
-fn end_millis(digits: Option<&[u8]>) -> Option<u64>
-    ensures { MillisOf (view_of_option digits.entry) result }
+/// The end moment in microseconds, or None where the digits stand for none.
+fn end_moment(digits: Option<&[u8]>) -> Option<u64>
+    ensures found { Finds (IsEndMoment (view_of_option digits.entry)) result }
+    ensures within_a_day { IfSome result (λ until. until ≤ DAY) }
 {
     let Some(digits) = digits else {
-        return Some(DEFAULT_MILLIS);
+        return Some(DEFAULT_END);
     };
     if digits.is_empty() || digits.len() > 20 {
         return None;
     }
     let millis = decimal_number(digits)?;
-    if millis > GREATEST_MILLIS {
+    if millis > DAY / MICROS_PER_MILLI {
         return None;
     }
-    Some(millis)
+    Some(millis * MICROS_PER_MILLI)
 }

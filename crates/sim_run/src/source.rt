@@ -1,14 +1,14 @@
 // Sources.
 
-ghost use Rattle.std.specs.Prelude.{◌≡◌, ◌<◌, ◌^◌, List, length, IfOk, MatchOption};
-ghost use Rattle.can_frame.specs.Frame.{FrameFields};
-ghost use Rattle.capl_parser.specs.declared.tree.FileTree.{FileTree};
+ghost use Rattle.std.specs.Prelude.{◌<◌, ◌^◌, length, IfOk};
+ghost use Rattle.items.specs.Search.{Finds};
 ghost use Rattle.sim_run.specs.Source.{IsSource};
 
 use crate::program::requests_of;
 use can_frame::Frame;
 use capl_lexer::{LexRefusal, lex};
 use capl_parser::{FileTree, ParseRefusal, parse};
+use items::Items;
 use sim_outside::NoMemory;
 use std::alloc::Global;
 
@@ -17,16 +17,14 @@ use std::alloc::Global;
 pub(crate) struct Source {
     /// Its tree.
     pub(crate) tree: FileTree,
-    /// The frames that it asks for, in order.
-    pub(crate) frames: Vec<Frame>,
+    /// The frames that it requests, in order.
+    pub(crate) frames: Items<Frame>,
 }
 
 /// The source that the text is, or None where it is none.
 pub(crate) fn source_of(alloc: Global, text: &[u8]) -> Result<Option<Source>, NoMemory>
     requires { length text.now < 2 ^ 32 }
-    ensures { IfOk result (λ found. MatchOption found
-        ((tree : FileTree) → (frames : List FrameFields) → IsSource text.now tree frames → ⊥)
-        (λ source. IsSource text.now source.tree source.frames.items)) }
+    ensures { IfOk result (Finds (IsSource text.now)) }
 {
     let tokens = match lex(alloc, text) {
         Ok(tokens) => tokens,

@@ -20,7 +20,7 @@ struct Run<'a> {
 
 const SCENARIO: &str = "scenario 1\nnode N n.can\n";
 
-// A run of `window s.scn` in which nothing fails.
+/// A run of `window s.scn` in which nothing fails.
 fn window<'a>(source: &'a str, status: Status, written: &'a str) -> Run<'a> {
     Run {
         words: &["window", "s.scn"],
@@ -33,7 +33,7 @@ fn window<'a>(source: &'a str, status: Status, written: &'a str) -> Run<'a> {
     }
 }
 
-// A run of `log s.scn` in which nothing fails.
+/// A run of `log s.scn` in which nothing fails.
 fn log<'a>(source: &'a str, written: &'a str) -> Run<'a> {
     Run {
         words: &["log", "s.scn"],
@@ -41,7 +41,7 @@ fn log<'a>(source: &'a str, written: &'a str) -> Run<'a> {
     }
 }
 
-// The files `s.scn` and `n.can`, where they are there.
+/// The files `s.scn` and `n.can`, where they are there.
 fn files(alloc: Global, run: &Run) -> Result<MemFiles, Fail> {
     let mut entries = Vec::new(alloc);
     for (name, text) in [("s.scn", run.scenario), ("n.can", run.source)] {
@@ -53,6 +53,7 @@ fn files(alloc: Global, run: &Run) -> Result<MemFiles, Fail> {
     Ok(MemFiles::new(entries, run.failing_reads.to_vec(alloc)?))
 }
 
+/// The words of a run.
 fn words(alloc: Global, run: &Run) -> Result<Vec<String>, Fail> {
     let mut words = Vec::new(alloc);
     for word in run.words {
@@ -103,12 +104,14 @@ fn frames_are_logged_as_the_bus_sends_them(rt: HostRuntime) -> Result<(), Fail> 
         log(two, two_lines),
         // A standard frame goes before an extended one of the same base bits.
         log(
-            "variables { message 0x0x a = {dlc=0}; message 0x0 b = {dlc=0}; } on start { output(a); output(b); }",
+            "variables { message 0x0x a = {dlc=0}; message 0x0 b = {dlc=0}; } \
+             on start { output(a); output(b); }",
             "(0000000000.000100) can0 000#\n(0000000000.000248) can0 00000000#\n",
         ),
         // Data goes before remote.
         log(
-            "variables { message 0x0 r = {dlc=0, rtr=1}; message 0x0 d = {dlc=0}; } on start { output(r); output(d); }",
+            "variables { message 0x0 r = {dlc=0, rtr=1}; message 0x0 d = {dlc=0}; } \
+             on start { output(r); output(d); }",
             "(0000000000.000100) can0 000#\n(0000000000.000200) can0 000#R\n",
         ),
         Run {
@@ -129,7 +132,7 @@ fn frames_are_logged_as_the_bus_sends_them(rt: HostRuntime) -> Result<(), Fail> 
     check(&rt, &runs)
 }
 
-// Each run ends and writes as it must.
+/// Each run ends and writes as it must.
 fn check(rt: &(impl AllocGlobal + Abort), runs: &[Run]) -> Result<(), Fail> {
     let alloc = rt.alloc();
     for run in runs {
@@ -159,6 +162,7 @@ fn long_sources_are_refused(rt: HostRuntime) -> Result<(), Fail> {
         assert_eq!(rt; simulate(alloc, &words, &mut files, &mut sink), status);
     }
     laws::one_answer();
+    laws::numbers_are_numerals();
     Ok(())
 }
 

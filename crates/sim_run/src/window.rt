@@ -1,14 +1,13 @@
-// Writing the window, and the line of a refusal.
+// The window: the lines of the texts that a node writes.
 
-ghost use Rattle.std.specs.Prelude.{◌≡◌, ◌≤◌, OnOk, OnErr, IsErrOf};
+ghost use Rattle.std.specs.Prelude.{◌≡◌, ◌≤◌, IfOk, IsErrOf};
 ghost use Rattle.std.specs.List.{flat_map};
 ghost use Rattle.sim_outside.specs.Fault.{HasRisen};
-ghost use Rattle.sim_outside.specs.Sink.{GrowsBy, GrowsByPrefix};
-ghost use Rattle.sim_run.specs.Window.{statement_line, window_of, refusal_line};
+ghost use Rattle.sim_outside.specs.Sink.{Writes};
+ghost use Rattle.sim_run.specs.Window.{window_line, statement_line, window_of};
 
-use crate::lines::{make_refusal_line, make_window_line};
 use capl_parser::{FileTree, Statement};
-use sim_outside::{Sink, SinkRefusal, Text};
+use sim_outside::{NoMemory, Sink, SinkRefusal, Text};
 use std::alloc::Global;
 
 /// Writes the window of a node, line by line.
@@ -18,8 +17,7 @@ pub(crate) fn write_window<S: Sink>(
     tree: &FileTree,
     out: &mut S,
 ) -> Result<(), SinkRefusal>
-    ensures ok { OnOk result (GrowsBy (S.written out.old) (S.written out.new) (window_of node.now tree.now)) }
-    ensures err { OnErr result (GrowsByPrefix (S.written out.old) (S.written out.new) (window_of node.now tree.now)) }
+    ensures grows { Writes (S.written out.old) (S.written out.new) (window_of node.now tree.now) result }
     ensures failed { IsErrOf result SinkRefusal.Failed → HasRisen (S.faults out.old) (S.faults out.new) }
 {
     match tree {
@@ -30,15 +28,15 @@ pub(crate) fn write_window<S: Sink>(
     }
 }
 
-// Writes the line of each statement.
+/// Writes the line of each statement that has one.
 fn write_statements<S: Sink>(
     alloc: Global,
     node: &[u8],
     statements: &[Statement],
     out: &mut S,
 ) -> Result<(), SinkRefusal>
-    ensures ok { OnOk result (GrowsBy (S.written out.old) (S.written out.new) (flat_map (statement_line node.now) statements.now)) }
-    ensures err { OnErr result (GrowsByPrefix (S.written out.old) (S.written out.new) (flat_map (statement_line node.now) statements.now)) }
+    ensures grows { Writes (S.written out.old) (S.written out.new)
+        (flat_map (statement_line node.now) statements.now) result }
     ensures failed { IsErrOf result SinkRefusal.Failed → HasRisen (S.faults out.old) (S.faults out.new) }
 {
     for statement in statements {
@@ -47,15 +45,15 @@ fn write_statements<S: Sink>(
     Ok(())
 }
 
-// Writes the line of one statement.
+/// Writes the line of a statement, if it has one.
 fn write_statement<S: Sink>(
     alloc: Global,
     node: &[u8],
     statement: &Statement,
     out: &mut S,
 ) -> Result<(), SinkRefusal>
-    ensures ok { OnOk result (GrowsBy (S.written out.old) (S.written out.new) (statement_line node.now statement.now)) }
-    ensures err { OnErr result (GrowsByPrefix (S.written out.old) (S.written out.new) (statement_line node.now statement.now)) }
+    ensures grows { Writes (S.written out.old) (S.written out.new)
+        (statement_line node.now statement.now) result }
     ensures failed { IsErrOf result SinkRefusal.Failed → HasRisen (S.faults out.old) (S.faults out.new) }
     ensures faults_stay { S.faults out.old ≤ S.faults out.new }
 {
@@ -68,16 +66,21 @@ fn write_statement<S: Sink>(
     }
 }
 
-/// Writes the line of a file that is not of the form that is taken.
-pub(crate) fn write_refusal<S: Sink>(
-    alloc: Global,
-    file: &Text,
-    out: &mut S,
-) -> Result<(), SinkRefusal>
-    ensures ok { OnOk result (GrowsBy (S.written out.old) (S.written out.new) (refusal_line file.now)) }
-    ensures err { OnErr result (GrowsByPrefix (S.written out.old) (S.written out.new) (refusal_line file.now)) }
-    ensures failed { IsErrOf result SinkRefusal.Failed → HasRisen (S.faults out.old) (S.faults out.new) }
+/// The line of a text that a node writes at the start, with its line end. Takes time and memory linear
+/// in both.
+fn make_window_line(alloc: Global, node: &[u8], text: &[u8]) -> Result<Text, NoMemory>
+    ensures { IfOk result (λ line. line ≡ window_line node.now text.now) }
 {
-    let line = make_refusal_line(alloc, file.bytes())?;
-    out.write(line.bytes())
+    let mut line = Vec::from_slice(alloc, b"w 0.000000 ")?;
+    line.extend_from_slice(node)?;
+    line.push(b' ')?;
+    for byte in text {
+        match byte {
+            b'\n' => line.extend_from_slice(b"\\n")?,
+            b'\r' => line.extend_from_slice(b"\\r")?,
+            _ => line.push(*byte)?,
+        }
+    }
+    line.push(b'\n')?;
+    Text::make(alloc, &line)
 }

@@ -1,4 +1,5 @@
-use Rattle.sim_run.proofs.OneAnswer.{one_answer, some_answer}
+-- The answer's laws are lemmas.
+use Rattle.sim_run.proofs.AnswerLemmas.{one_answer, some_answer}
 use Rattle.sim_run.proofs.laws.one_answer.Goals as goal
 
 pub returns-clause-at_most_one : goal.returns-clause-at_most_one

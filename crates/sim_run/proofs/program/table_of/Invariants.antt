@@ -1,6 +1,7 @@
+-- What stands between two declarations.
 use Rattle.std.proofs.Common.{take}
 use Rattle.sim_run.specs.Program.{AreVariables}
-use Rattle.sim_run.specs.Table.{IsTable}
+use Rattle.sim_run.specs.Inside.Table.{IsTable}
 use Rattle.sim_run.proofs.program.table_of.Given as goal
 
 -- the table has the declarations that were passed, and these are variables

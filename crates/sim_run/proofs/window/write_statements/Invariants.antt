@@ -1,3 +1,4 @@
+-- What stands between two statements.
 use Rattle.std.proofs.Common.{◌≤◌, take}
 use Rattle.std.specs.List.{flat_map}
 use Rattle.sim_outside.specs.Sink.{GrowsBy}

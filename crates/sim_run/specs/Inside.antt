@@ -1,0 +1,5 @@
+-- What private functions mean. No public clause speaks of it.
+pub mod Answer
+pub mod Fields
+pub mod Inputs
+pub mod Table
