@@ -148,9 +148,13 @@ def in_reading_order(uses):
 
 
 def row(number, path):
-    """The row of a definition file, with the line that it begins with."""
-    about = path.read_text(encoding="utf-8").split("\n")[0].lstrip("- ")
-    return f"| {number} | `{name_of(path)}` | {lines_of(path)} | {about} |"
+    """The row of a definition file, with the comment that it begins with."""
+    about = []
+    for line in path.read_text(encoding="utf-8").split("\n"):
+        if not line.startswith("--"):
+            break
+        about.append(line.lstrip("- "))
+    return f"| {number} | `{name_of(path)}` | {lines_of(path)} | {' '.join(about)} |"
 
 
 def main():

@@ -23,8 +23,8 @@ answered (Some outcome) m = Ends outcome m
 
 -- the row of an instruction that asks nothing of the host leads from a state to another in this code, where
 -- the machine goes on or has ended
-pub record DoesIn (code : Code) (instr : Instr) (before : RunState) (end : Option Outcome) (after : RunState) :
-    Type 0 where
+pub record DoesIn (code : Code) (instr : Instr) (before : RunState) (end : Option Outcome)
+    (after : RunState) : Type 0 where
   pub room : HasSameRoom before after
   pub leads : (closed : Bool) (moment : ℕ) (active : List Bool) (effects : List Effect) →
       row code closed moment (machine before active effects) instr before.stack
