@@ -8,13 +8,14 @@ use Rattle.worlds.specs.Turns.{AddsNoTurns, Agree}
 use Rattle.worlds.proofs.Turns.{nothing_adds_none}
 use Rattle.worlds.proofs.Fuel.{agree_below, same_calls, same_deciding, same_followed_by, same_in_order, same_loop, same_round, same_then}
 use Rattle.typed_tree.specs.declared.expression.Place.{Place}
-use Rattle.typed_tree.specs.declared.expression.Place.TheVariants.{Cell, Elem', Bytes', Signal}
+use Rattle.typed_tree.specs.declared.expression.Place.TheVariants.{Cell, Signal}
 use Rattle.typed_tree.specs.declared.expression.Place.TheVariants as place
 use Rattle.typed_tree.specs.declared.expression.TExpr.{TExpr, Row_of-TExpr, end_of-TExpr, more_of-TExpr}
-use Rattle.typed_tree.specs.declared.expression.TExpr.TheVariants.{Const, Load, Store', Update', Bump, Unary', Binary', Both', Either', Cond', Convert', Call', Active, Now}
+use Rattle.typed_tree.specs.declared.expression.TExpr.TheVariants.{Const, Load, Bump, Call', Active, Now}
 use Rattle.typed_tree.specs.declared.statement.TStmt.{TStmt, Row_of-TStmt, end_of-TStmt, more_of-TStmt}
-use Rattle.typed_tree.specs.declared.statement.TStmt.TheVariants.{Empty, Block', If', While', Do', For', Switch', Break, Continue, Return, Eval, Write, Send, Copy, Halt, Set, Cancel}
-use Rattle.typed_tree.specs.declared.statement.TStmt.TheBlock.{Held-TStmt-If-1, None', Some', Row_of-TArm, end_of-TArm, more_of-TArm, Row_of-TGroup, end_of-TGroup, more_of-TGroup}
+use Rattle.typed_tree.specs.declared.statement.TStmt.TheVariants.{Empty, Block', If', Switch', Break, Continue, Return, Eval, Write, Send, Copy, Halt, Set, Cancel}
+use Rattle.typed_tree.specs.declared.statement.TStmt.TheBlock.{Held-TStmt-If-1, Row_of-TArm, end_of-TArm, more_of-TArm, Row_of-TGroup, end_of-TGroup, more_of-TGroup}
+use Rattle.typed_tree.specs.Forms.{Binary, Both, Bytes, Cond, Convert, Do, Either, Elem, For, NoPart, Part, Store, Unary, Update, While}
 use Rattle.typed_tree.specs.Memory.{Memory}
 use Rattle.typed_tree.specs.Expression.{Setting, spot_of, truth_of, value_of, values_of}
 use Rattle.typed_tree.specs.Statement.{arms_of, for_test, group_for, groups_of, labels_of, numbers_of, part_of, returns, stmt_of, stmts_of}
@@ -32,14 +33,14 @@ module _ (s : Setting) (call call' : Calls Memory) (calls : (f : ℕ) → AddsNo
       same = λ w le. same_then w.turns _ _ _ _ ((same_spot place).same w le) ((spot_adds_none s call' calls place).turns w)
           (λ spot. record { same = λ w' le'. refl });
     }
-    same_value (Store' place p e) = record {
+    same_value (Store place e) = record {
       same = λ w le. same_then w.turns _ _ _ _ ((same_spot place).same w le) ((spot_adds_none s call' calls place).turns w)
           (λ spot. record {
             same = λ w' le'. same_then w'.turns _ _ _ _ ((same_value e).same w' (omega (arith, le, le'))) ((value_adds_none s call' calls e).turns w')
                 (λ m. record { same = λ w'' le''. refl });
           });
     }
-    same_value (Update' op k back place p e) = record {
+    same_value (Update op k back place e) = record {
       same = λ w le. same_then w.turns _ _ _ _ ((same_spot place).same w le) ((spot_adds_none s call' calls place).turns w)
           (λ spot. record {
             same = λ w' le'. same_then w'.turns _ _ _ _ ((same_value e).same w' (omega (arith, le, le'))) ((value_adds_none s call' calls e).turns w')
@@ -50,30 +51,30 @@ module _ (s : Setting) (call call' : Calls Memory) (calls : (f : ℕ) → AddsNo
       same = λ w le. same_then w.turns _ _ _ _ ((same_spot place).same w le) ((spot_adds_none s call' calls place).turns w)
           (λ spot. record { same = λ w' le'. refl });
     }
-    same_value (Unary' op k p e) = record {
+    same_value (Unary op k e) = record {
       same = λ w le. same_then w.turns _ _ _ _ ((same_value e).same w le) ((value_adds_none s call' calls e).turns w)
           (λ m. record { same = λ w' le'. refl });
     }
-    same_value (Binary' op k p a q b) = record {
+    same_value (Binary op k a b) = record {
       same = λ w le. same_then w.turns _ _ _ _ ((same_value a).same w le) ((value_adds_none s call' calls a).turns w)
           (λ m. record {
             same = λ w' le'. same_then w'.turns _ _ _ _ ((same_value b).same w' (omega (arith, le, le'))) ((value_adds_none s call' calls b).turns w')
                 (λ m'. record { same = λ w'' le''. refl });
           });
     }
-    same_value (Both' p a q b) = record {
+    same_value (Both a b) = record {
       same = λ w le. same_deciding w.turns _ _ _ _ _ _ ((same_value a).same w le) ((value_adds_none s call' calls a).turns w)
           (record { same = λ w' le'. ap (run_map truth_of) ((same_value b).same w' (omega (arith, le, le'))) }) (record { same = λ w' le'. refl });
     }
-    same_value (Either' p a q b) = record {
+    same_value (Either a b) = record {
       same = λ w le. same_deciding w.turns _ _ _ _ _ _ ((same_value a).same w le) ((value_adds_none s call' calls a).turns w)
           (record { same = λ w' le'. refl }) (record { same = λ w' le'. ap (run_map truth_of) ((same_value b).same w' (omega (arith, le, le'))) });
     }
-    same_value (Cond' p test q a r b) = record {
+    same_value (Cond test a b) = record {
       same = λ w le. same_deciding w.turns _ _ _ _ _ _ ((same_value test).same w le) ((value_adds_none s call' calls test).turns w)
           (agree_below w.turns n _ _ le (same_value a)) (agree_below w.turns n _ _ le (same_value b));
     }
-    same_value (Convert' k p e) = record {
+    same_value (Convert k e) = record {
       same = λ w le. same_then w.turns _ _ _ _ ((same_value e).same w le) ((value_adds_none s call' calls e).turns w)
           (λ m. record { same = λ w' le'. refl });
     }
@@ -87,12 +88,12 @@ module _ (s : Setting) (call call' : Calls Memory) (calls : (f : ℕ) → AddsNo
     -- a place does the same
     pub same_spot : (place : Place) → Agree n (spot_of s call place) (spot_of s call' place)
     same_spot (Cell cell) = record { same = λ w le. refl }
-    same_spot (Elem' base len p index) = record {
+    same_spot (Elem base len index) = record {
       same = λ w le. same_then w.turns _ _ _ _ ((same_value index).same w le) ((value_adds_none s call' calls index).turns w)
           (λ i. record { same = λ w' le'. refl });
     }
     same_spot (place.Set at field) = record { same = λ w le. refl }
-    same_spot (Bytes' at k p index) = record {
+    same_spot (Bytes at k index) = record {
       same = λ w le. same_then w.turns _ _ _ _ ((same_value index).same w le) ((value_adds_none s call' calls index).turns w)
           (λ i. record { same = λ w' le'. refl });
     }
@@ -137,17 +138,17 @@ module _ (s : Setting) (call call' : Calls Memory) (calls : (f : ℕ) → AddsNo
       same_stmt Empty = record { same = λ w le. refl }
       same_stmt (Block' shape all) = record { same = (same_stmts all).same }
       same_stmt (If' shape arms other) = record { same = (same_arms arms _ _ (same_part other)).same }
-      same_stmt (While' test p body) = record {
+      same_stmt (While test body) = record {
         same = (same_loop n (suc k) (suc k') _ _ _ _ _ _ (omega (arith, enough)) (omega (arith, enough')) (value_adds_none s call' calls test)
             (stmt_adds_none s call' calls k' body) nothing_adds_none (same_value test) (same_stmt body) (record { same = λ w le. refl })).same;
       }
-      same_stmt (Do' p body test) = record {
+      same_stmt (Do body test) = record {
         same = (same_round n _ _ _ _ (stmt_adds_none s call' calls k' body) (same_stmt body) (λ m less.
             same_loop m k k' _ _ _ _ _ _ (omega (arith, enough, less)) (omega (arith, enough', less)) (value_adds_none s call' calls test)
             (stmt_adds_none s call' calls k' body) nothing_adds_none (agree_below m n _ _ (omega (arith, less)) (same_value test))
             (agree_below m n _ _ (omega (arith, less)) (same_stmt body)) (record { same = λ w le. refl }))).same;
       }
-      same_stmt (For' init test step p body) = record {
+      same_stmt (For init test step body) = record {
         same = (same_followed_by n _ _ _ _ (part_adds_none s call' calls k' init) (same_part init)
             (same_loop n (suc k) (suc k') _ _ _ _ _ _ (omega (arith, enough)) (omega (arith, enough')) (for_test_adds_none s call' calls test)
             (stmt_adds_none s call' calls k' body) (part_adds_none s call' calls k' step) (same_for_test test) (same_stmt body) (same_part step))).same;
@@ -196,8 +197,8 @@ module _ (s : Setting) (call call' : Calls Memory) (calls : (f : ℕ) → AddsNo
 
       -- a part that may be missing does the same
       pub same_part : (part : Held-TStmt-If-1) → Agree n (part_of s call k part) (part_of s call' k' part)
-      same_part None' = record { same = λ w le. refl }
-      same_part (Some' p part) = record { same = (same_stmt part).same }
+      same_part NoPart = record { same = λ w le. refl }
+      same_part (Part part) = record { same = (same_stmt part).same }
 
       -- the groups of a `switch` do the same
       pub same_groups : {m : Count} (groups : Row_of-TGroup m) (j : ℕ) → Agree n (groups_of s call k groups j) (groups_of s call' k' groups j)

@@ -16,13 +16,14 @@ use Rattle.worlds.specs.Control.{Calls, Does}
 use Rattle.worlds.specs.Turns.{AddsNoTurns, LeavesAtMost}
 use Rattle.worlds.proofs.Turns.{at_most_deciding, at_most_leaving, at_most_map, at_most_then, calls_add_none, followed_by_adds_none, in_order_adds_none, loop_adds_none, nothing_adds_none, round_adds_none}
 use Rattle.typed_tree.specs.declared.expression.Place.{Place}
-use Rattle.typed_tree.specs.declared.expression.Place.TheVariants.{Cell, Elem', Bytes', Signal}
+use Rattle.typed_tree.specs.declared.expression.Place.TheVariants.{Cell, Signal}
 use Rattle.typed_tree.specs.declared.expression.Place.TheVariants as place
 use Rattle.typed_tree.specs.declared.expression.TExpr.{TExpr, Row_of-TExpr, end_of-TExpr, more_of-TExpr}
-use Rattle.typed_tree.specs.declared.expression.TExpr.TheVariants.{Const, Load, Store', Update', Bump, Unary', Binary', Both', Either', Cond', Convert', Call', Active, Now}
+use Rattle.typed_tree.specs.declared.expression.TExpr.TheVariants.{Const, Load, Bump, Call', Active, Now}
 use Rattle.typed_tree.specs.declared.statement.TStmt.{TStmt, Row_of-TStmt, end_of-TStmt, more_of-TStmt}
-use Rattle.typed_tree.specs.declared.statement.TStmt.TheVariants.{Empty, Block', If', While', Do', For', Switch', Break, Continue, Return, Eval, Write, Send, Copy, Halt, Set, Cancel}
-use Rattle.typed_tree.specs.declared.statement.TStmt.TheBlock.{Held-TStmt-If-1, None', Some', Row_of-TArm, end_of-TArm, more_of-TArm, Row_of-TGroup, end_of-TGroup, more_of-TGroup}
+use Rattle.typed_tree.specs.declared.statement.TStmt.TheVariants.{Empty, Block', If', Switch', Break, Continue, Return, Eval, Write, Send, Copy, Halt, Set, Cancel}
+use Rattle.typed_tree.specs.declared.statement.TStmt.TheBlock.{Held-TStmt-If-1, Row_of-TArm, end_of-TArm, more_of-TArm, Row_of-TGroup, end_of-TGroup, more_of-TGroup}
+use Rattle.typed_tree.specs.Forms.{Binary, Both, Bytes, Cond, Convert, Do, Either, Elem, For, NoPart, Part, Store, Unary, Update, While}
 use Rattle.typed_tree.specs.Memory.{Memory, read, with_timer}
 use Rattle.typed_tree.specs.Expression.{Setting, gives_or_traps, indexing, operates, spot_of, stores, value_of, values_of}
 use Rattle.vm_host.specs.Duration.{micros}
@@ -50,11 +51,11 @@ module _ (s : Setting) (call : Calls Memory) (calls : (f : ℕ) → AddsNoTurns 
     pub value_adds_none : (e : TExpr) → AddsNoTurns (value_of s call e)
     value_adds_none (Const n) = record { turns = λ w. omega arith }
     value_adds_none (Load place) = record { turns = λ w. at_most_then w.turns _ _ ((spot_adds_none place).turns w) (λ spot w. omega arith) }
-    value_adds_none (Store' place p e) = record {
+    value_adds_none (Store place e) = record {
       turns = λ w. at_most_then w.turns _ _ ((spot_adds_none place).turns w) (λ spot w.
           at_most_then w.turns _ _ ((value_adds_none e).turns w) (λ n w. omega arith));
     }
-    value_adds_none (Update' op k back place p e) = record {
+    value_adds_none (Update op k back place e) = record {
       turns = λ w. at_most_then w.turns _ _ ((spot_adds_none place).turns w) (λ spot w.
           at_most_then w.turns _ _ ((value_adds_none e).turns w) (λ n w.
           at_most_then w.turns _ _ (at_most_operates op k _ n w) (λ new w. omega arith)));
@@ -64,22 +65,22 @@ module _ (s : Setting) (call : Calls Memory) (calls : (f : ℕ) → AddsNoTurns 
           at_most_then w.turns _ _ (at_most_operates (if up then Add else Sub) k (read spot w.memory.cells) (pos 1) w) (λ new w'.
           at_most_map w'.turns (λ now. if post then read spot w.memory.cells else now) (stores s spot new w') (omega arith)));
     }
-    value_adds_none (Unary' op k p e) = record { turns = λ w. at_most_map w.turns _ _ ((value_adds_none e).turns w) }
-    value_adds_none (Binary' op k p a q b) = record {
+    value_adds_none (Unary op k e) = record { turns = λ w. at_most_map w.turns _ _ ((value_adds_none e).turns w) }
+    value_adds_none (Binary op k a b) = record {
       turns = λ w. at_most_then w.turns _ _ ((value_adds_none a).turns w) (λ m w.
           at_most_then w.turns _ _ ((value_adds_none b).turns w) (λ n w. at_most_operates op k m n w));
     }
-    value_adds_none (Both' p a q b) = record {
+    value_adds_none (Both a b) = record {
       turns = λ w. at_most_deciding w.turns _ _ _ ((value_adds_none a).turns w)
           (record { turns = λ w. at_most_map w.turns _ _ ((value_adds_none b).turns w) }) (record { turns = λ w. omega arith });
     }
-    value_adds_none (Either' p a q b) = record {
+    value_adds_none (Either a b) = record {
       turns = λ w. at_most_deciding w.turns _ _ _ ((value_adds_none a).turns w) (record { turns = λ w. omega arith })
           (record { turns = λ w. at_most_map w.turns _ _ ((value_adds_none b).turns w) });
     }
-    value_adds_none (Cond' p test q a r b) =
+    value_adds_none (Cond test a b) =
         record { turns = λ w. at_most_deciding w.turns _ _ _ ((value_adds_none test).turns w) (value_adds_none a) (value_adds_none b) }
-    value_adds_none (Convert' k p e) = record { turns = λ w. at_most_map w.turns _ _ ((value_adds_none e).turns w) }
+    value_adds_none (Convert k e) = record { turns = λ w. at_most_map w.turns _ _ ((value_adds_none e).turns w) }
     value_adds_none (Call' f shape args) = record {
       turns = λ w. at_most_then w.turns _ _ ((values_add_none args).turns w) (λ ns w. (calls f).turns _);
     }
@@ -89,11 +90,11 @@ module _ (s : Setting) (call : Calls Memory) (calls : (f : ℕ) → AddsNoTurns 
     -- a place adds none
     pub spot_adds_none : (place : Place) → AddsNoTurns (spot_of s call place)
     spot_adds_none (Cell cell) = record { turns = λ w. omega arith }
-    spot_adds_none (Elem' base len p index) = record {
+    spot_adds_none (Elem base len index) = record {
       turns = λ w. at_most_then w.turns _ _ ((value_adds_none index).turns w) (λ i w. at_most_indexing len i w _);
     }
     spot_adds_none (place.Set at field) = record { turns = λ w. omega arith }
-    spot_adds_none (Bytes' at k p index) = record {
+    spot_adds_none (Bytes at k index) = record {
       turns = λ w. at_most_then w.turns _ _ ((value_adds_none index).turns w) (λ i w. at_most_indexing _ i w _);
     }
     spot_adds_none (Signal at l) = record { turns = λ w. omega arith }
@@ -151,12 +152,12 @@ module _ (s : Setting) (call : Calls Memory) (calls : (f : ℕ) → AddsNoTurns 
       stmt_adds_none Empty = record { turns = λ w. omega arith }
       stmt_adds_none (Block' shape all) = record { turns = (stmts_add_none all).turns }
       stmt_adds_none (If' shape arms other) = record { turns = (arms_add_none arms _ (part_adds_none other)).turns }
-      stmt_adds_none (While' test p body) =
+      stmt_adds_none (While test body) =
           record { turns = (loop_adds_none (suc n) _ _ _ (value_adds_none test) (stmt_adds_none body) nothing_adds_none).turns }
-      stmt_adds_none (Do' p body test) = record {
+      stmt_adds_none (Do body test) = record {
         turns = (round_adds_none _ _ (stmt_adds_none body) (loop_adds_none n _ _ _ (value_adds_none test) (stmt_adds_none body) nothing_adds_none)).turns;
       }
-      stmt_adds_none (For' init test step p body) = record {
+      stmt_adds_none (For init test step body) = record {
         turns = (followed_by_adds_none _ _ (part_adds_none init)
             (loop_adds_none (suc n) _ _ _ (for_test_adds_none test) (stmt_adds_none body) (part_adds_none step))).turns;
       }
@@ -193,8 +194,8 @@ module _ (s : Setting) (call : Calls Memory) (calls : (f : ℕ) → AddsNoTurns 
 
       -- a part that may be missing adds none
       pub part_adds_none : (part : Held-TStmt-If-1) → AddsNoTurns (part_of s call n part)
-      part_adds_none None' = record { turns = λ w. omega arith }
-      part_adds_none (Some' p part) = record { turns = (stmt_adds_none part).turns }
+      part_adds_none NoPart = record { turns = λ w. omega arith }
+      part_adds_none (Part part) = record { turns = (stmt_adds_none part).turns }
 
       -- the groups of a `switch` add none
       pub groups_add_none : {m : Count} (groups : Row_of-TGroup m) (k : ℕ) → AddsNoTurns (groups_of s call n groups k)

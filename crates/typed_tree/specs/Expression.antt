@@ -17,10 +17,11 @@ use Rattle.message_cells.specs.Message.{size}
 use Rattle.worlds.specs.World.{World, Run, Gives, Fails, and_then, run_map}
 use Rattle.worlds.specs.Control.{Calls, Computes, deciding}
 use Rattle.typed_tree.specs.declared.expression.Place.{Place}
-use Rattle.typed_tree.specs.declared.expression.Place.TheVariants.{Cell, Elem', Set, Bytes', Signal}
+use Rattle.typed_tree.specs.declared.expression.Place.TheVariants.{Cell, Set, Signal}
 use Rattle.typed_tree.specs.declared.expression.TExpr.{TExpr, Row_of-TExpr, end_of-TExpr, more_of-TExpr}
-use Rattle.typed_tree.specs.declared.expression.TExpr.TheVariants.{Const, Load, Store', Update', Bump, Unary', Binary', Both', Either', Cond', Convert', Call', Active, Now}
+use Rattle.typed_tree.specs.declared.expression.TExpr.TheVariants.{Const, Load, Bump, Call', Active, Now}
 use Rattle.typed_tree.specs.declared.program.Typed.{Typed}
+use Rattle.typed_tree.specs.Forms.{Binary, Both, Bytes, Cond, Convert, Either, Elem, Store, Unary, Update}
 use Rattle.typed_tree.specs.Memory.{InBytes, InCell, InField, InSignal, Memory, Spot, read, with_cells, write}
 
 -- where and when a part of a program runs: in which program, after the measurement has ended or not, and at
@@ -86,9 +87,9 @@ abbrev mutual
   pub value_of : Setting → Calls Memory → TExpr → Computes Memory
   value_of s call (Const n) w = Gives n w
   value_of s call (Load place) w = and_then (spot_of s call place w) reads
-  value_of s call (Store' place p e) w =
+  value_of s call (Store place e) w =
       and_then (spot_of s call place w) (λ spot w. and_then (value_of s call e w) (stores s spot))
-  value_of s call (Update' op k back place p e) w =
+  value_of s call (Update op k back place e) w =
       and_then (spot_of s call place w) (λ spot w. and_then (reads spot w) (λ old w.
       and_then (value_of s call e w) (λ n w. and_then (operates op k old n w) (λ new w.
       stores s spot (wrap back new) w))))
@@ -96,16 +97,16 @@ abbrev mutual
       and_then (spot_of s call place w) (λ spot w. and_then (reads spot w) (λ old w.
       and_then (operates (if up then Add else Sub) k old (pos 1) w) (λ new w.
       run_map (λ now. if post then old else now) (stores s spot new w))))
-  value_of s call (Unary' op k p e) w = run_map (prefix_value op k) (value_of s call e w)
-  value_of s call (Binary' op k p a q b) w =
+  value_of s call (Unary op k e) w = run_map (prefix_value op k) (value_of s call e w)
+  value_of s call (Binary op k a b) w =
       and_then (value_of s call a w) (λ m w. and_then (value_of s call b w) (λ n w. operates op k m n w))
-  value_of s call (Both' p a q b) w =
+  value_of s call (Both a b) w =
       deciding (value_of s call a w) (λ w. run_map truth_of (value_of s call b w)) (Gives (pos 0))
-  value_of s call (Either' p a q b) w =
+  value_of s call (Either a b) w =
       deciding (value_of s call a w) (Gives (pos 1)) (λ w. run_map truth_of (value_of s call b w))
-  value_of s call (Cond' p test q a r b) w =
+  value_of s call (Cond test a b) w =
       deciding (value_of s call test w) (value_of s call a) (value_of s call b)
-  value_of s call (Convert' k p e) w = run_map (wrap k) (value_of s call e w)
+  value_of s call (Convert k e) w = run_map (wrap k) (value_of s call e w)
   value_of s call (Call' f shape args) w = and_then (values_of s call args w) (calling s call f)
   value_of s call (Active timer) w = Gives (truth (slice_index_or w.memory.active timer false)) w
   value_of s call Now w = Gives (wrap Dword (pos (s.moment / 10))) w
@@ -113,10 +114,10 @@ abbrev mutual
   -- the spot that a place is, with the check of its index
   pub spot_of : Setting → Calls Memory → Place → World Memory → Run Memory Spot
   spot_of s call (Cell cell) w = Gives (InCell cell) w
-  spot_of s call (Elem' base len p index) w =
+  spot_of s call (Elem base len index) w =
       and_then (value_of s call index w) (λ i w. indexing len i w (λ i. InCell (base + i)))
   spot_of s call (Set at field) w = Gives (InField at field) w
-  spot_of s call (Bytes' at k p index) w =
+  spot_of s call (Bytes at k index) w =
       and_then (value_of s call index w) (λ i w. indexing (9 - size k) i w (InBytes at k))
   spot_of s call (Signal at l) w = Gives (InSignal at l) w
 

@@ -1,5 +1,6 @@
 -- The definitions of this crate.
 pub mod Expression
+pub mod Forms
 pub mod Memory
 pub mod Program
 pub mod Shape

@@ -9,29 +9,30 @@ use Rattle.int_kinds.specs.declared.operators.UnOp.TheVariants.{Not}
 use Rattle.int_kinds.specs.Kind.{width}
 use Rattle.message_cells.specs.Message.{message_kinds}
 use Rattle.typed_tree.specs.declared.expression.Place.{Place}
-use Rattle.typed_tree.specs.declared.expression.Place.TheVariants.{Cell, Elem', Set, Bytes', Signal}
+use Rattle.typed_tree.specs.declared.expression.Place.TheVariants.{Cell, Set, Signal}
 use Rattle.typed_tree.specs.declared.expression.TExpr.{TExpr}
-use Rattle.typed_tree.specs.declared.expression.TExpr.TheVariants.{Const, Load, Store', Update', Bump, Unary', Binary', Both', Either', Cond', Convert', Call', Active, Now}
+use Rattle.typed_tree.specs.declared.expression.TExpr.TheVariants.{Const, Load, Bump, Call', Active, Now}
 use Rattle.typed_tree.specs.declared.statement.TStmt.{TStmt, Row_of-TStmt, end_of-TStmt, more_of-TStmt}
 use Rattle.typed_tree.specs.declared.statement.TStmt.TheVariants.{Block', If', Break, Continue, Return}
-use Rattle.typed_tree.specs.declared.statement.TStmt.TheBlock.{Held-TStmt-If-1, None', Some', Row_of-TArm, end_of-TArm, more_of-TArm, Row_of-TGroup, end_of-TGroup, more_of-TGroup}
+use Rattle.typed_tree.specs.declared.statement.TStmt.TheBlock.{Held-TStmt-If-1, Row_of-TArm, end_of-TArm, more_of-TArm, Row_of-TGroup, end_of-TGroup, more_of-TGroup}
 use Rattle.typed_tree.specs.declared.program.Typed.{Typed}
+use Rattle.typed_tree.specs.Forms.{Binary, Both, Bytes, Cond, Convert, Either, Elem, NoPart, Part, Store, Unary, Update}
 use Rattle.typed_tree.specs.Memory.{kind_of}
 
 -- a place has an index, which stands on the stack while it is used
 abbrev pub has_index : Place → Bool
 has_index (Cell cell) = false
-has_index (Elem' base len p index) = true
+has_index (Elem base len index) = true
 has_index (Set at field) = false
-has_index (Bytes' at k p index) = true
+has_index (Bytes at k index) = true
 has_index (Signal at l) = false
 
 -- on how many low bits of a number it depends what a store to a place leaves there
 abbrev pub stored_width : Typed → Place → ℕ
 stored_width typed (Cell cell) = width (kind_of typed.cells cell)
-stored_width typed (Elem' base len p index) = width (kind_of typed.cells base)
+stored_width typed (Elem base len index) = width (kind_of typed.cells base)
 stored_width typed (Set at field) = width (kind_of message_kinds field)
-stored_width typed (Bytes' at k p index) = width k
+stored_width typed (Bytes at k index) = width k
 stored_width typed (Signal at l) = l.len
 
 -- the result of an operator is wrapped to a kind by an instruction of its own, since the store alone would
@@ -62,10 +63,10 @@ is_not _ = false
 
 -- an expression that gives 0 or 1 and nothing else
 abbrev pub is_truth : TExpr → Bool
-is_truth (Unary' op k p e) = is_not op
-is_truth (Binary' op k p a q b) = is_comparison op
-is_truth (Both' p a q b) = true
-is_truth (Either' p a q b) = true
+is_truth (Unary op k e) = is_not op
+is_truth (Binary op k a b) = is_comparison op
+is_truth (Both a b) = true
+is_truth (Either a b) = true
 is_truth (Active timer) = true
 is_truth _ = false
 
@@ -74,15 +75,15 @@ abbrev mutual
   pub is_plain : TExpr → Bool
   is_plain (Const n) = true
   is_plain (Load place) = has_plain_index place
-  is_plain (Store' place p e) = false
-  is_plain (Update' op k back place p e) = false
+  is_plain (Store place e) = false
+  is_plain (Update op k back place e) = false
   is_plain (Bump place k up post) = false
-  is_plain (Unary' op k p e) = is_plain e
-  is_plain (Binary' op k p a q b) = not (divides op) && (is_plain a && is_plain b)
-  is_plain (Both' p a q b) = is_plain a && is_plain b
-  is_plain (Either' p a q b) = is_plain a && is_plain b
-  is_plain (Cond' p test q a r b) = is_plain test && (is_plain a && is_plain b)
-  is_plain (Convert' k p e) = is_plain e
+  is_plain (Unary op k e) = is_plain e
+  is_plain (Binary op k a b) = not (divides op) && (is_plain a && is_plain b)
+  is_plain (Both a b) = is_plain a && is_plain b
+  is_plain (Either a b) = is_plain a && is_plain b
+  is_plain (Cond test a b) = is_plain test && (is_plain a && is_plain b)
+  is_plain (Convert k e) = is_plain e
   is_plain (Call' f shape args) = false
   is_plain (Active timer) = true
   is_plain Now = true
@@ -90,9 +91,9 @@ abbrev mutual
   -- a place whose index, if it has one, is such an expression
   pub has_plain_index : Place → Bool
   has_plain_index (Cell cell) = true
-  has_plain_index (Elem' base len p index) = is_plain index
+  has_plain_index (Elem base len index) = is_plain index
   has_plain_index (Set at field) = true
-  has_plain_index (Bytes' at k p index) = is_plain index
+  has_plain_index (Bytes at k index) = is_plain index
   has_plain_index (Signal at l) = true
 
 -- An assignment has an instruction that checks the index before the right side is evaluated. Where the right
@@ -143,8 +144,8 @@ abbrev mutual
 
   -- a part that may be missing goes on
   pub part_goes_on : Held-TStmt-If-1 → Bool
-  part_goes_on None' = true
-  part_goes_on (Some' p part) = goes_on part
+  part_goes_on NoPart = true
+  part_goes_on (Part part) = goes_on part
 
 -- the last of the statements of a procedure goes on, or what stands before them where there is none
 abbrev pub body_goes_on : Bool → List TStmt → Bool

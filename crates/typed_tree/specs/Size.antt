@@ -4,14 +4,15 @@
 use Rattle.std.specs.Prelude.{ℕ, ◌+◌, ◌*◌, Bool, true, false, not, ◌&&◌, if◌then◌else◌, ◌==◌, List, [], ◌∷◌, length, take, sum, sum_by, count_by, is_some, ℤ, Option, Some, None}
 use Rattle.int_kinds.specs.declared.operators.BinOp.{BinOp}
 use Rattle.typed_tree.specs.declared.expression.Place.{Place}
-use Rattle.typed_tree.specs.declared.expression.Place.TheVariants.{Cell, Elem', Bytes', Signal}
+use Rattle.typed_tree.specs.declared.expression.Place.TheVariants.{Cell, Signal}
 use Rattle.typed_tree.specs.declared.expression.Place.TheVariants as place
 use Rattle.typed_tree.specs.declared.expression.TExpr.{TExpr, Row_of-TExpr, end_of-TExpr, more_of-TExpr}
-use Rattle.typed_tree.specs.declared.expression.TExpr.TheVariants.{Const, Load, Store', Update', Bump, Unary', Binary', Both', Either', Cond', Convert', Call', Active, Now}
+use Rattle.typed_tree.specs.declared.expression.TExpr.TheVariants.{Const, Load, Bump, Call', Active, Now}
 use Rattle.typed_tree.specs.declared.statement.TStmt.{TStmt, Row_of-TStmt, end_of-TStmt, more_of-TStmt}
-use Rattle.typed_tree.specs.declared.statement.TStmt.TheVariants.{Empty, Block', If', While', Do', For', Switch', Break, Continue, Return, Eval, Write, Send, Copy, Halt, Set, Cancel}
-use Rattle.typed_tree.specs.declared.statement.TStmt.TheBlock.{Held-TStmt-If-1, None', Some', Row_of-TArm, end_of-TArm, more_of-TArm, Row_of-TGroup, end_of-TGroup, more_of-TGroup}
+use Rattle.typed_tree.specs.declared.statement.TStmt.TheVariants.{Empty, Block', If', Switch', Break, Continue, Return, Eval, Write, Send, Copy, Halt, Set, Cancel}
+use Rattle.typed_tree.specs.declared.statement.TStmt.TheBlock.{Held-TStmt-If-1, Row_of-TArm, end_of-TArm, more_of-TArm, Row_of-TGroup, end_of-TGroup, more_of-TGroup}
 use Rattle.typed_tree.specs.declared.program.Typed.{Typed}
+use Rattle.typed_tree.specs.Forms.{Binary, Both, Bytes, Cond, Convert, Do, Either, Elem, For, NoPart, Part, Store, Unary, Update, While}
 use Rattle.typed_tree.specs.Expression.{params_of}
 use Rattle.typed_tree.specs.Statement.{default_group, labels_of}
 use Rattle.typed_tree.specs.Shape.{body_goes_on, goes_on, has_index, is_break, is_checked_first, is_comparison, is_end, is_end_of_groups, is_not, is_truth, is_wrapped_first, leaves_number}
@@ -83,22 +84,22 @@ abbrev mutual
   pub sizes_of : Typed → TExpr → Sizes
   sizes_of typed (Const n) = by_value 1
   sizes_of typed (Load place) = by_value (index_size typed place + 1)
-  sizes_of typed (Store' place p e) =
+  sizes_of typed (Store place e) =
       by_value (index_size typed place + (one_if (is_checked_first place e) + ((sizes_of typed e).value + 1)))
-  sizes_of typed (Update' op k back place p e) =
+  sizes_of typed (Update op k back place e) =
       by_value (index_size typed place + (one_if (has_index place) + (1 + ((sizes_of typed e).value +
       (1 + (one_if (is_wrapped_first typed place back) + 1))))))
   sizes_of typed (Bump place k up post) = by_value (index_size typed place + bump_size place post)
-  sizes_of typed (Unary' op k p e) =
+  sizes_of typed (Unary op k e) =
       if is_not op then negation_sizes (sizes_of typed e) else by_value ((sizes_of typed e).value + 1)
-  sizes_of typed (Binary' op k p a q b) =
+  sizes_of typed (Binary op k a b) =
       operator_sizes op ((sizes_of typed a).value + ((sizes_of typed b).value + 1))
-  sizes_of typed (Both' p a q b) = both_sizes (sizes_of typed a) (sizes_of typed b) (truth_size b)
-  sizes_of typed (Either' p a q b) = either_sizes (sizes_of typed a) (sizes_of typed b) (truth_size b)
-  sizes_of typed (Cond' p test q a r b) =
+  sizes_of typed (Both a b) = both_sizes (sizes_of typed a) (sizes_of typed b) (truth_size b)
+  sizes_of typed (Either a b) = either_sizes (sizes_of typed a) (sizes_of typed b) (truth_size b)
+  sizes_of typed (Cond test a b) =
       by_value ((sizes_of typed test).test false false +
       ((sizes_of typed a).value + (1 + (sizes_of typed b).value)))
-  sizes_of typed (Convert' k p e) = by_value ((sizes_of typed e).value + 1)
+  sizes_of typed (Convert k e) = by_value ((sizes_of typed e).value + 1)
   sizes_of typed (Call' f shape args) = by_value (args_size typed args + (2 * length (params_of typed f) + 1))
   sizes_of typed (Active timer) = by_value 1
   sizes_of typed Now = by_value 1
@@ -106,9 +107,9 @@ abbrev mutual
   -- the size of a place's index
   pub index_size : Typed → Place → ℕ
   index_size typed (Cell cell) = 0
-  index_size typed (Elem' base len p index) = (sizes_of typed index).value
+  index_size typed (Elem base len index) = (sizes_of typed index).value
   index_size typed (place.Set at field) = 0
-  index_size typed (Bytes' at k p index) = (sizes_of typed index).value
+  index_size typed (Bytes at k index) = (sizes_of typed index).value
   index_size typed (Signal at l) = 0
 
   -- the size of arguments
@@ -159,9 +160,9 @@ abbrev mutual
   stmt_size typed Empty = 0
   stmt_size typed (Block' shape all) = stmts_size typed all
   stmt_size typed (If' shape arms other) = arms_size typed arms (part_size typed other)
-  stmt_size typed (While' test p body) = loop_size (stmt_size typed body) (test_size typed true true test)
-  stmt_size typed (Do' p body test) = 1 + (stmt_size typed body + test_size typed true true test)
-  stmt_size typed (For' init test step p body) =
+  stmt_size typed (While test body) = loop_size (stmt_size typed body) (test_size typed true true test)
+  stmt_size typed (Do body test) = 1 + (stmt_size typed body + test_size typed true true test)
+  stmt_size typed (For init test step body) =
       part_size typed init +
       loop_size (stmt_size typed body + part_size typed step) (for_test_size typed test)
   stmt_size typed (Switch' on shape groups) =
@@ -192,8 +193,8 @@ abbrev mutual
 
   -- the size of a part that may be missing
   pub part_size : Typed → Held-TStmt-If-1 → ℕ
-  part_size typed None' = 0
-  part_size typed (Some' p part) = stmt_size typed part
+  part_size typed NoPart = 0
+  part_size typed (Part part) = stmt_size typed part
 
   -- the sizes of the groups of a `switch`
   pub group_sizes : Typed → {m : _} → Row_of-TGroup m → List ℕ

@@ -1,5 +1,5 @@
 -- All that the compiler asks of a typed program.
-use Rattle.std.specs.Prelude.{◌≡◌, ◌≢◌, ◌⊎◌, ℕ, ◌<◌, ◌≤◌, ◌^◌, false, List, length, take, is_some, slice_get, flat_map, filter_map, Option, Some, IsSomeAnd, All, AllPairs, ℤ}
+use Rattle.std.specs.Prelude.{◌≡◌, ◌≢◌, ℕ, ◌<◌, ◌^◌, false, List, length, is_some, slice_get, flat_map, filter_map, Option, Some, IsSomeAnd, All, AllPairs, ℤ}
 use Rattle.std.specs.List.{AllByRecursion}
 use Rattle.int_kinds.specs.declared.kinds.Kind.{Kind}
 use Rattle.int_kinds.specs.Kind.{Holds}
@@ -59,7 +59,9 @@ all_timers handlers = filter_map (λ handler. timer_of handler.event) handlers
 abbrev pub all_keys : List THandler → List (Option ℕ)
 all_keys handlers = filter_map (λ handler. key_of handler.event) handlers
 
--- a typed program is sound
+-- A typed program is sound. No list in it is too long, and its functions and event procedures are sound. Its
+-- first cells are the event's, and initial values are held by their cells' kinds. No two selectors of one
+-- rank overlap, and no two event procedures have the same timer or the same key.
 pub record IsSound (typed : Typed) : Type 0 where
   pub short : IsShortProgram typed
   pub functions : (number : ℕ) (function : TFun) →

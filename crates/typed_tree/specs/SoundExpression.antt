@@ -10,10 +10,11 @@ use Rattle.signal_codec.specs.Signal.{IsUsable}
 use Rattle.write_format.specs.Arrays.{cells_of}
 use Rattle.message_cells.specs.Message.{IsMessage}
 use Rattle.typed_tree.specs.declared.expression.Place.{Place}
-use Rattle.typed_tree.specs.declared.expression.Place.TheVariants.{Cell, Elem', Set, Bytes', Signal}
+use Rattle.typed_tree.specs.declared.expression.Place.TheVariants.{Cell, Set, Signal}
 use Rattle.typed_tree.specs.declared.expression.TExpr.{TExpr, Row_of-TExpr, end_of-TExpr, more_of-TExpr, items-the_row-TExpr}
-use Rattle.typed_tree.specs.declared.expression.TExpr.TheVariants.{Const, Load, Store', Update', Bump, Unary', Binary', Both', Either', Cond', Convert', Call', Active, Now}
+use Rattle.typed_tree.specs.declared.expression.TExpr.TheVariants.{Const, Load, Bump, Call', Active, Now}
 use Rattle.typed_tree.specs.declared.program.Typed.{Typed}
+use Rattle.typed_tree.specs.Forms.{Binary, Both, Bytes, Cond, Convert, Either, Elem, Store, Unary, Update}
 use Rattle.typed_tree.specs.Memory.{kind_of}
 
 -- an array: at least one cell, and all its cells of one kind
@@ -25,16 +26,16 @@ pub record IsUniformArray (kinds : List Kind) (base len : ℕ) : Type 0 where
 -- all that a place names exists
 abbrev pub PlaceExists : Typed → Place → Type 0
 PlaceExists typed (Cell cell) = cell < length typed.cells
-PlaceExists typed (Elem' base len p index) = IsUniformArray typed.cells base len
+PlaceExists typed (Elem base len index) = IsUniformArray typed.cells base len
 PlaceExists typed (Set at field) = (field ≤ 3) × IsMessage typed.cells at
-PlaceExists typed (Bytes' at k p index) = IsMessage typed.cells at
+PlaceExists typed (Bytes at k index) = IsMessage typed.cells at
 PlaceExists typed (Signal at l) = IsUsable l × IsMessage typed.cells at
 
 -- all that an expression names, but for the function of a call, exists
 abbrev pub NamesWhatExists : Typed → TExpr → Type 0
 NamesWhatExists typed (Load place) = PlaceExists typed place
-NamesWhatExists typed (Store' place p e) = PlaceExists typed place
-NamesWhatExists typed (Update' op k back place p e) = PlaceExists typed place
+NamesWhatExists typed (Store place e) = PlaceExists typed place
+NamesWhatExists typed (Update op k back place e) = PlaceExists typed place
 NamesWhatExists typed (Bump place k up post) = PlaceExists typed place
 NamesWhatExists typed (Active timer) = timer < length typed.timers
 NamesWhatExists typed _ = ⊤
@@ -58,9 +59,9 @@ IsPrefixOperation _ = ⊤
 
 -- the operator of an expression is one on numbers
 abbrev pub HasOperation : TExpr → Type 0
-HasOperation (Update' op k back place p e) = IsOperation op
-HasOperation (Unary' op k p e) = IsPrefixOperation op
-HasOperation (Binary' op k p a q b) = IsOperation op
+HasOperation (Update op k back place e) = IsOperation op
+HasOperation (Unary op k e) = IsPrefixOperation op
+HasOperation (Binary op k a b) = IsOperation op
 HasOperation _ = ⊤
 
 -- a call in the procedure of a number is of a function of a smaller number, with as many arguments as it has
@@ -82,8 +83,8 @@ HasFewArguments _ = ⊤
 -- What 1 is added to at an index is no wider than the kind in which it is added, so that the number as it was
 -- can be had from what is stored.
 abbrev pub IsNoWider : Typed → Place → Kind → Type 0
-IsNoWider typed (Elem' base len p index) k = width (kind_of typed.cells base) ≤ width k
-IsNoWider typed (Bytes' at of p index) k = width of ≤ width k
+IsNoWider typed (Elem base len index) k = width (kind_of typed.cells base) ≤ width k
+IsNoWider typed (Bytes at of index) k = width of ≤ width k
 IsNoWider typed _ k = ⊤
 
 -- where the number as it was is given at an index, it can be had from what is stored
@@ -107,30 +108,30 @@ abbrev mutual
   IsSoundExpr typed number (Const n) = IsSoundNode typed number (Const n)
   IsSoundExpr typed number (Load place) =
       IsSoundNode typed number (Load place) × HasSoundIndex typed number place
-  IsSoundExpr typed number (Store' place p e) =
-      IsSoundNode typed number (Store' place p e) ×
+  IsSoundExpr typed number (Store place e) =
+      IsSoundNode typed number (Store place e) ×
       HasSoundIndex typed number place × IsSoundExpr typed number e
-  IsSoundExpr typed number (Update' op k back place p e) =
-      IsSoundNode typed number (Update' op k back place p e) ×
+  IsSoundExpr typed number (Update op k back place e) =
+      IsSoundNode typed number (Update op k back place e) ×
       HasSoundIndex typed number place × IsSoundExpr typed number e
   IsSoundExpr typed number (Bump place k up post) =
       IsSoundNode typed number (Bump place k up post) × HasSoundIndex typed number place
-  IsSoundExpr typed number (Unary' op k p e) =
-      IsSoundNode typed number (Unary' op k p e) × IsSoundExpr typed number e
-  IsSoundExpr typed number (Binary' op k p a q b) =
-      IsSoundNode typed number (Binary' op k p a q b) ×
+  IsSoundExpr typed number (Unary op k e) =
+      IsSoundNode typed number (Unary op k e) × IsSoundExpr typed number e
+  IsSoundExpr typed number (Binary op k a b) =
+      IsSoundNode typed number (Binary op k a b) ×
       IsSoundExpr typed number a × IsSoundExpr typed number b
-  IsSoundExpr typed number (Both' p a q b) =
-      IsSoundNode typed number (Both' p a q b) ×
+  IsSoundExpr typed number (Both a b) =
+      IsSoundNode typed number (Both a b) ×
       IsSoundExpr typed number a × IsSoundExpr typed number b
-  IsSoundExpr typed number (Either' p a q b) =
-      IsSoundNode typed number (Either' p a q b) ×
+  IsSoundExpr typed number (Either a b) =
+      IsSoundNode typed number (Either a b) ×
       IsSoundExpr typed number a × IsSoundExpr typed number b
-  IsSoundExpr typed number (Cond' p test q a r b) =
-      IsSoundNode typed number (Cond' p test q a r b) ×
+  IsSoundExpr typed number (Cond test a b) =
+      IsSoundNode typed number (Cond test a b) ×
       IsSoundExpr typed number test × IsSoundExpr typed number a × IsSoundExpr typed number b
-  IsSoundExpr typed number (Convert' k p e) =
-      IsSoundNode typed number (Convert' k p e) × IsSoundExpr typed number e
+  IsSoundExpr typed number (Convert k e) =
+      IsSoundNode typed number (Convert k e) × IsSoundExpr typed number e
   IsSoundExpr typed number (Call' f shape args) =
       IsSoundNode typed number (Call' f shape args) ×
       GivesNumber typed f × AreSoundArguments typed number args
@@ -140,9 +141,9 @@ abbrev mutual
   -- the index of a place, if it has one
   pub HasSoundIndex : Typed → ℕ → Place → Type 0
   HasSoundIndex typed number (Cell cell) = ⊤
-  HasSoundIndex typed number (Elem' base len p index) = IsSoundExpr typed number index
+  HasSoundIndex typed number (Elem base len index) = IsSoundExpr typed number index
   HasSoundIndex typed number (Set at field) = ⊤
-  HasSoundIndex typed number (Bytes' at k p index) = IsSoundExpr typed number index
+  HasSoundIndex typed number (Bytes at k index) = IsSoundExpr typed number index
   HasSoundIndex typed number (Signal at l) = ⊤
 
   -- the arguments of a call

@@ -6,9 +6,10 @@ use Rattle.write_format.specs.Format.{numbers_taken}
 use Rattle.message_cells.specs.Message.{IsMessage}
 use Rattle.typed_tree.specs.declared.expression.TExpr.{TExpr}
 use Rattle.typed_tree.specs.declared.statement.TStmt.{TStmt, Row_of-TStmt, end_of-TStmt, more_of-TStmt, items-the_row-TStmt}
-use Rattle.typed_tree.specs.declared.statement.TStmt.TheVariants.{Empty, Block', If', While', Do', For', Switch', Break, Continue, Return, Eval, Write, Send, Copy, Halt, Set, Cancel}
-use Rattle.typed_tree.specs.declared.statement.TStmt.TheBlock.{Held-TStmt-If-1, None', Some', Row_of-TArm, end_of-TArm, more_of-TArm, Row_of-TGroup, end_of-TGroup, more_of-TGroup, items-the_row-TArm}
+use Rattle.typed_tree.specs.declared.statement.TStmt.TheVariants.{Empty, Block', If', Switch', Break, Continue, Return, Eval, Write, Send, Copy, Halt, Set, Cancel}
+use Rattle.typed_tree.specs.declared.statement.TStmt.TheBlock.{Held-TStmt-If-1, Row_of-TArm, end_of-TArm, more_of-TArm, Row_of-TGroup, end_of-TGroup, more_of-TGroup, items-the_row-TArm}
 use Rattle.typed_tree.specs.declared.program.Typed.{Typed}
+use Rattle.typed_tree.specs.Forms.{Do, For, NoPart, Part, While}
 use Rattle.typed_tree.specs.Statement.{labels_of}
 use Rattle.typed_tree.specs.SoundExpression.{IsSoundAlone, IsSoundExpr}
 
@@ -64,12 +65,12 @@ IsPlainStmt _ = ⊥
 
 -- a part that may be missing is such a statement
 abbrev pub IsPlainPart : Held-TStmt-If-1 → Type 0
-IsPlainPart None' = ⊤
-IsPlainPart (Some' p part) = IsPlainStmt part
+IsPlainPart NoPart = ⊤
+IsPlainPart (Part part) = IsPlainStmt part
 
 -- the first and the third part of a `for` are such statements
 abbrev pub HasPlainParts : TStmt → Type 0
-HasPlainParts (For' init test step p body) = IsPlainPart init × IsPlainPart step
+HasPlainParts (For init test step body) = IsPlainPart init × IsPlainPart step
 HasPlainParts _ = ⊤
 
 -- a `return` has a value exactly where its procedure gives a number
@@ -123,12 +124,12 @@ abbrev mutual
   IsSoundStmt typed around (If' shape arms other) =
       IsSoundStmtNode typed around (If' shape arms other) ×
       AreSoundArms typed around arms × IsSoundPart typed around other
-  IsSoundStmt typed around (While' test p body) =
+  IsSoundStmt typed around (While test body) =
       IsSoundExpr typed around.number test × IsSoundStmt typed (in_loop around) body
-  IsSoundStmt typed around (Do' p body test) =
+  IsSoundStmt typed around (Do body test) =
       IsSoundStmt typed (in_loop around) body × IsSoundExpr typed around.number test
-  IsSoundStmt typed around (For' init test step p body) =
-      IsSoundStmtNode typed around (For' init test step p body) ×
+  IsSoundStmt typed around (For init test step body) =
+      IsSoundStmtNode typed around (For init test step body) ×
       IsSoundPart typed around init × IsSoundOption typed around.number test ×
       IsSoundPart typed around step × IsSoundStmt typed (in_loop around) body
   IsSoundStmt typed around (Switch' on shape groups) =
@@ -162,8 +163,8 @@ abbrev mutual
 
   -- a part that may be missing
   pub IsSoundPart : Typed → Around → Held-TStmt-If-1 → Type 0
-  IsSoundPart typed around None' = ⊤
-  IsSoundPart typed around (Some' p part) = IsSoundStmt typed around part
+  IsSoundPart typed around NoPart = ⊤
+  IsSoundPart typed around (Part part) = IsSoundStmt typed around part
 
   -- the groups of a `switch`, each of fewer than 2^32 statements
   pub AreSoundGroups : Typed → Around → {m : _} → Row_of-TGroup m → Type 0

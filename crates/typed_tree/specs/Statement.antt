@@ -13,8 +13,9 @@ use Rattle.worlds.specs.World.{World, Run, Gives, and_then, run_map, after_effec
 use Rattle.worlds.specs.Control.{Calls, Computes, Does, GoesOn, Breaks, Continues, Returns, deciding, for_loop, do_loop, followed_by, leaving_switch, nothing, while_loop}
 use Rattle.typed_tree.specs.declared.expression.TExpr.{TExpr}
 use Rattle.typed_tree.specs.declared.statement.TStmt.{TStmt, Row_of-TStmt, end_of-TStmt, more_of-TStmt}
-use Rattle.typed_tree.specs.declared.statement.TStmt.TheVariants.{Empty, Block', If', While', Do', For', Switch', Break, Continue, Return, Eval, Write, Send, Copy, Halt, Set, Cancel}
-use Rattle.typed_tree.specs.declared.statement.TStmt.TheBlock.{Held-TStmt-If-1, None', Some', Row_of-TArm, end_of-TArm, more_of-TArm, Row_of-TGroup, end_of-TGroup, more_of-TGroup}
+use Rattle.typed_tree.specs.declared.statement.TStmt.TheVariants.{Empty, Block', If', Switch', Break, Continue, Return, Eval, Write, Send, Copy, Halt, Set, Cancel}
+use Rattle.typed_tree.specs.declared.statement.TStmt.TheBlock.{Held-TStmt-If-1, Row_of-TArm, end_of-TArm, more_of-TArm, Row_of-TGroup, end_of-TGroup, more_of-TGroup}
+use Rattle.typed_tree.specs.Forms.{Do, For, NoPart, Part, While}
 use Rattle.typed_tree.specs.Memory.{Memory, with_cells, with_timer}
 use Rattle.typed_tree.specs.Expression.{Setting, value_of}
 
@@ -96,9 +97,9 @@ abbrev mutual
   stmt_of s call n Empty w = Gives GoesOn w
   stmt_of s call n (Block' shape all) w = stmts_of s call n all w
   stmt_of s call n (If' shape arms other) w = arms_of s call n arms (part_of s call n other) w
-  stmt_of s call n (While' test p body) w = while_loop n (value_of s call test) (stmt_of s call n body) w
-  stmt_of s call n (Do' p body test) w = do_loop n (stmt_of s call n body) (value_of s call test) w
-  stmt_of s call n (For' init test step p body) w =
+  stmt_of s call n (While test body) w = while_loop n (value_of s call test) (stmt_of s call n body) w
+  stmt_of s call n (Do body test) w = do_loop n (stmt_of s call n body) (value_of s call test) w
+  stmt_of s call n (For init test step body) w =
       for_loop n (part_of s call n init) (for_test s call test)
       (part_of s call n step) (stmt_of s call n body) w
   stmt_of s call n (Switch' on shape groups) w =
@@ -129,8 +130,8 @@ abbrev mutual
 
   -- a part of a statement that may be missing
   pub part_of : Setting → Calls Memory → ℕ → Held-TStmt-If-1 → Does Memory
-  part_of s call n None' w = nothing w
-  part_of s call n (Some' p part) w = stmt_of s call n part w
+  part_of s call n NoPart w = nothing w
+  part_of s call n (Part part) w = stmt_of s call n part w
 
   -- the groups of a `switch` from one on, by its number
   pub groups_of : Setting → Calls Memory → ℕ → {m : _} → Row_of-TGroup m → ℕ → Does Memory

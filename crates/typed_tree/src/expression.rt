@@ -1,6 +1,7 @@
 // Expressions.
 
 use int_kinds::{BinOp, Kind, UnOp};
+use items::{Boxed, Items};
 use signal_codec::Layout;
 
 /// Where a number stands that can be read and stored.
@@ -21,7 +22,7 @@ pub enum Place {
         /// How many cells the array has.
         len: u32,
         /// Which of them, from 0 on. An index outside is a trap.
-        index: Box<TExpr>,
+        index: Boxed<TExpr>,
     },
     /// A field of a message that is stored by a write rule.
     Set {
@@ -37,7 +38,7 @@ pub enum Place {
         /// The number's kind, which says how many bytes it has.
         kind: Kind,
         /// The first byte, from 0 on. An index from which on there are too few bytes is a trap.
-        index: Box<TExpr>,
+        index: Boxed<TExpr>,
     },
     /// A signal of a message.
     Signal {
@@ -64,7 +65,7 @@ pub enum TExpr {
         /// Where.
         place: Place,
         /// What.
-        value: Box<TExpr>,
+        value: Boxed<TExpr>,
     },
     /// Stores what an operator makes of the number at a place, which is read before the right
     /// operand is evaluated. Gives what the place then holds.
@@ -78,7 +79,7 @@ pub enum TExpr {
         /// The left operand, and where the result is stored.
         place: Place,
         /// The right operand.
-        value: Box<TExpr>,
+        value: Boxed<TExpr>,
     },
     /// Adds 1 to the number at a place, or takes 1 from it.
     Bump {
@@ -98,7 +99,7 @@ pub enum TExpr {
         /// The kind in which it works.
         kind: Kind,
         /// The operand.
-        inner: Box<TExpr>,
+        inner: Boxed<TExpr>,
     },
     /// A binary operator, which is not `||` or `&&`. A zero divisor is a trap, once both operands are
     /// evaluated.
@@ -108,41 +109,41 @@ pub enum TExpr {
         /// The kind in which it works.
         kind: Kind,
         /// The left operand.
-        left: Box<TExpr>,
+        left: Boxed<TExpr>,
         /// The right operand.
-        right: Box<TExpr>,
+        right: Boxed<TExpr>,
     },
     /// `&&`: 1 where both operands are not 0, and 0 otherwise. The right one is evaluated only where
     /// the left one is not 0.
     Both {
         /// The left operand.
-        left: Box<TExpr>,
+        left: Boxed<TExpr>,
         /// The right operand.
-        right: Box<TExpr>,
+        right: Boxed<TExpr>,
     },
     /// `||`: 1 where an operand is not 0, and 0 otherwise. The right one is evaluated only where the
     /// left one is 0.
     Either {
         /// The left operand.
-        left: Box<TExpr>,
+        left: Boxed<TExpr>,
         /// The right operand.
-        right: Box<TExpr>,
+        right: Boxed<TExpr>,
     },
     /// `?:`, which evaluates one of two expressions.
     Cond {
         /// What decides.
-        test: Box<TExpr>,
+        test: Boxed<TExpr>,
         /// What is evaluated where the test is not 0.
-        yes: Box<TExpr>,
+        yes: Boxed<TExpr>,
         /// What is evaluated where it is 0.
-        no: Box<TExpr>,
+        no: Boxed<TExpr>,
     },
     /// A number wrapped to a kind.
     Convert {
         /// The kind.
         kind: Kind,
         /// The number.
-        inner: Box<TExpr>,
+        inner: Boxed<TExpr>,
     },
     /// A call of a function: the arguments are evaluated, then stored in the parameters, then a turn
     /// is taken and the body runs. Gives what it returns, and 0 where it reaches its end.
@@ -150,7 +151,7 @@ pub enum TExpr {
         /// The function's number.
         function: u32,
         /// The arguments, one for each parameter.
-        args: Vec<TExpr>,
+        args: Items<TExpr>,
     },
     /// 1 where a timer is active, and 0 otherwise.
     Active {

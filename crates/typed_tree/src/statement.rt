@@ -1,7 +1,7 @@
 // Statements.
 
 use crate::expression::TExpr;
-use items::Items;
+use items::{Boxed, Items};
 
 /// A statement.
 #[derive(Debug, Drop)]
@@ -10,26 +10,26 @@ pub enum TStmt {
     /// Does nothing.
     Empty,
     /// Statements in a row.
-    Block(Vec<TStmt>),
+    Block(Items<TStmt>),
     /// The body of the first arm whose test is not 0, and what stands after the last `else` where
     /// there is none.
     If {
         /// The arms.
-        arms: Vec<TArm>,
+        arms: Items<TArm>,
         /// What stands after the last `else`.
-        other: Option<Box<TStmt>>,
+        other: Option<Boxed<TStmt>>,
     },
     /// Tests, takes a turn and runs the body, again and again until the test is 0.
     While {
         /// The test.
         test: TExpr,
         /// The body.
-        body: Box<TStmt>,
+        body: Boxed<TStmt>,
     },
     /// Takes a turn, runs the body and tests, again and again until the test is 0.
     Do {
         /// The body.
-        body: Box<TStmt>,
+        body: Boxed<TStmt>,
         /// The test.
         test: TExpr,
     },
@@ -37,13 +37,13 @@ pub enum TStmt {
     /// again until the test is 0.
     For {
         /// The first part.
-        init: Option<Box<TStmt>>,
+        init: Option<Boxed<TStmt>>,
         /// The test. Where there is none the loop goes on.
         test: Option<TExpr>,
         /// The third part, to which a `continue` in the body leads.
-        step: Option<Box<TStmt>>,
+        step: Option<Boxed<TStmt>>,
         /// The body.
-        body: Box<TStmt>,
+        body: Boxed<TStmt>,
     },
     /// Runs the groups from the first on that has the value among its labels, or else from the first
     /// one with `default` on, to the end or a `break`.
@@ -51,7 +51,7 @@ pub enum TStmt {
         /// The value.
         on: TExpr,
         /// The groups.
-        groups: Vec<TGroup>,
+        groups: Items<TGroup>,
     },
     /// Leaves the loop or `switch` around it.
     Break,
@@ -119,5 +119,5 @@ pub struct TGroup {
     /// The numbers of the labels, with `None` for `default`.
     pub labels: Items<Option<i128>>,
     /// The statements.
-    pub body: Vec<TStmt>,
+    pub body: Items<TStmt>,
 }

@@ -2,7 +2,7 @@
 
 use super::*;
 use int_kinds::{BinOp, Kind, UnOp};
-use items::Items;
+use items::{Boxed, Items};
 use signal_codec::Layout;
 use std::alloc::{AllocError, Global};
 use std::test::Fail;
@@ -10,8 +10,8 @@ use vm_host::Event;
 use write_format::Format;
 
 /// A number in a box.
-fn number(alloc: Global, n: i128) -> Result<Box<TExpr>, AllocError> {
-    Ok(Box::new(alloc, TExpr::Const(n))?)
+fn number(alloc: Global, n: i128) -> Result<Boxed<TExpr>, AllocError> {
+    Boxed::new(alloc, TExpr::Const(n))
 }
 
 /// Loads of places of each form.
@@ -77,7 +77,7 @@ fn prefixed(alloc: Global, all: &mut Vec<TExpr>) -> Result<(), AllocError> {
 }
 
 /// A pair of numbers.
-fn pair(alloc: Global) -> Result<(Box<TExpr>, Box<TExpr>), AllocError> {
+fn pair(alloc: Global) -> Result<(Boxed<TExpr>, Boxed<TExpr>), AllocError> {
     Ok((number(alloc, 7)?, number(alloc, 4)?))
 }
 
@@ -112,6 +112,7 @@ fn plain_statements(alloc: Global, all: &mut Vec<TStmt>) -> Result<(), AllocErro
     changes(alloc, &mut args)?;
     prefixed(alloc, &mut args)?;
     infixed(alloc, &mut args)?;
+    let args = Items::from_list(args);
     all.push(TStmt::Eval(TExpr::Call { function: 0, args }))?;
     all.push(TStmt::Set {
         timer: 0,
@@ -129,18 +130,17 @@ fn plain_statements(alloc: Global, all: &mut Vec<TStmt>) -> Result<(), AllocErro
 fn choices(alloc: Global, all: &mut Vec<TStmt>) -> Result<(), AllocError> {
     let mut plain = Vec::new(alloc);
     plain_statements(alloc, &mut plain)?;
-    let body = TStmt::Block(plain);
-    let arms = vec![in alloc;
-        TArm {
-            test: TExpr::Now,
-            body
-        },
-    ]?;
-    let other = Some(Box::new(alloc, TStmt::Return { value: None })?);
+    let body = TStmt::Block(Items::from_list(plain));
+    let arm = TArm {
+        test: TExpr::Now,
+        body,
+    };
+    let arms = Items::from_list(vec![in alloc; arm]?);
+    let other = Some(Boxed::new(alloc, TStmt::Return { value: None })?);
     all.push(TStmt::If { arms, other })?;
     let labels = Items::from_list(vec![in alloc; Some(1i128), None]?);
-    let body = vec![in alloc; TStmt::Break]?;
-    let groups = vec![in alloc; TGroup { labels, body }]?;
+    let body = Items::from_list(vec![in alloc; TStmt::Break]?);
+    let groups = Items::from_list(vec![in alloc; TGroup { labels, body }]?);
     all.push(TStmt::Switch {
         on: TExpr::Now,
         groups,
@@ -152,17 +152,17 @@ fn choices(alloc: Global, all: &mut Vec<TStmt>) -> Result<(), AllocError> {
 fn loops(alloc: Global, all: &mut Vec<TStmt>) -> Result<(), AllocError> {
     all.push(TStmt::While {
         test: TExpr::Now,
-        body: Box::new(alloc, TStmt::Continue)?,
+        body: Boxed::new(alloc, TStmt::Continue)?,
     })?;
     all.push(TStmt::Do {
-        body: Box::new(alloc, TStmt::Break)?,
+        body: Boxed::new(alloc, TStmt::Break)?,
         test: TExpr::Now,
     })?;
     all.push(TStmt::For {
         init: None,
         test: Some(TExpr::Now),
         step: None,
-        body: Box::new(alloc, TStmt::Empty)?,
+        body: Boxed::new(alloc, TStmt::Empty)?,
     })?;
     Ok(())
 }
