@@ -1,4 +1,5 @@
--- What the procedures of a typed program mean (CAPL manual, functions, event procedures).
+-- What the procedures of a typed program mean (CAPL manual, functions, event procedures). The
+-- limit of turns is this project's own.
 use Rattle.std.specs.Prelude.{ℕ, ◌-◌, List, [], slice_get}
 use Rattle.std.specs.Option.{option_map_or}
 use Rattle.vm_host.specs.Effect.{Effect}

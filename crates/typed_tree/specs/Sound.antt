@@ -1,13 +1,11 @@
 -- All that the compiler asks of a typed program.
-use Rattle.std.specs.Prelude.{◌≡◌, ◌≢◌, ℕ, ◌<◌, ◌^◌, false, List, length, is_some, slice_get, flat_map, filter_map, Option, Some, IsSomeAnd, All, AllPairs, ℤ}
+use Rattle.std.specs.Prelude.{◌≡◌, ◌≢◌, ℕ, ◌<◌, ◌^◌, false, List, length, is_some, slice_get, flat_map, filter_map, Option, Some, All, AllPairs}
 use Rattle.std.specs.List.{AllByRecursion}
-use Rattle.int_kinds.specs.declared.kinds.Kind.{Kind}
-use Rattle.int_kinds.specs.Kind.{Holds}
 use Rattle.write_format.specs.Arrays.{IsCharArray}
 use Rattle.write_format.specs.Format.{IsShort, char_arrays}
 use Rattle.vm_host.specs.declared.event.Selector.{Selector}
 use Rattle.vm_host.specs.Duration.{IsUnit}
-use Rattle.vm_host.specs.Event.{KeepsSelectors, KeepsTimers, AreApart, key_of, selectors_of, timer_of}
+use Rattle.vm_host.specs.Event.{KeepsSelectors, KeepsTimers, key_of, selectors_of, timer_of}
 use Rattle.message_cells.specs.Cells.{BeginWithEvent, IsHeldStart}
 use Rattle.typed_tree.specs.declared.program.TFun.{TFun}
 use Rattle.typed_tree.specs.declared.program.THandler.{THandler}

@@ -1,10 +1,8 @@
 -- What the statements of a typed program mean (CAPL manual, statements, write, output, timers, stop).
-use Rattle.std.specs.Prelude.{ℕ, zero, suc, ◌*◌, Bool, true, false, if◌then◌else◌, List, [], ◌∷◌, length, slice_get, slice_index_or, position, Option, Some, None, unwrap_or, ℤ, pos, unsigned_abs, int_le}
+use Rattle.std.specs.Prelude.{ℕ, zero, suc, Bool, true, false, if◌then◌else◌, List, [], ◌∷◌, length, slice_get, slice_index_or, position, Option, Some, None, unwrap_or, ℤ, pos}
 use Rattle.std.specs.List.{list_any}
 use Rattle.std.specs.Option.{option_map_or}
 use Rattle.std.specs.Ordering.{int_eq}
-use Rattle.int_kinds.specs.declared.kinds.Kind.TheVariants.{Long}
-use Rattle.int_kinds.specs.Kind.{wrap}
 use Rattle.write_format.specs.Format.{FormatText, rendered}
 use Rattle.vm_host.specs.Duration.{micros}
 use Rattle.vm_host.specs.Effect as effect

@@ -96,7 +96,7 @@ pub enum TExpr {
     Unary {
         /// The operator.
         op: UnOp,
-        /// The kind in which it works.
+        /// The kind in which it works; `!` asks for none.
         kind: Kind,
         /// The operand.
         inner: Boxed<TExpr>,

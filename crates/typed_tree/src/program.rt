@@ -11,7 +11,8 @@ use write_format::Format;
 pub struct TFun {
     /// The cells of its parameters.
     pub params: Items<u32>,
-    /// The kind of what it gives, if it gives a number.
+    /// The kind of the numbers that it gives, if it gives any. A `return` does not wrap: where its
+    /// number may be another, the conversion stands in its expression.
     pub gives: Option<Kind>,
     /// The body.
     pub body: Items<TStmt>,

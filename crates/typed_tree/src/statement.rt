@@ -84,7 +84,7 @@ pub enum TStmt {
         /// The first cell of the other.
         from: u32,
     },
-    /// Asks to stop the measurement.
+    /// `stop()`: asks to stop the measurement.
     Halt,
     /// Sets a timer.
     Set {
@@ -92,7 +92,7 @@ pub enum TStmt {
         timer: u32,
         /// Whether it is set again whenever it is due.
         cyclic: bool,
-        /// The duration in the timer's unit. Below 1 it counts as 1.
+        /// The duration in the timer's unit. It is wrapped to long, and below 1 it counts as 1.
         value: TExpr,
     },
     /// Cancels a timer.
