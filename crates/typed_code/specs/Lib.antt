@@ -1,0 +1,7 @@
+-- The definitions of this crate.
+pub mod Exit
+pub mod Expression
+pub mod Listing
+pub mod Place
+pub mod Program
+pub mod Statement

@@ -1,0 +1,30 @@
+//! Laws of the code of typed programs. Each call does nothing: its contract is the law.
+
+ghost use Rattle.std.specs.Prelude.{◌≡◌, ℕ, Bool, length};
+ghost use Rattle.typed_tree.specs.declared.expression.TExpr.{TExpr};
+ghost use Rattle.typed_tree.specs.declared.program.Typed.{Typed};
+ghost use Rattle.typed_tree.specs.declared.statement.TStmt.{TStmt};
+ghost use Rattle.typed_tree.specs.Size.{size, stmt_size, test_size, value_size};
+ghost use Rattle.typed_code.specs.Exit.{Exit, own_truth};
+ghost use Rattle.typed_code.specs.Expression.{test_code, value_code};
+ghost use Rattle.typed_code.specs.Program.{program_code};
+ghost use Rattle.typed_code.specs.Statement.{Exits, stmt_code};
+
+/// The code of a program has as many instructions as its size says, and so has the code of each part.
+pub fn code_has_its_size()
+    ensures program { (typed : Typed) → length (program_code typed) ≡ size typed }
+    ensures statements { (typed : Typed) (exits : Exits) (s : TStmt) (place : ℕ) →
+        length (stmt_code typed exits s place) ≡ stmt_size typed s }
+    ensures values { (typed : Typed) (e : TExpr) (place depth : ℕ) →
+        length (value_code typed e place depth) ≡ value_size typed e }
+    ensures tests { (typed : Typed) (when : Bool) (exit : Exit) (e : TExpr) (place depth : ℕ) →
+        length (test_code typed when exit e place depth) ≡ test_size typed when (own_truth exit) e }
+{}
+
+#[cfg(test)]
+mod tests {
+    #[test]
+    fn laws_can_be_called() {
+        super::code_has_its_size();
+    }
+}
