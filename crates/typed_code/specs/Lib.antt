@@ -1,4 +1,5 @@
 -- The definitions of this crate.
+pub mod Example
 pub mod Exit
 pub mod Expression
 pub mod Listing

@@ -5,6 +5,7 @@ ghost use Rattle.typed_tree.specs.declared.expression.TExpr.{TExpr};
 ghost use Rattle.typed_tree.specs.declared.program.Typed.{Typed};
 ghost use Rattle.typed_tree.specs.declared.statement.TStmt.{TStmt};
 ghost use Rattle.typed_tree.specs.Size.{size, stmt_size, test_size, value_size};
+ghost use Rattle.typed_code.specs.Example.{falling_switch, falling_switch_listing, long_cells, no_exits, summing_listing, summing_loop, three_arms, three_arms_listing};
 ghost use Rattle.typed_code.specs.Exit.{Exit, own_truth};
 ghost use Rattle.typed_code.specs.Expression.{test_code, value_code};
 ghost use Rattle.typed_code.specs.Program.{program_code};
@@ -21,10 +22,18 @@ pub fn code_has_its_size()
         length (test_code typed when exit e place depth) ≡ test_size typed when (own_truth exit) e }
 {}
 
+/// The code of a loop, of an `if` and of a `switch`, instruction by instruction.
+pub fn examples_have_their_listings()
+    ensures counting_loop { stmt_code long_cells no_exits summing_loop 0 ≡ summing_listing }
+    ensures arms { stmt_code long_cells no_exits three_arms 0 ≡ three_arms_listing }
+    ensures groups { stmt_code long_cells no_exits falling_switch 0 ≡ falling_switch_listing }
+{}
+
 #[cfg(test)]
 mod tests {
     #[test]
     fn laws_can_be_called() {
         super::code_has_its_size();
+        super::examples_have_their_listings();
     }
 }
