@@ -47,7 +47,8 @@ both_long xs ys m n e f = length-append xs ys ∙ ap (λ k. k + length ys) e ∙
 pub cons_long : (m n : ℕ) → m ≡ n → suc m ≡ 1 + n
 cons_long m n e = omega (arith, e)
 
-value_fits : (c : ℕ → ℕ → Listing) (n : ℕ) → ((place depth : ℕ) → length (c place depth) ≡ n) →
+-- codes of an expression that is a test by its value
+pub value_fits : (c : ℕ → ℕ → Listing) (n : ℕ) → ((place depth : ℕ) → length (c place depth) ≡ n) →
     Fit (codes_by_value c) (by_value n)
 value_fits c n h = record {
   value = h;
@@ -60,10 +61,12 @@ none_or_two : (b : Bool) (x y : Instr × ℕ) → length (if b then [] else (x �
 none_or_two true x y = refl
 none_or_two false x y = refl
 
-truth_long : (e : TExpr) (depth : ℕ) → length (truth_code e depth) ≡ truth_size e
+-- `Not` twice, where it is needed
+pub truth_long : (e : TExpr) (depth : ℕ) → length (truth_code e depth) ≡ truth_size e
 truth_long e depth = none_or_two (is_truth e) _ _
 
-operator_fits : (op : BinOp) (k : Kind) (operands : ℕ → ℕ → Listing) (m n : ℕ) →
+-- the codes of an operator
+pub operator_fits : (op : BinOp) (k : Kind) (operands : ℕ → ℕ → Listing) (m n : ℕ) →
     ((place depth : ℕ) → length (operands place depth) ≡ m + n) →
     Fit (operator_codes op k operands) (operator_sizes op (m + (n + 1)))
 operator_fits op k operands m n h = record {
@@ -81,7 +84,8 @@ operator_fits op k operands m n h = record {
     at_kind false when exit place depth =
         simp length-append (omega (arith, h place depth, exit_long when exit (depth + 1)))
 
-negation_fits : (c : Codes) (s : Sizes) → Fit c s → Fit (negation_codes c) (negation_sizes s)
+-- the codes of `!`
+pub negation_fits : (c : Codes) (s : Sizes) → Fit c s → Fit (negation_codes c) (negation_sizes s)
 negation_fits c s h = record {
   value = λ place depth. simp length-append (omega (arith, h.value place depth));
   test = λ when exit place depth. h.test (not when) exit place depth;
@@ -99,7 +103,8 @@ pub either_exit_truth : (when : Bool) (end : ℕ) (exit : Exit) →
 either_exit_truth true end exit = refl
 either_exit_truth false end exit = refl
 
-both_fits : (a b : Codes) (sa sb : Sizes) (e : TExpr) → Fit a sa → Fit b sb →
+-- the codes of `&&`
+pub both_fits : (a b : Codes) (sa sb : Sizes) (e : TExpr) → Fit a sa → Fit b sb →
     Fit (both_codes a b sa sb e) (both_sizes sa sb (truth_size e))
 both_fits a b sa sb e fa fb = record {
   value = λ place depth. simp length-append (omega (
@@ -116,7 +121,8 @@ both_fits a b sa sb e fa fb = record {
       ap (λ f. sa.test false f) (both_exit_truth when end exit)) (fb.test when exit right depth);
 }
 
-either_fits : (a b : Codes) (sa sb : Sizes) (e : TExpr) → Fit a sa → Fit b sb →
+-- the codes of `||`
+pub either_fits : (a b : Codes) (sa sb : Sizes) (e : TExpr) → Fit a sa → Fit b sb →
     Fit (either_codes a b sa sb e) (either_sizes sa sb (truth_size e))
 either_fits a b sa sb e fa fb = record {
   value = λ place depth. simp length-append (omega (
@@ -145,7 +151,8 @@ bump_long typed at k up post depth = at_index (has_index at) post
     at_index false true = refl
     at_index false false = refl
 
-params_long : (params : List ℕ) (depth : ℕ) → length (params_code params depth) ≡ 2 * length params
+-- arguments stored in parameters
+pub params_long : (params : List ℕ) (depth : ℕ) → length (params_code params depth) ≡ 2 * length params
 params_long [] depth = refl
 params_long (param ∷ params) depth = simp length-append (omega (arith, params_long params (depth + 1)))
 
