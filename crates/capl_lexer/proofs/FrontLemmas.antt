@@ -3,8 +3,9 @@ use Rattle.std.proofs.Common.{◌≡◌, ◌≢◌, ◌<◌, ◌≤◌, ◌+◌,
 use Rattle.std.specs.Prelude.{◌⊎◌}
 use Rattle.std.proofs.lemmas.Bool.{cases_lt}
 use Rattle.std.proofs.lemmas.List.{append_assoc, take_more, drop_at, get_or_append_left, length-take-le}
-use Rattle.capl_lexer.specs.Bytes.{IsDigit, IsHexDigit, IsNameStart, IsNamePart, IsMark, number_in}
-use Rattle.capl_lexer.specs.Spelling.{word_spelling, sign_spelling, IsMarked, IsDecimal, IsHexadecimal, number_of_64_bits, IsPlain, Spells}
+use Rattle.text_parts.specs.Number.{IsDigit, IsHexDigit, number_in, number_of_64_bits}
+use Rattle.capl_lexer.specs.Bytes.{IsNameStart, IsNamePart, IsMark}
+use Rattle.capl_lexer.specs.Spelling.{word_spelling, sign_spelling, IsMarked, IsDecimal, IsHexadecimal, IsPlain, Spells}
 use Rattle.capl_lexer.specs.Inside.ByteClass.{IsInClass, IsFirstInClass, IsRun}
 use Rattle.capl_lexer.specs.Reading.{IsLongest}
 use Rattle.capl_lexer.specs.Inside.Base.{IsBaseOf, IsHexadecimalFront, radix_of, prefix_of, digits_of}

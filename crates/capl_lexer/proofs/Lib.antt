@@ -3,7 +3,7 @@ mod WordLemmas
 mod ByteClassLemmas
 pub mod SpellingLemmas
 pub mod ReadingLemmas
-mod NumberLemmas
 mod FrontLemmas
 mod PartialReadingLemmas
 mod NameLemmas
+pub mod NameTests

@@ -6,8 +6,9 @@ use Rattle.std.proofs.lemmas.Bool.{and_parts}
 use Rattle.std.proofs.lemmas.Bool.Decides.{nat_tests}
 use Rattle.std.proofs.lemmas.List.{append_cancel_right, take_at, get_or_at, get_or_append_left}
 use Rattle.std.proofs.lemmas.List.Elements.{All-cons, All-nil}
-use Rattle.capl_lexer.specs.Bytes.{IsDigit, IsHexDigit, IsNameStart, IsNameFront, IsNamePart, IsMark, number_in}
-use Rattle.capl_lexer.specs.Spelling.{word_spelling, sign_spelling, IsMarked, IsDecimal, IsHexadecimal, number_of_64_bits, Spells}
+use Rattle.text_parts.specs.Number.{IsDigit, IsHexDigit, number_in, number_of_64_bits}
+use Rattle.capl_lexer.specs.Bytes.{IsNameStart, IsNameFront, IsNamePart, IsMark}
+use Rattle.capl_lexer.specs.Spelling.{word_spelling, sign_spelling, IsMarked, IsDecimal, IsHexadecimal, Spells}
 use Rattle.capl_lexer.specs.declared.token.Word.{Word}
 use Rattle.capl_lexer.specs.declared.token.Word.TheVariants as word
 use Rattle.capl_lexer.specs.declared.token.Sign.{Sign}

@@ -1,6 +1,7 @@
 -- The definitions of this crate.
 pub mod Bytes
 pub mod Spelling
+pub mod Name
 pub mod Reading
 pub mod Refusal
 pub mod Inside

@@ -1,6 +1,7 @@
 -- How each token is spelled (CAPL manual, keywords and constants).
 use Rattle.std.specs.Prelude.{◌≡◌, ◌≢◌, ◌<◌, ◌^◌, ℕ, Bool, true, false, List, [], ◌∷◌, ◌++◌, All, Option, Some, None, ◌⊎◌, nat_lt, if◌then◌else◌, codes}
-use Rattle.capl_lexer.specs.Bytes.{IsDigit, IsHexDigit, IsNameFront, IsNamePart, IsMark, number_in}
+use Rattle.text_parts.specs.Number.{IsDigit, IsHexDigit, number_in, number_of_64_bits}
+use Rattle.capl_lexer.specs.Bytes.{IsNameFront, IsNamePart, IsMark}
 use Rattle.capl_lexer.specs.declared.token.Word.{Word}
 use Rattle.capl_lexer.specs.declared.token.Word.TheVariants as word
 use Rattle.capl_lexer.specs.declared.token.Sign.{Sign}
@@ -83,16 +84,6 @@ abbrev pub IsHexadecimal : List ℕ → ℕ → Bool → Type 0
 IsHexadecimal bytes number ext =
     (digits : List ℕ) × (x : ℕ) × (digits ≢ []) × All IsHexDigit digits × IsMark x
     × (number ≡ number_in 16 digits) × IsMarked bytes (48 ∷ x ∷ digits) ext
-
--- a number of 64 bits, or none
-abbrev pub number_of_64_bits : ℕ → Option ℕ
-number_of_64_bits number = if nat_lt number (2 ^ 64) then Some number else None
-
--- decimal digits, perhaps none, that stand for this number of 64 bits
-pub record IsDecimalNumber (bytes : List ℕ) (number : ℕ) : Type 0 where
-  pub digits : All IsDigit bytes
-  pub is : number ≡ number_in 10 bytes
-  pub fits : number < 2 ^ 64
 
 -- a byte of a string that stands for itself: neither the quote nor `\` nor a line end
 abbrev pub IsPlain : ℕ → Type 0

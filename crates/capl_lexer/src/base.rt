@@ -1,12 +1,12 @@
 // The base in which a number is written.
 
 ghost use Rattle.std.specs.Prelude.{◌≡◌, All};
-ghost use Rattle.capl_lexer.specs.Bytes.{digit_value, number_in};
-ghost use Rattle.capl_lexer.specs.Spelling.{number_of_64_bits};
+ghost use Rattle.text_parts.specs.Number.{number_in, number_of_64_bits};
 ghost use Rattle.capl_lexer.specs.Inside.ByteClass.{IsInClass};
 ghost use Rattle.capl_lexer.specs.Inside.Base.{IsBaseOf, radix_of, prefix_of, digits_of};
 
 use crate::byte_class::ByteClass;
+use text_parts::number_in_base;
 
 /// The base in which a number is written.
 #[derive(Clone, Copy, Debug, PartialEq, Eq)]
@@ -63,25 +63,6 @@ impl Base {
         requires { All (IsInClass (digits_of self)) digits.now }
         ensures { result ≡ number_of_64_bits (number_in (radix_of self) digits.now) }
     {
-        let mut number = 0u64;
-        for digit in digits {
-            number = number
-                .checked_mul(self.radix())?
-                .checked_add(value_of(*digit))?;
-        }
-        Some(number)
+        number_in_base(self.radix(), digits)
     }
-}
-
-/// What a hexadecimal digit stands for.
-fn value_of(digit: u8) -> u64
-    requires { IsInClass ByteClass.HexDigit digit }
-    ensures { result ≡ digit_value digit }
-{
-    let value = match digit {
-        b'0'..=b'9' => digit - b'0',
-        b'A'..=b'F' => digit - b'A' + 10,
-        _ => digit - b'a' + 10,
-    };
-    u64::from(value)
 }

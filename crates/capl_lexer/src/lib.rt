@@ -5,7 +5,6 @@
 //! columns, or the first place at which no piece begins.
 #![tactic(auto)]
 
-pub use decimal::decimal_number;
 pub use names::is_name;
 pub use reading::lex;
 pub use refusal::LexRefusal;
@@ -13,7 +12,6 @@ pub use token::{Sign, Tok, Token, Word};
 
 mod base;
 mod byte_class;
-mod decimal;
 mod front;
 mod names;
 mod position;

@@ -1,6 +1,7 @@
 -- Runs of bytes of one class.
 use Rattle.std.specs.Prelude.{◌≡◌, ◌≤◌, ℕ, List, [], ◌∷◌, length, take, drop, All}
-use Rattle.capl_lexer.specs.Bytes.{IsBlank, IsNameStart, IsNamePart, IsDigit, IsHexDigit, IsMark}
+use Rattle.text_parts.specs.Number.{IsDigit, IsHexDigit}
+use Rattle.capl_lexer.specs.Bytes.{IsBlank, IsNameStart, IsNamePart, IsMark}
 use Rattle.capl_lexer.specs.Spelling.{IsPlain}
 use Rattle.capl_lexer.specs.declared.byte_class.ByteClass.{ByteClass}
 use Rattle.capl_lexer.specs.declared.byte_class.ByteClass.TheVariants as class

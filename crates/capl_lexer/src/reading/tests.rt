@@ -3,8 +3,8 @@
 ghost use Rattle.std.specs.Prelude.{◌<◌, ◌^◌, length};
 
 use super::{LexRefusal, lex};
+use crate::is_name;
 use crate::token::{Sign, Tok, Token, Word};
-use crate::{decimal_number, is_name};
 use std::process::Abort;
 use std::test::Fail;
 
@@ -139,13 +139,9 @@ fn a_text_is_refused_at_its_bad_place(rt: HostRuntime) {
 }
 
 #[test]
-fn names_and_decimal_numbers_are_read_by_themselves(rt: HostRuntime) {
+fn names_are_told_by_themselves(rt: HostRuntime) {
     assert!(rt; is_name(b"_a1"));
     for bytes in [b"".as_slice(), b"1a", b"a b", b"on"] {
         assert!(rt; !is_name(bytes));
     }
-    assert_eq!(rt; decimal_number(b"007"), Some(7));
-    assert_eq!(rt; decimal_number(b"18446744073709551615"), Some(u64::MAX));
-    assert_eq!(rt; decimal_number(b"18446744073709551616"), None);
-    assert_eq!(rt; decimal_number(b"1x"), None);
 }

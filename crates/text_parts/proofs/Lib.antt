@@ -1,0 +1,6 @@
+-- The lemmas of this crate.
+pub mod DigitLemmas
+pub mod HexadecimalLemmas
+pub mod NumberLemmas
+pub mod NumeralLemmas
+mod LineLemmas
