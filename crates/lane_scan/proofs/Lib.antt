@@ -1,0 +1,3 @@
+-- Lemmas on vectors, on places, and on digits.
+pub mod LaneLemmas
+pub mod HexLemmas

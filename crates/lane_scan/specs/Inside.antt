@@ -1,0 +1,2 @@
+-- What private functions answer. No public clause speaks of it.
+pub mod Ranges

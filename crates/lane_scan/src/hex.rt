@@ -1,0 +1,63 @@
+// Bytes that are hexadecimal digits.
+
+ghost use Rattle.std.specs.Prelude.{◌+◌, ◌≤◌, ◌↔◌, length, All, IsTrue};
+ghost use Rattle.std.specs.List.{AllWithin};
+ghost use Rattle.std.specs.Char.{IsAsciiHexdigit};
+
+use std::simd::prelude::*;
+
+/// How many bytes are compared at once.
+const LANES: usize = 32;
+
+/// Whether each byte is one of `0` to `9`, `A` to `F` or `a` to `f`; true of no bytes.
+pub fn all_hex(bytes: &[u8]) -> bool
+    ensures { IsTrue result ↔ All IsAsciiHexdigit bytes.now }
+{
+    let mut place = 0;
+    while bytes.len() - place >= LANES {
+        if !are_lanes_hex(bytes, place) {
+            return false;
+        }
+        place += LANES;
+    }
+    are_all_hex(&bytes[place..])
+}
+
+/// Whether each byte is a hexadecimal digit, byte by byte.
+fn are_all_hex(bytes: &[u8]) -> bool
+    ensures { IsTrue result ↔ All IsAsciiHexdigit bytes.now }
+{
+    bytes.iter().all(|byte| byte.is_ascii_hexdigit())
+}
+
+/// Whether each byte of the vector that begins at the place is a hexadecimal digit.
+fn are_lanes_hex(bytes: &[u8], place: usize) -> bool
+    requires { place + LANES ≤ length bytes.now }
+    ensures { IsTrue result ↔ AllWithin IsAsciiHexdigit bytes.now place (place + LANES) }
+{
+    let lanes = u8x32::from_slice(&bytes[place..]);
+    let outside = lanes.simd_lt(u8x32::splat(b'0'))
+        | lanes.simd_gt(u8x32::splat(b'9')) & lanes.simd_lt(u8x32::splat(b'A'))
+        | lanes.simd_gt(u8x32::splat(b'F')) & lanes.simd_lt(u8x32::splat(b'a'))
+        | lanes.simd_gt(u8x32::splat(b'f'));
+    outside.to_bitmask() == 0
+}
+
+#[cfg(test)]
+mod tests {
+    use super::*;
+    use std::test::Fail;
+
+    #[test]
+    fn digits_and_a_last_byte_that_is_none(rt: HostRuntime) -> Result<(), Fail> {
+        for count in [0, 1, 31, 32, 33, 100] {
+            let mut bytes = vec![in rt.alloc(); b'F'; count]?;
+            assert!(rt; all_hex(&bytes));
+            if let Some(last) = bytes.last_mut() {
+                *last = b'G';
+                assert!(rt; !all_hex(&bytes));
+            }
+        }
+        Ok(())
+    }
+}
