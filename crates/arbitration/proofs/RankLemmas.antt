@@ -15,9 +15,9 @@ use Rattle.can_bus.specs.declared.waiting.Waiting.{Waiting}
 use Rattle.can_bus.specs.declared.transmission.Transmission.{Transmission}
 use Rattle.can_bus.specs.Waiting.{name_cmp, name_of, entry_of}
 use Rattle.can_bus.proofs.Requests.{both_true, below_member, Contains-cons, Contains-map, not_Contains-nil}
-use Rattle.can_bus.proofs.Ranks.{count_on_wire}
+use Rattle.can_bus.proofs.RankLemmas.{count_on_wire}
 use Rattle.arbitration.specs.Inside.Places.{InOrder, place_behind}
-use Rattle.arbitration.specs.Inside.Ranks.{earlier_count, rank_in, with_rank_in}
+use Rattle.can_bus.specs.Ranks.{earlier_count, rank_in, with_rank_in}
 
 -- the node's requests that are earlier than a number
 abbrev pub is_earlier : ℕ → ℕ → Waiting → Bool

@@ -18,10 +18,10 @@ use Rattle.can_bus.specs.Waiting.{RequestName, name_of, entry_of, requests_of, m
 use Rattle.can_bus.specs.Bus.{BusState, next_number, last_number, rank, with_rank, transmission_with_rank, with_ranks, with_request, after_request}
 use Rattle.can_bus.proofs.Requests.{entries-retain_keys, entries-from_entries, members-requests_of}
 use Rattle.can_bus.proofs.NextNumbers.{get-map, insert-map, get-insert_same, get-insert_other, insert-insert}
-use Rattle.can_bus.proofs.Ranks.{count_on_wire, with_ranks-is}
-use Rattle.arbitration.specs.Inside.PlainBus.{IsBelowNext}
+use Rattle.can_bus.proofs.RankLemmas.{count_on_wire, with_ranks-is}
 use Rattle.arbitration.specs.Inside.Places.{InOrder, place_behind}
-use Rattle.arbitration.specs.Inside.Ranks.{rank_in, with_rank_in, transmission_with_rank_in, following_number, CarriesInRange}
+use Rattle.can_bus.specs.Ranks.{IsBelowNext, rank_in, with_rank_in, transmission_with_rank_in, CarriesInRange}
+use Rattle.arbitration.specs.Inside.Ranks.{following_number}
 use Rattle.arbitration.proofs.ListEdits.{IsLast, requests_of-insert}
 use Rattle.arbitration.proofs.RankLemmas.{same_after, rank_in-le, number-other_rank, with_rank_in-insert, own_rank, other_rank, number-with_rank_in, rank_in-less, map_insert, place_behind-map, map_agree, node-with_rank_in}
 

@@ -6,8 +6,10 @@ ghost use Rattle.std.specs.BTreeMap.{Updates};
 ghost use Rattle.can_bus.specs.Bus.{new_bus, is_free, BitTakesTime, after_request, next_moment, ended, after_finish, after_arbitration};
 
 use crate::places::{place_behind, winner_place};
-use crate::ranks::{following_number, set_ranks, transmission_with_rank};
-use can_bus::{Bus, Ended, Transmission, Waiting, intermission, time_on_wire};
+use crate::ranks::{following_number, set_ranks};
+use can_bus::{
+    Bus, Ended, Transmission, Waiting, intermission, time_on_wire, transmission_with_rank,
+};
 use can_frame::Frame;
 use sim_outside::NoMemory;
 use std::alloc::Global;

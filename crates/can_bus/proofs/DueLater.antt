@@ -18,7 +18,7 @@ use Rattle.can_bus.specs.Bus.{BusState, BitTakesTime, next_moment, moment_of, ne
 use Rattle.can_bus.specs.Laws.{Follows, DueLater, DueLaterFromNothing}
 use Rattle.can_bus.specs.Laws.Follows.{nothing, request, finish}
 use Rattle.can_bus.proofs.Winner.{winner_law}
-use Rattle.can_bus.proofs.Ranks.{with_ranks-is}
+use Rattle.can_bus.proofs.RankLemmas.{with_ranks-is}
 
 -- nothing on the wire ends up to now
 abbrev pub EndsLater : ℕ → Option Transmission → Type 0

@@ -3,7 +3,7 @@ pub mod Precedence
 pub mod Requests
 pub mod Winner
 pub mod NextNumbers
-pub mod Ranks
+pub mod RankLemmas
 pub mod Wire
 pub mod RequestsCommute
 pub mod SoundStays

@@ -15,7 +15,7 @@ use Rattle.can_bus.specs.Bus.{BusState, next_number, last_number, rank, with_ran
 use Rattle.can_bus.specs.Laws.{RequestsCommute}
 use Rattle.can_bus.proofs.Requests.{name_cmp_total, name_cmp-IsAntisymmetric, ties, entries-retain_keys}
 use Rattle.can_bus.proofs.NextNumbers.{get-insert_same, get-insert_other}
-use Rattle.can_bus.proofs.Ranks.{count_on_wire, with_ranks-is}
+use Rattle.can_bus.proofs.RankLemmas.{count_on_wire, with_ranks-is}
 use Rattle.can_bus.proofs.Wire.{wire_request, wire-after_request}
 use Rattle.can_bus.proofs.SoundStays.{bit-after_request}
 

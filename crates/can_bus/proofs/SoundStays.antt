@@ -6,7 +6,7 @@ use Rattle.can_frame.specs.Frame.{FrameFields}
 use Rattle.can_bus.specs.Transmission.{time_on_wire}
 use Rattle.can_bus.specs.Bus.{BusState, BitTakesTime, next_number, last_number, with_ranks, with_request, after_request, ended, after_finish, winner_at, with_transmission, after_arbitration}
 use Rattle.can_bus.specs.Laws.{SoundStays}
-use Rattle.can_bus.proofs.Ranks.{with_ranks-is}
+use Rattle.can_bus.proofs.RankLemmas.{with_ranks-is}
 
 -- a request leaves the time of a bit
 pub bit-after_request : (s : BusState) (node : ℕ) (f : FrameFields) → (after_request s node f).bit ≡ s.bit

@@ -6,7 +6,7 @@ use Rattle.can_frame.specs.Frame.{FrameFields}
 use Rattle.can_bus.specs.declared.transmission.Transmission.{Transmission}
 use Rattle.can_bus.specs.declared.bus.Ended.{Ended}
 use Rattle.can_bus.specs.Bus.{BusState, next_number, last_number, transmission_with_rank, with_ranks, after_request, ended, after_finish}
-use Rattle.can_bus.proofs.Ranks.{with_ranks-is}
+use Rattle.can_bus.proofs.RankLemmas.{with_ranks-is}
 
 -- what a request of the node makes of the request on the wire
 abbrev pub wire_request : BusState → ℕ → Transmission → Transmission

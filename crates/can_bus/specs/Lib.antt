@@ -3,5 +3,6 @@ pub mod Order
 pub mod Waiting
 pub mod Transmission
 pub mod Bus
+pub mod Ranks
 pub mod Codes
 pub mod Laws

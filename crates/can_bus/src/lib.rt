@@ -9,7 +9,8 @@
 //! three bits (the intermission) after that.
 //!
 //! [`Bus`] says what any bus keeps, whatever its calls mean. The rest is what implementations share:
-//! the order of requests, what is on the wire, and how long a frame and the intermission take.
+//! the order of requests, what is on the wire, how long a frame and the intermission take, and the
+//! numbers from 0 that a node's requests get behind the last one.
 //! `specs/Bus.antt` has the bus of one channel without errors, as a definition; that it keeps the
 //! laws of [`Bus`] is proved in `proofs/`.
 //!
@@ -18,11 +19,13 @@
 
 pub use bus::{Bus, Ended};
 pub use order::goes_before;
+pub use ranks::{carries_earlier, rank, transmission_with_rank};
 pub use transmission::{Transmission, intermission, time_on_wire};
 pub use waiting::Waiting;
 
 mod bus;
 pub mod laws;
 mod order;
+mod ranks;
 mod transmission;
 mod waiting;

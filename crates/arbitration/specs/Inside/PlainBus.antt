@@ -1,9 +1,9 @@
 -- What contracts see of the fields of a `PlainBus`, and what these keep.
-use Rattle.std.specs.Prelude.{◌<◌, ◌≤◌, All}
+use Rattle.std.specs.Prelude.{◌≤◌, All}
 use Rattle.std.specs.FinMap.{from_entries}
-use Rattle.can_bus.specs.declared.waiting.Waiting.{Waiting}
 use Rattle.can_bus.specs.Waiting.{requests_of}
-use Rattle.can_bus.specs.Bus.{BusState, next_number}
+use Rattle.can_bus.specs.Bus.{BusState}
+use Rattle.can_bus.specs.Ranks.{IsBelowNext}
 use Rattle.arbitration.specs.declared.plain_bus.PlainBus.TheInside.{Inside}
 use Rattle.arbitration.specs.Inside.Places.{InOrder}
 
@@ -16,10 +16,6 @@ state_of b = record {
   next = from_entries b.next.entries;
   bit = b.bit;
 }
-
--- the request has a lesser number than its node's next one
-abbrev pub IsBelowNext : BusState → Waiting → Type 0
-IsBelowNext s r = r.number < next_number s r.node
 
 -- a bit takes time; the requests stand by node and then by number, and have lesser numbers than
 -- their node's next one

@@ -1,33 +1,11 @@
--- The ranks of a node's requests, by the list of those that wait and what is on the wire.
-use Rattle.std.specs.Prelude.{◌≡◌, ℕ, ◌+◌, ◌≤◌, ◌==◌, nat_lt, ◌&&◌, if◌then◌else◌, List, Option, None, Some, ⊤, count_by}
+-- The number of a node's next request.
+use Rattle.std.specs.Prelude.{ℕ, ◌+◌, ◌==◌, if◌then◌else◌, List, Option}
 use Rattle.can_bus.specs.declared.waiting.Waiting.{Waiting}
 use Rattle.can_bus.specs.declared.transmission.Transmission.{Transmission}
-use Rattle.can_bus.specs.Bus.{carries_earlier, last_number}
-
--- how many requests of the list are the node's and have a lesser number
-abbrev pub earlier_count : List Waiting → ℕ → ℕ → ℕ
-earlier_count rs node number = count_by (λ r. (r.node == node) && nat_lt r.number number) rs
-
--- how many are, with the one on the wire
-abbrev pub rank_in : List Waiting → Option Transmission → ℕ → ℕ → ℕ
-rank_in rs wire node number =
-    earlier_count rs node number + (if carries_earlier wire node number then 1 else 0)
-
--- a request, where it is the node's with its rank for its number
-abbrev pub with_rank_in : List Waiting → Option Transmission → ℕ → Waiting → Waiting
-with_rank_in rs wire node r =
-    if r.node == node then record r { number = rank_in rs wire node r.number } else r
-
--- and the same of the request on the wire
-abbrev pub transmission_with_rank_in : List Waiting → Option Transmission → ℕ → Transmission → Transmission
-transmission_with_rank_in rs wire node t = record t { request = with_rank_in rs wire node t.request }
+use Rattle.can_bus.specs.Bus.{last_number}
+use Rattle.can_bus.specs.Ranks.{rank_in}
 
 -- the number behind a request's own, or behind its rank where its own is the last
 abbrev pub following_number : List Waiting → Option Transmission → ℕ → ℕ → ℕ
 following_number rs wire node number =
     (if number == last_number then rank_in rs wire node number else number) + 1
-
--- a request of the node on the wire has a number that can be given
-abbrev pub CarriesInRange : Option Transmission → ℕ → Type 0
-CarriesInRange None node = ⊤
-CarriesInRange (Some t) node = t.request.node ≡ node → t.request.number ≤ last_number

@@ -1,7 +1,7 @@
 -- One more request with its rank.
 use Rattle.std.proofs.Common.{◌≡◌, cond, get_or, ap, ◌∙◌}
 use Rattle.std.proofs.lemmas.List.{set-get_or}
-use Rattle.arbitration.specs.Inside.Ranks.{with_rank_in}
+use Rattle.can_bus.specs.Ranks.{with_rank_in}
 use Rattle.arbitration.proofs.RankLemmas.{numbered_step, skipped_step, counted_more, counted_same, bool_byte-is}
 use Rattle.arbitration.proofs.ranks.set_ranks.Goals as goal
 use Rattle.arbitration.proofs.ranks.set_ranks.Goals.{then-request-node, else-request-node}

@@ -1,7 +1,7 @@
 -- The requests so far have their ranks.
 use Rattle.std.proofs.Common.{◌≡◌, ◌++◌, eqb, map, take, drop}
 use Rattle.std.specs.Prelude.{count_by}
-use Rattle.arbitration.specs.Inside.Ranks.{with_rank_in}
+use Rattle.can_bus.specs.Ranks.{with_rank_in}
 use Rattle.arbitration.proofs.ranks.set_ranks.Given as goal
 
 abbrev pub invariant-loop-request : goal.invariant-loop-request

@@ -2,9 +2,10 @@
 use Rattle.std.proofs.Common.{◌≡◌, ℕ, List, refl, ap, sym, subst, ◌∙◌, length}
 use Rattle.can_bus.specs.declared.waiting.Waiting.{Waiting}
 use Rattle.can_bus.specs.Bus.{is_free, after_arbitration}
+use Rattle.can_bus.specs.Ranks.{IsBelowNext}
 use Rattle.can_bus.proofs.Requests.{len-requests_of}
 use Rattle.can_bus.proofs.Arbitration.{after_arbitration-nothing}
-use Rattle.arbitration.specs.Inside.PlainBus.{state_of, IsBelowNext}
+use Rattle.arbitration.specs.Inside.PlainBus.{state_of}
 use Rattle.arbitration.specs.Inside.Places.{IsWinnerPlace}
 use Rattle.arbitration.proofs.ArbitrationLemmas.{begins, All-remove, in_order-left}
 use Rattle.arbitration.proofs.plain_bus.PlainBusBus.arbitrate.Goals as goal

@@ -10,9 +10,9 @@ use Rattle.can_frame.specs.Frame.{FrameFields}
 use Rattle.can_bus.specs.declared.waiting.Waiting.{Waiting}
 use Rattle.can_bus.specs.Waiting.{requests_of}
 use Rattle.can_bus.specs.Bus.{BusState, next_number, after_request}
-use Rattle.arbitration.specs.Inside.PlainBus.{state_of, IsBelowNext}
+use Rattle.arbitration.specs.Inside.PlainBus.{state_of}
 use Rattle.arbitration.specs.Inside.Places.{InOrder, place_behind}
-use Rattle.arbitration.specs.Inside.Ranks.{with_rank_in, transmission_with_rank_in}
+use Rattle.can_bus.specs.Ranks.{IsBelowNext, with_rank_in, transmission_with_rank_in}
 use Rattle.arbitration.proofs.ListEdits.{in_order-insert}
 use Rattle.arbitration.proofs.RankLemmas.{in_order-ranks}
 use Rattle.arbitration.proofs.RequestLemmas.{new_request, list_with_request, after_request-early, after_request-last, below-early, below-last, IsLast-request, place_behind-le, number_found, list_found, next_found-early, next_found-last}
