@@ -6,20 +6,23 @@ use Rattle.std.specs.Prelude.{ℤ, ⊤}
 use Rattle.std.specs.List.{AllByRecursion}
 use Rattle.bytecode.specs.declared.code.Code.{Code}
 use Rattle.bytecode.specs.declared.instr.Instr.TheVariants as instr
-use Rattle.worlds.specs.World.{World}
+use Rattle.worlds.specs.World.{World, and_then}
 use Rattle.worlds.specs.Control.{Calls}
-use Rattle.typed_tree.specs.declared.expression.TExpr.{TExpr, Row_of-TExpr, end_of-TExpr, more_of-TExpr}
+use Rattle.typed_tree.specs.declared.expression.TExpr.{TExpr, Row_of-TExpr, end_of-TExpr, more_of-TExpr, items-the_row-TExpr}
 use Rattle.typed_tree.specs.declared.expression.TExpr.TheVariants.{Call'}
 use Rattle.typed_tree.specs.Expression.{Setting, calling, params_of, value_of, values_of, with_arguments}
 use Rattle.typed_tree.specs.Memory.{Memory, with_cells}
 use Rattle.typed_tree.specs.Size.{args_size, sizes_of}
 use Rattle.typed_code.specs.Expression.{args_code, codes_of, params_code}
 use Rattle.typed_code.specs.Listing.{Listing}
+use Rattle.typed_code.specs.Runs.{Arrives, Comes, Follows, FunctionMeans, IsFit, StandsAt, machine_at}
+use Rattle.int_kinds.specs.declared.kinds.Kind.{Kind}
 use Rattle.typed_code.proofs.ExpressionRuns.{Means}
 use Rattle.typed_code.proofs.ExpressionSizes.{args_long, both_long, params_long}
-use Rattle.typed_code.proofs.MachineRuns.{Comes, Follows, Leaves, StandsAt, at_place, comes_on, follows_from, follows_then, machine_at, one_moves, stands_back, stands_front, stays}
-use Rattle.typed_code.proofs.StoreRuns.{cell_stores}
-use Rattle.typed_code.proofs.TestRuns.{IsFit, means_by_value, still_fit}
+use Rattle.typed_code.proofs.MachineRuns.{at_place, comes_on, follows_from, follows_then, one_moves, stands_back, stands_front, stays}
+use Rattle.typed_code.proofs.PartRuns.{arrives_from, arrives_on}
+use Rattle.typed_code.proofs.PlaceRuns.{cell_stores}
+use Rattle.typed_code.proofs.TestRuns.{means_by_value, still_fit}
 
 -- numbers on a stack, the first one lowest
 abbrev pub pushed : List ℤ → List ℤ → List ℤ
@@ -34,7 +37,7 @@ args_count (more_of-TExpr e rest) = suc (args_count rest)
 module _ (code : Code) (s : Setting) (same : code.cells ≡ s.typed.cells) (call : Calls Memory) (most : ℕ) where
   -- the arguments on the stack are stored in the parameters
   params_run : (params : List ℕ) (ns : List ℤ) (place depth : ℕ) (stack : List ℤ) (calls : List ℕ) (w : World Memory) →
-      IsFit code s.closed s.moment most w → length params ≡ length ns → AllByRecursion (λ p. p < length code.cells) params →
+      IsFit code most w → length params ≡ length ns → AllByRecursion (λ p. p < length code.cells) params →
       StandsAt code place (params_code params depth) →
       Comes code s.closed s.moment (machine_at place (pushed ns stack) calls w)
       (machine_at (place + 2 * length params) stack calls (with_cells (with_arguments s.typed.cells params ns w.memory.cells) w))
@@ -48,14 +51,14 @@ module _ (code : Code) (s : Setting) (same : code.cells ≡ s.typed.cells) (call
       let at = stands_back code place (2 * length ps) xs last (params_long ps (depth + 1)) h in
       let w1 = with_cells (with_arguments s.typed.cells ps ns w.memory.cells) w in
       let r = params_run ps ns place (depth + 1) (n ∷ stack) calls w fit (omega (arith, long)) all.1 (stands_front code place xs last h) in
-      let st = cell_stores code s same call most p q n (n ∷ stack) stack calls w1 (instr.Store p) (still_fit code s.closed s.moment fit r) all.0 at.0.0 refl in
+      let st = cell_stores code s same most p q n (n ∷ stack) stack calls w1 (instr.Store p) (still_fit code s.closed s.moment fit r) all.0 at.0.0 refl in
       at_place code s.closed s.moment (q + 1 + 1) (place + 2 * length (p ∷ ps)) (omega arith)
       (comes_on code s.closed s.moment r (comes_on code s.closed s.moment st
       (one_moves code s.closed s.moment (q + 1) (q + 1 + 1) _ stack calls _ instr.Drop at.1.0.0 refl)))
 
   -- the code of arguments leaves their numbers on the stack
   abbrev pub ArgsMean : {m : Count} → Row_of-TExpr m → Type 0
-  ArgsMean args = (place depth : ℕ) (stack : List ℤ) (calls : List ℕ) (w : World Memory) → IsFit code s.closed s.moment most w →
+  ArgsMean args = (place depth : ℕ) (stack : List ℤ) (calls : List ℕ) (w : World Memory) → IsFit code most w →
       StandsAt code place (args_code s.typed args place depth) →
       Follows code s.closed s.moment (machine_at place stack calls w)
       (λ ns after. (length ns ≡ args_count args) × Comes code s.closed s.moment (machine_at place stack calls w)
@@ -82,26 +85,24 @@ module _ (code : Code) (s : Setting) (same : code.cells ≡ s.typed.cells) (call
       (stands_back code place z xs ys (means.fits.value place depth) h)))
       (λ ns after g. (ap suc g.0, at_place code s.closed s.moment _ _ len g.1)))
 
-  -- the code of a function that gives a number does what its call means
-  abbrev pub CallMeans : ℕ → Type 0
-  CallMeans f = (place : ℕ) (stack : List ℤ) (calls : List ℕ) (w : World Memory) → IsFit code s.closed s.moment most w →
-      slice_get code.instrs place ≡ Some (instr.Call f) →
-      Leaves code s.closed s.moment place stack calls w (place + 1) (call f w)
-
-  -- a call
-  pub of_call : (f : ℕ) (shape : List ⊤) (args : Row_of-TExpr _) → CallMeans f → args_count args ≡ length (params_of s.typed f) →
-      AllByRecursion (λ p. p < length code.cells) (params_of s.typed f) → ArgsMean args → Means code s call most (Call' f shape args)
-  of_call f shape args runs count there means = means_by_value code s.closed s.moment most _ _ _
-      (λ place depth. both_long _ _ _ _ (args_long s.typed args place depth)
-      (both_long _ _ _ _ (params_long (params_of s.typed f) depth) refl))
-      (λ place depth stack calls w fit h.
+  -- the arguments, their stores in the parameters, and the call, which leaves a stack
+  pub call_runs : (f : ℕ) {m : Count} (args : Row_of-TExpr m) → args_count args ≡ length (params_of s.typed f) →
+      AllByRecursion (λ p. p < length code.cells) (params_of s.typed f) → ArgsMean args →
+      (left : ℤ → List ℤ) (place end depth depth' : ℕ) → place + (args_size s.typed args + (2 * length (params_of s.typed f) + 1)) ≡ end →
+      (stack : List ℤ) (calls : List ℕ) (w : World Memory) → IsFit code most w →
+      ((p : ℕ) (w : World Memory) → IsFit code most w → slice_get code.instrs p ≡ Some (instr.Call f) →
+      Arrives code s.closed s.moment (machine_at p stack calls w) (λ n after. machine_at (p + 1) (left n) calls after) (call f w)) →
+      StandsAt code place (args_code s.typed args place depth ++ (params_code (params_of s.typed f) depth ++ (instr.Call f, depth') ∷ [])) →
+      Arrives code s.closed s.moment (machine_at place stack calls w) (λ n after. machine_at end (left n) calls after)
+      (and_then (values_of s call args w) (calling s call f))
+  call_runs f args count there means left place end depth depth' e stack calls w fit runs h =
       let m = machine_at place stack calls w in
       let params = params_of s.typed f in
       let k = args_size s.typed args in
       let xs = args_code s.typed args place depth in
       let ys = params_code params depth in
-      let last : Listing = (instr.Call f, depth) ∷ [] in
-      let end = place + (k + (2 * length params + 1)) in
+      let last : Listing = (instr.Call f, depth') ∷ [] in
+      let p = place + k + 2 * length params in
       let h1 = stands_back code place k xs (ys ++ last) (args_long s.typed args place depth) h in
       let at = stands_back code (place + k) (2 * length params) ys last (params_long params depth) h1 in
       follows_then code s.closed s.moment m _ _ (values_of s call args w) (calling s call f)
@@ -111,6 +112,21 @@ module _ (code : Code) (s : Setting) (same : code.cells ≡ s.typed.cells) (call
       let w2 = with_cells (with_arguments s.typed.cells params ns w1.memory.cells) w1 in
       let r = comes_on code s.closed s.moment g.1 (params_run params ns (place + k) depth stack calls w1 fit1 (sym count ∙ sym g.0) there
       (stands_front code (place + k) ys last h1)) in
-      follows_from code s.closed s.moment m (machine_at (place + k + 2 * length params) stack calls w2) _ _ (call f w2) r
-      (λ n after q. at_place code s.closed s.moment (place + k + 2 * length params + 1) end (omega arith) (comes_on code s.closed s.moment r q))
-      (runs (place + k + 2 * length params) stack calls w2 (still_fit code s.closed s.moment fit r) at.0.0)))
+      arrives_from code s.closed s.moment m (machine_at p stack calls w2) (λ n after. machine_at end (left n) calls after) (call f w2) r
+      (arrives_on code s.closed s.moment (machine_at p stack calls w2) (λ n after. machine_at (p + 1) (left n) calls after)
+      (λ n after. machine_at end (left n) calls after) (call f w2) (runs p w2 (still_fit code s.closed s.moment fit r) at.0.0)
+      (λ n after q. at_place code s.closed s.moment (p + 1) end (omega (arith, e)) (stays code s.closed s.moment (machine_at (p + 1) (left n) calls after)))))
+
+  -- a call
+  pub of_call : (f : ℕ) (k : Kind) (shape : List ⊤) (args : Row_of-TExpr _) → FunctionMeans code s call most (Some k) f → args_count args ≡ length (params_of s.typed f) →
+      AllByRecursion (λ p. p < length code.cells) (params_of s.typed f) → ArgsMean args → Means code s call most (Call' f shape args)
+  of_call f k shape args runs count there means = means_by_value code s.closed s.moment most _ _ _
+      (λ place depth. both_long _ _ _ _ (args_long s.typed args place depth)
+      (both_long _ _ _ _ (params_long (params_of s.typed f) depth) refl))
+      (λ place depth stack calls w fit h. call_runs f args count there means (λ n. n ∷ stack) place _ depth depth refl stack calls w fit
+      (λ p w fit at. runs p stack calls w fit at) h)
+
+-- there are as many as the list of them says
+pub args_listed : {m : Count} (args : Row_of-TExpr m) → args_count args ≡ length (items-the_row-TExpr m args)
+args_listed end_of-TExpr = refl
+args_listed (more_of-TExpr e rest) = ap suc (args_listed rest)

@@ -16,15 +16,16 @@ use Rattle.typed_tree.specs.Size.{Sizes, both_sizes, by_value, either_sizes, tru
 use Rattle.typed_code.specs.Exit.{Backward, Exit, Forward, own_truth, same_truth}
 use Rattle.typed_code.specs.Expression.{Codes, both_codes, choice_code, codes_by_value, either_codes, truth_code}
 use Rattle.typed_code.specs.Listing.{Listing}
+use Rattle.typed_code.specs.Runs.{Comes, Decides, Follows, GoesBy, IsFit, Leaves, StandsAt, branch, going, machine_at}
 use Rattle.typed_code.proofs.ExpressionSizes.{both_fits, both_long, cons_long, either_fits, truth_long}
-use Rattle.typed_code.proofs.MachineRuns.{Comes, Follows, Leaves, StandsAt, at_place, comes_on, follows_from, machine_at, one_moves, stands_back, stands_front, stays}
-use Rattle.typed_code.proofs.TestRuns.{Decides, Goes_by, IsFit, Mean, branch, going, goes_from, means_by_value, still_fit}
+use Rattle.typed_code.proofs.MachineRuns.{at_place, comes_on, follows_from, one_moves, stands_back, stands_front, stays}
+use Rattle.typed_code.proofs.TestRuns.{Mean, goes_from, means_by_value, still_fit}
 
 module _ (code : Code) (closed : Bool) (moment : ℕ) where
   -- a test that goes forward where the number is 0, and then one thing or another
   pub decides_then : {A : Type 0} (m : Machine) (target end : ℕ) (stack : List ℤ) (calls : List ℕ)
       (Then : A → World Memory → Type 0) (run : Run Memory ℤ) (one other : World Memory → Run Memory A) →
-      Goes_by code closed moment m (Forward target) stack calls end (and_then run (branch false (Forward target))) →
+      GoesBy code closed moment m (Forward target) stack calls end (and_then run (branch false (Forward target))) →
       ((w : World Memory) → Comes code closed moment m (machine_at end stack calls w) → Follows code closed moment m Then (one w)) →
       ((w : World Memory) → Comes code closed moment m (machine_at target stack calls w) → Follows code closed moment m Then (other w)) →
       Follows code closed moment m Then (deciding run one other)
@@ -32,7 +33,7 @@ module _ (code : Code) (closed : Bool) (moment : ℕ) where
   decides_then {A} m target end stack calls Then (Gives n w) one other h take skip = by_zero (int_eq n (pos 0)) h
     where
       by_zero : (z : Bool) →
-          Goes_by code closed moment m (Forward target) stack calls end (if same_truth false (not z) then going (Forward target) w else Gives false w) →
+          GoesBy code closed moment m (Forward target) stack calls end (if same_truth false (not z) then going (Forward target) w else Gives false w) →
           Follows code closed moment m Then (if z then other w else one w)
       by_zero true g = skip w g
       by_zero false g = take w g
@@ -105,7 +106,7 @@ module _ (code : Code) (closed : Bool) (moment : ℕ) where
   -- a value, and `Not` twice behind it where that is needed
   truth_behind : (most : ℕ) (b : Codes) (sb : Sizes) (right : Computes Memory) (e : TExpr) → Mean code closed moment most b sb right →
       ((w : World Memory) → is_truth e ≡ true → GivesTruth (right w)) →
-      (place depth : ℕ) (stack : List ℤ) (calls : List ℕ) (w : World Memory) → IsFit code closed moment most w →
+      (place depth : ℕ) (stack : List ℤ) (calls : List ℕ) (w : World Memory) → IsFit code most w →
       StandsAt code place (b.value place depth) → StandsAt code (place + sb.value) (truth_code e (depth + 1)) →
       Leaves code closed moment place stack calls w (place + sb.value + truth_size e) (run_map truth_of (right w))
   truth_behind most b sb right e mb known place depth stack calls w fit h t =
@@ -117,7 +118,7 @@ module _ (code : Code) (closed : Bool) (moment : ℕ) where
   both_value : (most : ℕ) (a b : Codes) (sa sb : Sizes) (left right : Computes Memory) (e : TExpr) →
       Mean code closed moment most a sa left → Mean code closed moment most b sb right →
       ((w : World Memory) → is_truth e ≡ true → GivesTruth (right w)) →
-      (place depth : ℕ) (stack : List ℤ) (calls : List ℕ) (w : World Memory) → IsFit code closed moment most w →
+      (place depth : ℕ) (stack : List ℤ) (calls : List ℕ) (w : World Memory) → IsFit code most w →
       StandsAt code place ((both_codes a b sa sb e).value place depth) →
       Leaves code closed moment place stack calls w (place + (both_sizes sa sb (truth_size e)).value)
       (deciding (left w) (λ w. run_map truth_of (right w)) (Gives (pos 0)))
@@ -150,7 +151,7 @@ module _ (code : Code) (closed : Bool) (moment : ℕ) where
   either_value : (most : ℕ) (a b : Codes) (sa sb : Sizes) (left right : Computes Memory) (e : TExpr) →
       Mean code closed moment most a sa left → Mean code closed moment most b sb right →
       ((w : World Memory) → is_truth e ≡ true → GivesTruth (right w)) →
-      (place depth : ℕ) (stack : List ℤ) (calls : List ℕ) (w : World Memory) → IsFit code closed moment most w →
+      (place depth : ℕ) (stack : List ℤ) (calls : List ℕ) (w : World Memory) → IsFit code most w →
       StandsAt code place ((either_codes a b sa sb e).value place depth) →
       Leaves code closed moment place stack calls w (place + (either_sizes sa sb (truth_size e)).value)
       (deciding (left w) (Gives (pos 1)) (λ w. run_map truth_of (right w)))
@@ -223,42 +224,42 @@ either_branch when exit (Gives n w) right = by_zero when (int_eq n (pos 0))
 module _ (code : Code) (closed : Bool) (moment : ℕ) where
   -- an exit that is taken, whatever the end
   going_any : (m : Machine) (exit : Exit) (stack : List ℤ) (calls : List ℕ) (p end : ℕ) (w : World Memory) →
-      Goes_by code closed moment m exit stack calls p (going exit w) → Goes_by code closed moment m exit stack calls end (going exit w)
+      GoesBy code closed moment m exit stack calls p (going exit w) → GoesBy code closed moment m exit stack calls end (going exit w)
   going_any m (Forward target) stack calls p end w h = h
   going_any m (Backward target) stack calls p end w h = by_turns w.turns h
     where
-      by_turns : (turns : ℕ) → Goes_by code closed moment m (Backward target) stack calls p (taking_turn_of turns w (Gives true)) →
-          Goes_by code closed moment m (Backward target) stack calls end (taking_turn_of turns w (Gives true))
+      by_turns : (turns : ℕ) → GoesBy code closed moment m (Backward target) stack calls p (taking_turn_of turns w (Gives true)) →
+          GoesBy code closed moment m (Backward target) stack calls end (taking_turn_of turns w (Gives true))
       by_turns zero g = g
       by_turns (suc turns) g = g
 
   -- a left operand that goes to the exit itself, and then the right one
   same_exit : (m : Machine) (first : Bool) (exit : Exit) (stack : List ℤ) (calls : List ℕ) (p end : ℕ) (run : Run Memory ℤ)
       (rest : World Memory → Run Memory Bool) →
-      Goes_by code closed moment m exit stack calls p (and_then run (branch first exit)) →
-      ((w : World Memory) → Comes code closed moment m (machine_at p stack calls w) → Goes_by code closed moment m exit stack calls end (rest w)) →
-      Goes_by code closed moment m exit stack calls end
+      GoesBy code closed moment m exit stack calls p (and_then run (branch first exit)) →
+      ((w : World Memory) → Comes code closed moment m (machine_at p stack calls w) → GoesBy code closed moment m exit stack calls end (rest w)) →
+      GoesBy code closed moment m exit stack calls end
       (and_then run (λ n w. if same_truth first (not (int_eq n (pos 0))) then going exit w else rest w))
   same_exit m first exit stack calls p end (Fails o w) rest h next = h
   same_exit m first exit stack calls p end (Gives n w) rest h next = by_truth (same_truth first (not (int_eq n (pos 0)))) h
     where
-      by_truth : (b : Bool) → Goes_by code closed moment m exit stack calls p (if b then going exit w else Gives false w) →
-          Goes_by code closed moment m exit stack calls end (if b then going exit w else rest w)
+      by_truth : (b : Bool) → GoesBy code closed moment m exit stack calls p (if b then going exit w else Gives false w) →
+          GoesBy code closed moment m exit stack calls end (if b then going exit w else rest w)
       by_truth true g = going_any m exit stack calls p end w g
       by_truth false g = next w g
 
   -- a left operand that goes to the end, and then the right one
   to_end : (m : Machine) (first : Bool) (exit : Exit) (stack : List ℤ) (calls : List ℕ) (p end : ℕ) (run : Run Memory ℤ)
       (rest : World Memory → Run Memory Bool) →
-      Goes_by code closed moment m (Forward end) stack calls p (and_then run (branch first (Forward end))) →
-      ((w : World Memory) → Comes code closed moment m (machine_at p stack calls w) → Goes_by code closed moment m exit stack calls end (rest w)) →
-      Goes_by code closed moment m exit stack calls end
+      GoesBy code closed moment m (Forward end) stack calls p (and_then run (branch first (Forward end))) →
+      ((w : World Memory) → Comes code closed moment m (machine_at p stack calls w) → GoesBy code closed moment m exit stack calls end (rest w)) →
+      GoesBy code closed moment m exit stack calls end
       (and_then run (λ n w. if same_truth first (not (int_eq n (pos 0))) then Gives false w else rest w))
   to_end m first exit stack calls p end (Fails o w) rest h next = h
   to_end m first exit stack calls p end (Gives n w) rest h next = by_truth (same_truth first (not (int_eq n (pos 0)))) h
     where
-      by_truth : (b : Bool) → Goes_by code closed moment m (Forward end) stack calls p (if b then going (Forward end) w else Gives false w) →
-          Goes_by code closed moment m exit stack calls end (if b then Gives false w else rest w)
+      by_truth : (b : Bool) → GoesBy code closed moment m (Forward end) stack calls p (if b then going (Forward end) w else Gives false w) →
+          GoesBy code closed moment m exit stack calls end (if b then Gives false w else rest w)
       by_truth true g = g
       by_truth false g = next w g
 
@@ -267,9 +268,9 @@ module _ (code : Code) (closed : Bool) (moment : ℕ) where
       (known : (w : World Memory) → is_truth e ≡ true → GivesTruth (right w)) where
     -- the right operand of a test, from where the left one leaves off
     right_goes : (when : Bool) (exit : Exit) (place depth second end : ℕ) (stack : List ℤ) (calls : List ℕ) (w : World Memory) →
-        IsFit code closed moment most w → StandsAt code second (b.test when exit second depth) → second + sb.test when (own_truth exit) ≡ end →
+        IsFit code most w → StandsAt code second (b.test when exit second depth) → second + sb.test when (own_truth exit) ≡ end →
         (after : World Memory) → Comes code closed moment (machine_at place stack calls w) (machine_at second stack calls after) →
-        Goes_by code closed moment (machine_at place stack calls w) exit stack calls end (and_then (right after) (branch when exit))
+        GoesBy code closed moment (machine_at place stack calls w) exit stack calls end (and_then (right after) (branch when exit))
     right_goes when exit place depth second end stack calls w fit h len after r =
         goes_from code closed moment (machine_at place stack calls w) (machine_at second stack calls after) exit stack calls
         (second + sb.test when (own_truth exit)) end (and_then (right after) (branch when exit)) len r
@@ -277,7 +278,7 @@ module _ (code : Code) (closed : Bool) (moment : ℕ) where
 
     -- `&&` as a test
     both_test : (when : Bool) (exit : Exit) (place depth : ℕ) (stack : List ℤ) (calls : List ℕ) (w : World Memory) →
-        IsFit code closed moment most w → StandsAt code place ((both_codes a b sa sb e).test when exit place depth) →
+        IsFit code most w → StandsAt code place ((both_codes a b sa sb e).test when exit place depth) →
         Decides code closed moment when exit place stack calls w (place + (both_sizes sa sb (truth_size e)).test when (own_truth exit))
         (deciding (left w) (λ w. run_map truth_of (right w)) (Gives (pos 0)))
     both_test true exit place depth stack calls w fit h =
@@ -288,7 +289,7 @@ module _ (code : Code) (closed : Bool) (moment : ℕ) where
         let ys = b.test true exit second depth in
         let h1 = stands_back code place (sa.test false false) xs ys (ma.fits.test false (Forward end) place depth) h in
         goes_from code closed moment m m exit stack calls end _ _ (omega arith) (stays code closed moment m)
-        (subst (λ run. Goes_by code closed moment m exit stack calls end run) (both_branch true exit (left w) right)
+        (subst (λ run. GoesBy code closed moment m exit stack calls end run) (both_branch true exit (left w) right)
         (to_end m false exit stack calls second end (left w) (λ w. and_then (right w) (branch true exit))
         (ma.test false (Forward end) place depth stack calls w fit (stands_front code place xs ys h))
         (right_goes true exit place depth second end stack calls w fit h1 refl)))
@@ -300,14 +301,14 @@ module _ (code : Code) (closed : Bool) (moment : ℕ) where
         let ys = b.test false exit second depth in
         let h1 = stands_back code place (sa.test false (own_truth exit)) xs ys (ma.fits.test false exit place depth) h in
         goes_from code closed moment m m exit stack calls end _ _ (omega arith) (stays code closed moment m)
-        (subst (λ run. Goes_by code closed moment m exit stack calls end run) (both_branch false exit (left w) right)
+        (subst (λ run. GoesBy code closed moment m exit stack calls end run) (both_branch false exit (left w) right)
         (same_exit m false exit stack calls second end (left w) (λ w. and_then (right w) (branch false exit))
         (ma.test false exit place depth stack calls w fit (stands_front code place xs ys h))
         (right_goes false exit place depth second end stack calls w fit h1 refl)))
 
     -- `||` as a test
     either_test : (when : Bool) (exit : Exit) (place depth : ℕ) (stack : List ℤ) (calls : List ℕ) (w : World Memory) →
-        IsFit code closed moment most w → StandsAt code place ((either_codes a b sa sb e).test when exit place depth) →
+        IsFit code most w → StandsAt code place ((either_codes a b sa sb e).test when exit place depth) →
         Decides code closed moment when exit place stack calls w (place + (either_sizes sa sb (truth_size e)).test when (own_truth exit))
         (deciding (left w) (Gives (pos 1)) (λ w. run_map truth_of (right w)))
     either_test false exit place depth stack calls w fit h =
@@ -318,7 +319,7 @@ module _ (code : Code) (closed : Bool) (moment : ℕ) where
         let ys = b.test false exit second depth in
         let h1 = stands_back code place (sa.test true false) xs ys (ma.fits.test true (Forward end) place depth) h in
         goes_from code closed moment m m exit stack calls end _ _ (omega arith) (stays code closed moment m)
-        (subst (λ run. Goes_by code closed moment m exit stack calls end run) (either_branch false exit (left w) right)
+        (subst (λ run. GoesBy code closed moment m exit stack calls end run) (either_branch false exit (left w) right)
         (to_end m true exit stack calls second end (left w) (λ w. and_then (right w) (branch false exit))
         (ma.test true (Forward end) place depth stack calls w fit (stands_front code place xs ys h))
         (right_goes false exit place depth second end stack calls w fit h1 refl)))
@@ -330,7 +331,7 @@ module _ (code : Code) (closed : Bool) (moment : ℕ) where
         let ys = b.test true exit second depth in
         let h1 = stands_back code place (sa.test true (own_truth exit)) xs ys (ma.fits.test true exit place depth) h in
         goes_from code closed moment m m exit stack calls end _ _ (omega arith) (stays code closed moment m)
-        (subst (λ run. Goes_by code closed moment m exit stack calls end run) (either_branch true exit (left w) right)
+        (subst (λ run. GoesBy code closed moment m exit stack calls end run) (either_branch true exit (left w) right)
         (same_exit m true exit stack calls second end (left w) (λ w. and_then (right w) (branch true exit))
         (ma.test true exit place depth stack calls w fit (stands_front code place xs ys h))
         (right_goes true exit place depth second end stack calls w fit h1 refl)))

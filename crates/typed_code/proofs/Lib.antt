@@ -1,16 +1,24 @@
 -- Lemmas on the definitions of this crate.
+pub mod AccessRuns
 pub mod BumpRuns
 pub mod CallRuns
 pub mod ChoiceRuns
 pub mod ComparisonLemmas
+pub mod EveryExpression
 pub mod ExpressionRuns
 pub mod ExpressionSizes
 pub mod LoadRuns
 pub mod MachineRuns
 pub mod OperatorRuns
+pub mod PartRuns
+pub mod PlaceRuns
+pub mod PlainLemmas
 pub mod ProgramSizes
+pub mod ProgramStands
 pub mod StatementSizes
 pub mod StoreRuns
 pub mod TestRuns
 pub mod TruthLemmas
+pub mod UpdateRuns
 pub mod ValueRuns
+pub mod WriteLemmas

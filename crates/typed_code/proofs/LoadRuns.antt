@@ -24,9 +24,10 @@ use Rattle.typed_tree.specs.Expression.{indexing, reads}
 use Rattle.typed_tree.specs.Memory.{InBytes, InCell, InSignal, Memory, Spot, cell_of, read}
 use Rattle.typed_tree.specs.Size.{Sizes, by_value}
 use Rattle.typed_code.specs.Expression.{Codes, codes_by_value}
+use Rattle.typed_code.specs.Runs.{Comes, Follows, IsFit, machine_at}
 use Rattle.typed_code.proofs.ExpressionSizes.{both_long}
-use Rattle.typed_code.proofs.MachineRuns.{Comes, Follows, at_place, comes_on, machine_at, one_moves, one_stops, stands_back, stands_front, then_on}
-use Rattle.typed_code.proofs.TestRuns.{IsFit, Mean, means_by_value, still_fit}
+use Rattle.typed_code.proofs.MachineRuns.{at_place, comes_on, one_moves, one_stops, stands_back, stands_front, then_on}
+use Rattle.typed_code.proofs.TestRuns.{Mean, means_by_value, still_fit}
 use Rattle.typed_code.proofs.ValueRuns.{and_then_again}
 
 module _ (code : Code) (closed : Bool) (moment : ℕ) where
@@ -53,12 +54,12 @@ module _ (code : Code) (closed : Bool) (moment : ℕ) where
 
   module _ (most : ℕ) where
     -- there are as many cells as the code has kinds
-    pub cells_length : {w : World Memory} → IsFit code closed moment most w → length w.memory.cells ≡ length code.cells
+    pub cells_length : {w : World Memory} → IsFit code most w → length w.memory.cells ≡ length code.cells
     cells_length {w} fit = AllZip-same_length Holds code.cells w.memory.cells fit.cells_held
 
     -- a number that is read by one instruction
     direct_load : (i : Instr) (spot : Spot) →
-        ((place : ℕ) (stack : List ℤ) (calls : List ℕ) (w : World Memory) → IsFit code closed moment most w →
+        ((place : ℕ) (stack : List ℤ) (calls : List ℕ) (w : World Memory) → IsFit code most w →
         row code closed moment (machine_at place stack calls w) i stack ≡ goes_on (machine_at place stack calls w) (read spot w.memory.cells ∷ stack)) →
         Mean code closed moment most (codes_by_value (λ place depth. (i, depth + 0) ∷ [])) (by_value 1) (reads spot)
     direct_load i spot rows = means_by_value code closed moment most _ 1 _ (λ place depth. refl)
@@ -68,10 +69,10 @@ module _ (code : Code) (closed : Bool) (moment : ℕ) where
     -- a number that is read behind its index
     indexed_load : (c : Codes) (z : Sizes) (index : Computes Memory) (i : Instr) (len : ℕ) (spot : ℕ → Spot) (inside : Machine → List ℤ → ℕ → Next) →
         Mean code closed moment most c z index →
-        ((place : ℕ) (n : ℤ) (stack : List ℤ) (calls : List ℕ) (w : World Memory) → IsFit code closed moment most w →
+        ((place : ℕ) (n : ℤ) (stack : List ℤ) (calls : List ℕ) (w : World Memory) → IsFit code most w →
         row code closed moment (machine_at place (n ∷ stack) calls w) i (n ∷ stack) ≡
         row_indexing n len (machine_at place (n ∷ stack) calls w) (inside (machine_at place (n ∷ stack) calls w) stack)) →
-        ((place k : ℕ) (n : ℤ) (stack : List ℤ) (calls : List ℕ) (w : World Memory) → IsFit code closed moment most w → k < len →
+        ((place k : ℕ) (n : ℤ) (stack : List ℤ) (calls : List ℕ) (w : World Memory) → IsFit code most w → k < len →
         inside (machine_at place (n ∷ stack) calls w) stack k ≡ goes_on (machine_at place (n ∷ stack) calls w) (read (spot k) w.memory.cells ∷ stack)) →
         Mean code closed moment most (codes_by_value (λ place depth. c.value place depth ++ (i, depth + 1) ∷ [])) (by_value (z.value + 1))
         (λ w. and_then (and_then (index w) (λ n w. indexing len n w spot)) reads)

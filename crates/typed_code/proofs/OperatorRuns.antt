@@ -20,11 +20,12 @@ use Rattle.typed_tree.specs.Size.{Sizes, exit_size, operator_sizes}
 use Rattle.typed_code.specs.Exit.{Exit, exit_code, exit_instr, own_truth, same_truth}
 use Rattle.typed_code.specs.Expression.{Codes, operator_codes, opposite_op, test_op}
 use Rattle.typed_code.specs.Listing.{Listing}
+use Rattle.typed_code.specs.Runs.{Comes, Decides, Follows, GoesBy, IsFit, Leaves, StandsAt, branch, going, machine_at, target_of}
 use Rattle.typed_code.proofs.ComparisonLemmas.{IsDecided, comparison_decides, not_twice}
 use Rattle.typed_code.proofs.ExpressionSizes.{both_long, operator_fits}
-use Rattle.typed_code.proofs.MachineRuns.{Comes, Follows, Leaves, StandsAt, at_place, comes_on, machine_at, one_moves, one_stops, stands_back, stands_front, stays, then_on}
+use Rattle.typed_code.proofs.MachineRuns.{at_place, comes_on, one_moves, one_stops, stands_back, stands_front, stays, then_on}
 use Rattle.typed_code.proofs.ValueRuns.{and_then_again}
-use Rattle.typed_code.proofs.TestRuns.{Decides, Goes_by, IsFit, Mean, branch, decides_by, exit_runs, goes_from, going, own_exit, still_fit, target_of}
+use Rattle.typed_code.proofs.TestRuns.{Mean, decides_by, exit_runs, goes_from, own_exit, still_fit}
 
 -- `||` and `&&` are no instructions
 operates_is : (op : BinOp) (k : Kind) (x y : ℤ) (m : Machine) (stack : List ℤ) → IsOperation op →
@@ -71,7 +72,7 @@ value_of_either op k x y d false = d.opposite_is
 
 module _ (code : Code) (closed : Bool) (moment : ℕ) (most : ℕ) where
   -- the instruction of an operator
-  bin_runs : (op : BinOp) (k : Kind) (x y : ℤ) (place end : ℕ) (stack : List ℤ) (calls : List ℕ) (w : World Memory) → IsOperation op →
+  pub bin_runs : (op : BinOp) (k : Kind) (x y : ℤ) (place end : ℕ) (stack : List ℤ) (calls : List ℕ) (w : World Memory) → IsOperation op →
       slice_get code.instrs place ≡ Some (instr.Bin op k) → place + 1 ≡ end → (o : Option ℤ) → value op k x y ≡ o →
       Follows code closed moment (machine_at place (y ∷ x ∷ stack) calls w)
       (λ n after. Comes code closed moment (machine_at place (y ∷ x ∷ stack) calls w) (machine_at end (n ∷ stack) calls after)) (gives_or_traps o w)
@@ -88,7 +89,7 @@ module _ (code : Code) (closed : Bool) (moment : ℕ) (most : ℕ) where
   compares : (op : BinOp) (k : Kind) (x y : ℤ) (holds : Bool) → value op k x y ≡ Some (truth holds) →
       (exit : Exit) (place : ℕ) (stack : List ℤ) (calls : List ℕ) (w : World Memory) →
       slice_get code.instrs place ≡ Some (instr.Bin op k) → slice_get code.instrs (place + 1) ≡ Some (exit_instr exit) →
-      Goes_by code closed moment (machine_at place (y ∷ x ∷ stack) calls w) exit stack calls (place + 2)
+      GoesBy code closed moment (machine_at place (y ∷ x ∷ stack) calls w) exit stack calls (place + 2)
       (if same_truth (own_truth exit) holds then going exit w else Gives false w)
   compares op k x y holds e exit place stack calls w at at' =
       let m = machine_at place (y ∷ x ∷ stack) calls w in
@@ -96,7 +97,7 @@ module _ (code : Code) (closed : Bool) (moment : ℕ) (most : ℕ) where
       (if same_truth (own_truth exit) holds then going exit w else Gives false w) (omega arith)
       (one_moves code closed moment place (place + 1) (y ∷ x ∷ stack) (truth holds ∷ stack) calls w (instr.Bin op k) at
       (operates_is op k x y m stack (operation_of op k x y (truth holds) e) ∙ ap (λ o. row_gives o m stack) e))
-      (subst (λ b. Goes_by code closed moment (machine_at (place + 1) (truth holds ∷ stack) calls w) exit stack calls (place + 1 + 1)
+      (subst (λ b. GoesBy code closed moment (machine_at (place + 1) (truth holds ∷ stack) calls w) exit stack calls (place + 1 + 1)
       (if same_truth (own_truth exit) b then going exit w else Gives false w)) (not_twice holds)
       (own_exit code closed moment exit (place + 1) (truth holds) stack calls w (not holds) (truth_zero holds) at'))
 
@@ -104,7 +105,7 @@ module _ (code : Code) (closed : Bool) (moment : ℕ) (most : ℕ) where
   comparison_goes : (op : BinOp) (k : Kind) (x y : ℤ) → is_comparison op ≡ true →
       (when : Bool) (exit : Exit) (place : ℕ) (stack : List ℤ) (calls : List ℕ) (w : World Memory) →
       slice_get code.instrs place ≡ Some (instr.Bin (test_op when exit op) k) → slice_get code.instrs (place + 1) ≡ Some (exit_instr exit) →
-      Goes_by code closed moment (machine_at place (y ∷ x ∷ stack) calls w) exit stack calls (place + 2)
+      GoesBy code closed moment (machine_at place (y ∷ x ∷ stack) calls w) exit stack calls (place + 2)
       (and_then (operates op k x y w) (branch when exit))
   comparison_goes op k x y is when exit place stack calls w at at' =
       let m = machine_at place (y ∷ x ∷ stack) calls w in
@@ -112,9 +113,9 @@ module _ (code : Code) (closed : Bool) (moment : ℕ) (most : ℕ) where
       let own = own_truth exit in
       let first = compares (test_op when exit op) k x y (if same_truth when own then d.holds else not d.holds)
       (value_of_either op k x y d (same_truth when own)) exit place stack calls w at at' in
-      let right = subst (λ b. Goes_by code closed moment m exit stack calls (place + 2) (if b then going exit w else Gives false w))
+      let right = subst (λ b. GoesBy code closed moment m exit stack calls (place + 2) (if b then going exit w else Gives false w))
       (same_way when own d.holds ∙ ap (λ b. same_truth when b) (sym (truth_back d.holds))) first in
-      subst (λ o. Goes_by code closed moment m exit stack calls (place + 2) (and_then (gives_or_traps o w) (branch when exit)))
+      subst (λ o. GoesBy code closed moment m exit stack calls (place + 2) (and_then (gives_or_traps o w) (branch when exit)))
       (sym d.value_is) right
 
   module _ (a b : Codes) (sa sb : Sizes) (left right : Computes Memory)
@@ -126,9 +127,9 @@ module _ (code : Code) (closed : Bool) (moment : ℕ) (most : ℕ) where
     -- the operands are on the stack, the right one on top, and then what comes next
     operands_run : {B : Type 0} (Then : Machine → B → World Memory → Type 0) (next : ℤ → ℤ → World Memory → Run Memory B) →
         ((m m' : Machine) (v : B) (w : World Memory) → Comes code closed moment m m' → Then m' v w → Then m v w) →
-        (place depth : ℕ) (stack : List ℤ) (calls : List ℕ) (w : World Memory) → IsFit code closed moment most w →
+        (place depth : ℕ) (stack : List ℤ) (calls : List ℕ) (w : World Memory) → IsFit code most w →
         StandsAt code place (operands place depth) →
-        ((x y : ℤ) (w : World Memory) → IsFit code closed moment most w →
+        ((x y : ℤ) (w : World Memory) → IsFit code most w →
         Follows code closed moment (machine_at (place + sa.value + sb.value) (y ∷ x ∷ stack) calls w)
         (Then (machine_at (place + sa.value + sb.value) (y ∷ x ∷ stack) calls w)) (next x y w)) →
         Follows code closed moment (machine_at place stack calls w) (Then (machine_at place stack calls w))
@@ -150,7 +151,7 @@ module _ (code : Code) (closed : Bool) (moment : ℕ) (most : ℕ) where
 
     -- the value of an operator
     pub operator_value : (op : BinOp) (k : Kind) → IsOperation op →
-        (place depth : ℕ) (stack : List ℤ) (calls : List ℕ) (w : World Memory) → IsFit code closed moment most w →
+        (place depth : ℕ) (stack : List ℤ) (calls : List ℕ) (w : World Memory) → IsFit code most w →
         StandsAt code place (operands place depth ++ (instr.Bin op k, depth + 2) ∷ []) →
         Leaves code closed moment place stack calls w (place + (sa.value + (sb.value + 1)))
         (and_then (left w) (λ x w. and_then (right w) (λ y w. operates op k x y w)))
@@ -170,7 +171,7 @@ module _ (code : Code) (closed : Bool) (moment : ℕ) (most : ℕ) where
 
     -- a comparison as a test
     comparison_test : (op : BinOp) (k : Kind) → is_comparison op ≡ true → (when : Bool) (exit : Exit)
-        (place depth : ℕ) (stack : List ℤ) (calls : List ℕ) (w : World Memory) → IsFit code closed moment most w →
+        (place depth : ℕ) (stack : List ℤ) (calls : List ℕ) (w : World Memory) → IsFit code most w →
         StandsAt code place (operands place depth ++ (instr.Bin (test_op when exit op) k, depth + 2) ∷ (exit_instr exit, depth + 1) ∷ []) →
         Decides code closed moment when exit place stack calls w (place + (sa.value + (sb.value + 1) + 1))
         (and_then (left w) (λ x w. and_then (right w) (λ y w. operates op k x y w)))
@@ -180,7 +181,7 @@ module _ (code : Code) (closed : Bool) (moment : ℕ) (most : ℕ) where
         let last = stands_back code place (sa.value + sb.value) (operands place depth) tail (operands_long place depth) h in
         let same : place + (sa.value + sb.value) ≡ place + sa.value + sb.value = omega arith in
         let at = subst (λ p. StandsAt code p tail) same last in
-        subst (λ run. Goes_by code closed moment (machine_at place stack calls w) exit stack calls end run)
+        subst (λ run. GoesBy code closed moment (machine_at place stack calls w) exit stack calls end run)
         (branch_of_operands when exit (left w) right (λ x y w. operates op k x y w))
         (operands_run (λ m taken after. Comes code closed moment m (machine_at (if taken then target_of exit else end) stack calls after))
         (λ x y w. and_then (operates op k x y w) (branch when exit)) (λ m m' v after r g. comes_on code closed moment r g) place depth stack calls w fit
@@ -190,7 +191,7 @@ module _ (code : Code) (closed : Bool) (moment : ℕ) (most : ℕ) where
 
     -- any other operator as a test
     value_test : (op : BinOp) (k : Kind) → IsOperation op → (when : Bool) (exit : Exit)
-        (place depth : ℕ) (stack : List ℤ) (calls : List ℕ) (w : World Memory) → IsFit code closed moment most w →
+        (place depth : ℕ) (stack : List ℤ) (calls : List ℕ) (w : World Memory) → IsFit code most w →
         StandsAt code place ((operands place depth ++ (instr.Bin op k, depth + 2) ∷ []) ++ exit_code when exit (depth + 1)) →
         Decides code closed moment when exit place stack calls w (place + (sa.value + (sb.value + 1) + exit_size when (own_truth exit)))
         (and_then (left w) (λ x w. and_then (right w) (λ y w. operates op k x y w)))
@@ -216,7 +217,7 @@ module _ (code : Code) (closed : Bool) (moment : ℕ) (most : ℕ) where
     }
       where
         at_kind : (c : Bool) → is_comparison op ≡ c → (when : Bool) (exit : Exit)
-            (place depth : ℕ) (stack : List ℤ) (calls : List ℕ) (w : World Memory) → IsFit code closed moment most w →
+            (place depth : ℕ) (stack : List ℤ) (calls : List ℕ) (w : World Memory) → IsFit code most w →
             StandsAt code place (if c
             then operands place depth ++ (instr.Bin (test_op when exit op) k, depth + 2) ∷ (exit_instr exit, depth + 1) ∷ []
             else (operands place depth ++ (instr.Bin op k, depth + 2) ∷ []) ++ exit_code when exit (depth + 1)) →

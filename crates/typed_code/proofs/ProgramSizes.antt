@@ -12,14 +12,16 @@ use Rattle.typed_code.specs.Statement.{Exits}
 use Rattle.typed_code.proofs.ExpressionSizes.{both_long}
 use Rattle.typed_code.proofs.StatementSizes.{stmt_long}
 
-body_long : (typed : Typed) (exits : Exits) (body : List TStmt) (place : ℕ) →
+-- the code of the statements of a procedure
+pub body_long : (typed : Typed) (exits : Exits) (body : List TStmt) (place : ℕ) →
     length (body_code typed exits body place) ≡ sum_by (stmt_size typed) body
 body_long typed exits [] place = refl
 body_long typed exits (s ∷ rest) place =
     both_long _ _ _ _ (stmt_long typed exits s place) (body_long typed exits rest (place + stmt_size typed s)) ∙
     sym (sum_by-cons (stmt_size typed) s rest)
 
-tail_long : (gives goes : Bool) → length (tail_code gives goes) ≡ tail_size gives goes
+-- the end of a procedure
+pub tail_long : (gives goes : Bool) → length (tail_code gives goes) ≡ tail_size gives goes
 tail_long gives false = refl
 tail_long false true = refl
 tail_long true true = refl

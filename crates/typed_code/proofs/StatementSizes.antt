@@ -20,14 +20,17 @@ use Rattle.typed_code.specs.Listing.{Listing, jump_code}
 use Rattle.typed_code.specs.Statement.{Exits, arms_code, cases_code, dropped_code, for_test_code, groups_code, labels_code, last_group_code, loop_code, part_code, return_code, stmt_code, stmts_code, switch_code, values_code}
 use Rattle.typed_code.proofs.ExpressionSizes.{both_long, codes_fit, cons_long, instr_if_long}
 
-value_long : (typed : Typed) (e : TExpr) (place depth : ℕ) →
+-- the code of an expression as a value
+pub value_long : (typed : Typed) (e : TExpr) (place depth : ℕ) →
     length (value_code typed e place depth) ≡ value_size typed e
 value_long typed e place depth = (codes_fit typed e).value place depth
 
-jump_long : (over place : ℕ) → length (jump_code over place) ≡ jump_size over
+-- a jump
+pub jump_long : (over place : ℕ) → length (jump_code over place) ≡ jump_size over
 jump_long over place = instr_if_long (not (over == 0)) (instr.Jump (place + 1 + over), 0)
 
-dropped_long : (typed : Typed) (e : TExpr) (place : ℕ) →
+-- an expression whose value is dropped
+pub dropped_long : (typed : Typed) (e : TExpr) (place : ℕ) →
     length (dropped_code typed e place) ≡ dropped_size typed e
 dropped_long typed (Bump at k up post) place = value_long typed (Bump at k up false) place 0
 dropped_long typed (Const n) place = value_long typed (Const n) place 0
@@ -44,18 +47,21 @@ dropped_long typed (Call' f shape args) place = value_long typed (Call' f shape 
 dropped_long typed (Active timer) place = value_long typed (Active timer) place 0
 dropped_long typed Now place = value_long typed Now place 0
 
-return_long : (typed : Typed) (value : Option TExpr) (place : ℕ) →
+-- a `return`
+pub return_long : (typed : Typed) (value : Option TExpr) (place : ℕ) →
     length (return_code typed value place) ≡ returned_size typed value + 1
 return_long typed None place = refl
 return_long typed (Some e) place = both_long _ _ _ _ (value_long typed e place 0) refl
 
-values_long : (typed : Typed) (all : List TExpr) (place depth : ℕ) →
+-- expressions in order
+pub values_long : (typed : Typed) (all : List TExpr) (place depth : ℕ) →
     length (values_code typed all place depth) ≡ sum_by (value_size typed) all
 values_long typed [] place depth = refl
 values_long typed (e ∷ rest) place depth =
     both_long _ _ _ _ (value_long typed e place depth) (values_long typed rest (place + value_size typed e) (depth + 1)) ∙ sym (sum_by-cons (value_size typed) e rest)
 
-for_test_long : (typed : Typed) (test : Option TExpr) (start place : ℕ) →
+-- the test of a `for`
+pub for_test_long : (typed : Typed) (test : Option TExpr) (start place : ℕ) →
     length (for_test_code typed test start place) ≡ for_test_size typed test
 for_test_long typed None start place = refl
 for_test_long typed (Some e) start place = (codes_fit typed e).test true (Backward start) place 0
@@ -65,12 +71,14 @@ loop_long : (m n : ℕ) (body : ℕ → Listing) (test : ℕ → ℕ → Listing
     ((start at : ℕ) → length (test start at) ≡ n) → length (loop_code m body test place) ≡ loop_size m n
 loop_long m n body test place b t = both_long _ _ _ _ (jump_long m place) (both_long _ _ _ _ (b _) (t _ _))
 
-labels_long : (labels : List (Option ℤ)) (at : ℕ) → length (labels_code labels at) ≡ count_by is_some labels
+-- the cases of a group
+pub labels_long : (labels : List (Option ℤ)) (at : ℕ) → length (labels_code labels at) ≡ count_by is_some labels
 labels_long [] at = refl
 labels_long (None ∷ labels) at = labels_long labels at
 labels_long (Some n ∷ labels) at = ap suc (labels_long labels at) ∙ (omega (arith, sum_by-cons (λ (label : Option ℤ). if is_some label then 1 else 0) (Some n) labels))
 
-cases_long : (labels : List (List (Option ℤ))) (sizes : List ℕ) (at : ℕ) → length labels ≡ length sizes →
+-- the cases of groups
+pub cases_long : (labels : List (List (Option ℤ))) (sizes : List ℕ) (at : ℕ) → length labels ≡ length sizes →
     length (cases_code labels sizes at) ≡ case_count labels
 cases_long [] sizes at e = refl
 cases_long (labels ∷ groups) [] at e = absurd (omega (arith, e))
@@ -79,7 +87,7 @@ cases_long (labels ∷ groups) (size ∷ sizes) at e =
     sym (sum_by-cons (count_by is_some) labels groups)
 
 -- a `switch` has a size for each group
-sizes_of_groups : (typed : Typed) {m : Count} (groups : Row_of-TGroup m) →
+pub sizes_of_groups : (typed : Typed) {m : Count} (groups : Row_of-TGroup m) →
     length (labels_of groups) ≡ length (group_sizes typed groups)
 sizes_of_groups typed end_of-TGroup = refl
 sizes_of_groups typed (more_of-TGroup labels shape body rest) = ap suc (sizes_of_groups typed rest)
@@ -90,7 +98,8 @@ switch_long : (labels : List (List (Option ℤ))) (sizes : List ℕ) (groups : �
 switch_long labels sizes groups place e h = both_long _ _ _ _ (cases_long labels sizes _ e) (cons_long _ _
     (both_long _ _ _ _ (jump_long _ _) (h _)))
 
-sum-cons : (n : ℕ) (ns : List ℕ) → sum (n ∷ ns) ≡ n + sum ns
+-- a sum of one more number
+pub sum-cons : (n : ℕ) (ns : List ℕ) → sum (n ∷ ns) ≡ n + sum ns
 sum-cons n ns = sum_by-cons (λ k. k) n ns
 
 long_if : (b : Bool) (xs ys : Listing) (m n : ℕ) → length xs ≡ m → length ys ≡ n →

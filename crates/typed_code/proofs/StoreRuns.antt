@@ -1,84 +1,141 @@
--- The code of an assignment without an index stores its number, where that of its right side does what that means.
-use Rattle.std.proofs.Common.{◌≡◌, ℕ, ◌+◌, ◌<◌, List, [], ◌∷◌, ◌++◌, length, Some, slice_get, refl, sym, ap, ◌∙◌, subst, arith, get_or-set_same}
-use Rattle.std.specs.Prelude.{ℤ, pos, slice_set}
-use Rattle.std.proofs.lemmas.Option.{slice_get-get_or}
-use Rattle.int_kinds.specs.declared.kinds.Kind.{Kind}
-use Rattle.int_kinds.specs.declared.kinds.Kind.TheVariants.{Long}
-use Rattle.int_kinds.specs.Kind.{Holds, wrap}
-use Rattle.int_kinds.proofs.Wrapping.{Holds-wrap}
+-- The code of an assignment stores its number, where that of its index and of its right side do what those mean.
+use Rattle.std.proofs.Common.{◌≡◌, ℕ, ◌+◌, Bool, true, false, List, [], ◌∷◌, ◌++◌, refl, sym, ◌∙◌, subst, arith}
+use Rattle.std.specs.Prelude.{ℤ}
+use Rattle.vm_host.specs.declared.outcome.Outcome.TheVariants.{Trapped}
+use Rattle.vm_host.specs.declared.outcome.TrapKind.TheVariants.{Index}
 use Rattle.bytecode.specs.declared.code.Code.{Code}
 use Rattle.bytecode.specs.declared.instr.Instr.{Instr}
 use Rattle.bytecode.specs.declared.instr.Instr.TheVariants as instr
 use Rattle.bytecode.specs.Machine.{Machine}
-use Rattle.bytecode.specs.Step.{goes_on, needing, row, stores as row_stores}
-use Rattle.bytecode.proofs.ZippedLists.{AllZip-set}
-use Rattle.worlds.specs.World.{World, and_then}
-use Rattle.worlds.specs.Control.{Calls}
-use Rattle.typed_tree.specs.declared.expression.Place.TheVariants.{Cell}
-use Rattle.typed_tree.specs.declared.expression.TExpr.{TExpr}
-use Rattle.typed_tree.specs.Expression.{Setting, stores, value_of}
-use Rattle.typed_tree.specs.Forms.{Store}
-use Rattle.typed_tree.specs.Memory.{InCell, Memory, cell_of, kind_of, with_cells}
-use Rattle.typed_tree.specs.Size.{sizes_of}
-use Rattle.typed_code.specs.Expression.{codes_of}
-use Rattle.typed_code.specs.Listing.{Listing}
-use Rattle.typed_code.proofs.ExpressionRuns.{Means}
-use Rattle.typed_code.proofs.ExpressionSizes.{both_long}
-use Rattle.typed_code.proofs.LoadRuns.{cells_length}
-use Rattle.typed_code.proofs.MachineRuns.{Comes, Follows, Leaves, StandsAt, at_place, comes_on, machine_at, one_comes, stands_back, stands_front, then_on}
-use Rattle.typed_code.proofs.TestRuns.{IsFit, means_by_value, still_fit}
+use Rattle.bytecode.specs.Step.{goes_on}
+use Rattle.worlds.specs.World.{World, Run, Gives, Fails, and_then}
+use Rattle.worlds.specs.Control.{Computes}
+use Rattle.typed_tree.specs.Expression.{Setting, indexing, stores}
+use Rattle.typed_tree.specs.Memory.{Memory, Spot}
+use Rattle.typed_tree.specs.Size.{Sizes, by_value, one_if}
+use Rattle.typed_code.specs.Expression.{Codes, codes_by_value}
+use Rattle.typed_code.specs.Listing.{Listing, instr_if}
+use Rattle.typed_code.specs.Runs.{Arrives, IsFit, StandsAt, Stops, machine_at}
+use Rattle.typed_code.proofs.ExpressionSizes.{both_long, instr_if_long}
+use Rattle.typed_code.proofs.MachineRuns.{one_moves, one_stops, stands_back, stands_front, stops_on}
+use Rattle.typed_code.proofs.PartRuns.{Indexes, Inside, Outside, arrives_from, arrives_then, indexes, leaves_at, value_runs}
+use Rattle.typed_code.proofs.PlaceRuns.{Direct, Indexed}
+use Rattle.typed_code.proofs.PlainLemmas.{IsStill}
+use Rattle.typed_code.proofs.TestRuns.{Mean, means_by_value, still_fit}
+use Rattle.typed_code.proofs.ValueRuns.{and_then_again}
 
--- a row that stores in a cell
-store_row : (kinds : List Kind) (cell : ℕ) (n c : ℤ) (k : Kind) (m : Machine) (stack : List ℤ) →
-    slice_get m.cells cell ≡ Some c → slice_get kinds cell ≡ Some k →
-    row_stores kinds cell n m stack ≡ goes_on (record m { cells = slice_set m.cells cell (wrap k n) }) (wrap k n ∷ stack)
-store_row kinds cell n c k m stack a b =
-    ap (λ o. needing o (λ _. needing (slice_get kinds cell) (λ k. goes_on (record m { cells = slice_set m.cells cell (wrap k n) }) (wrap k n ∷ stack)))) a ∙
-    ap (λ o. needing o (λ k. goes_on (record m { cells = slice_set m.cells cell (wrap k n) }) (wrap k n ∷ stack))) b
-
-module _ (code : Code) (s : Setting) (same : code.cells ≡ s.typed.cells) (call : Calls Memory) (most : ℕ) where
-  -- a store in a cell, from a stack that its row takes to this one
-  pub cell_stores : (cell place : ℕ) (n : ℤ) (from stack : List ℤ) (calls : List ℕ) (w : World Memory) (i : Instr) →
-      IsFit code s.closed s.moment most w → cell < length code.cells → slice_get code.instrs place ≡ Some i →
-      row code s.closed s.moment (machine_at place from calls w) i from ≡ row_stores code.cells cell n (machine_at place from calls w) stack →
-      Follows code s.closed s.moment (machine_at place from calls w)
-      (λ v after. Comes code s.closed s.moment (machine_at place from calls w) (machine_at (place + 1) (v ∷ stack) calls after))
-      (stores s (InCell cell) n w)
-  cell_stores cell place n from stack calls w i fit there at rows =
-      let k = kind_of s.typed.cells cell in
-      let m = machine_at place from calls w in
-      let v = wrap k n in
-      let cells = slice_set w.memory.cells cell v in
-      let kind : slice_get code.cells cell ≡ Some k =
-      ap (λ kinds. slice_get kinds cell) same ∙ slice_get-get_or s.typed.cells cell Long (omega (arith, there, ap length same)) in
-      let old = slice_get-get_or w.memory.cells cell (pos 0) (omega (arith, there, cells_length code s.closed s.moment most fit)) in
-      let back : cell_of cells cell ≡ v = get_or-set_same w.memory.cells cell v (pos 0) (omega (arith, there, cells_length code s.closed s.moment most fit)) in
-      subst (λ x. Comes code s.closed s.moment m (machine_at (place + 1) (x ∷ stack) calls (with_cells cells w))) (sym back)
-      (one_comes code s.closed s.moment m i (machine_at (place + 1) (v ∷ stack) calls (with_cells cells w)) at
-      (rows ∙ store_row code.cells cell n (cell_of w.memory.cells cell) k m stack old kind) (omega arith)
-      (λ held. AllZip-set Holds code.cells w.memory.cells held cell k v kind (Holds-wrap k n)) refl)
-
-  -- an assignment to a cell
-  pub of_cell_store : (cell : ℕ) (e : TExpr) → cell < length code.cells → Means code s call most e →
-      Means code s call most (Store (Cell cell) e)
-  of_cell_store cell e there means = means_by_value code s.closed s.moment most
-      (λ place depth. (codes_of s.typed e).value (place + (0 + 0)) (depth + 0) ++ (instr.Store cell, depth + 0 + 1) ∷ [])
-      (0 + (0 + ((sizes_of s.typed e).value + 1))) (λ w. and_then (value_of s call e w) (stores s (InCell cell)))
+module _ (code : Code) (s : Setting) (most : ℕ) (c : Codes) (z : Sizes) (does : Computes Memory)
+    (means : Mean code s.closed s.moment most c z does) where
+  -- an assignment to a place without an index
+  pub store_direct : (reading writing : Instr) (spot : Spot) → Direct code s most reading writing spot →
+      Mean code s.closed s.moment most
+      (codes_by_value (λ place depth. c.value (place + (0 + 0)) (depth + 0) ++ (writing, depth + 0 + 1) ∷ []))
+      (by_value (0 + (0 + (z.value + 1)))) (λ w. and_then (does w) (stores s spot))
+  store_direct reading writing spot direct = means_by_value code s.closed s.moment most _ _ _
       (λ place depth. both_long _ _ _ _ (means.fits.value (place + (0 + 0)) (depth + 0)) refl ∙ omega arith)
       (λ place depth stack calls w fit h.
-      let z = (sizes_of s.typed e).value in
       let q = place + (0 + 0) in
-      let here : q ≡ place = omega arith in
       let m = machine_at place stack calls w in
-      let end = place + (0 + (0 + (z + 1))) in
-      let xs = (codes_of s.typed e).value q (depth + 0) in
-      let last : Listing = (instr.Store cell, depth + 0 + 1) ∷ [] in
-      let at = stands_back code place z xs last (means.fits.value q (depth + 0)) h in
-      let front = subst (λ p. StandsAt code p xs) (sym here) (stands_front code place xs last h) in
-      let first = subst (λ p. Leaves code s.closed s.moment p stack calls w (p + z) (value_of s call e w)) here
-      (means.value q (depth + 0) stack calls w fit front) in
-      then_on code s.closed s.moment m (λ n after. machine_at (place + z) (n ∷ stack) calls after)
-      (λ m n after. Comes code s.closed s.moment m (machine_at end (n ∷ stack) calls after)) (value_of s call e w) (stores s (InCell cell))
-      (λ m' n after r g. comes_on code s.closed s.moment r g) first
-      (λ n w1 r. at_place code s.closed s.moment (place + z + 1) end (omega arith)
-      (cell_stores cell (place + z) n (n ∷ stack) stack calls w1 (instr.Store cell) (still_fit code s.closed s.moment fit r) there at.0.0 refl)))
+      let p = place + z.value in
+      let end = place + (0 + (0 + (z.value + 1))) in
+      let xs = c.value q (depth + 0) in
+      let last : Listing = (writing, depth + 0 + 1) ∷ [] in
+      let at = stands_back code place z.value xs last (means.fits.value q (depth + 0)) h in
+      arrives_then code s.closed s.moment m (λ n after. machine_at p (n ∷ stack) calls after) (λ v after. machine_at end (v ∷ stack) calls after)
+      (does w) (stores s spot)
+      (value_runs code s.closed s.moment most c z does means place q (depth + 0) (omega arith) stack calls w fit (stands_front code place xs last h))
+      (λ n w1 r. leaves_at code s.closed s.moment (machine_at p (n ∷ stack) calls w1) stack calls (stores s spot n w1) (p + 1) end (omega arith)
+      (direct.stores_it p n stack calls w1 (still_fit code s.closed s.moment fit r) at.0.0)))
+
+  module _ (reading writing : Instr) (len : ℕ) (spot : ℕ → Spot) (indexed : Indexed code s most reading writing len spot) where
+    -- the right side and the store, behind an index that is one, from a place that its code writes in another way
+    inside_runs : (i : ℤ) (k : ℕ) → ((w : World Memory) (spot : ℕ → Spot) → indexing len i w spot ≡ Gives (spot k) w) →
+        (p q end depth depth' : ℕ) → q ≡ p → p + z.value + 1 ≡ end → (stack : List ℤ) (calls : List ℕ) (w : World Memory) →
+        IsFit code most w → StandsAt code p (c.value q depth ++ (writing, depth') ∷ []) →
+        Arrives code s.closed s.moment (machine_at p (i ∷ stack) calls w) (λ v after. machine_at end (v ∷ stack) calls after)
+        (and_then (does w) (stores s (spot k)))
+    inside_runs i k is p q end depth depth' e f stack calls w fit h =
+        let xs = c.value q depth in
+        let last : Listing = (writing, depth') ∷ [] in
+        let r = p + z.value in
+        let at = stands_back code p z.value xs last (means.fits.value q depth) h in
+        arrives_then code s.closed s.moment (machine_at p (i ∷ stack) calls w) (λ n after. machine_at r (n ∷ i ∷ stack) calls after)
+        (λ v after. machine_at end (v ∷ stack) calls after) (does w) (stores s (spot k))
+        (value_runs code s.closed s.moment most c z does means p q depth e (i ∷ stack) calls w fit (stands_front code p xs last h))
+        (λ n w1 g.
+        let m = machine_at r (n ∷ i ∷ stack) calls w1 in
+        leaves_at code s.closed s.moment m stack calls (stores s (spot k) n w1) (r + 1) end f
+        (subst (λ run. Arrives code s.closed s.moment m (λ v after. machine_at (r + 1) (v ∷ stack) calls after) (and_then run (λ spot w. stores s spot n w)))
+        (is w1 spot) (indexed.stores_it r n i stack calls w1 (still_fit code s.closed s.moment fit g) at.0.0)))
+
+    -- a right side that changes nothing, and then a trap
+    still_stops : (m : Machine) (there : ℤ → World Memory → Machine) (w : World Memory) (run : Run Memory ℤ) → IsStill w run →
+        Arrives code s.closed s.moment m there run → ((n : ℤ) → Stops code s.closed s.moment (there n w) (Trapped Index) w) →
+        Stops code s.closed s.moment m (Trapped Index) w
+    still_stops m there w (Gives n after) is r stops =
+        stops_on code s.closed s.moment r (subst (λ x. Stops code s.closed s.moment (there n x) (Trapped Index) w) (sym is) (stops n))
+    still_stops m there w (Fails o after) is r stops =
+        subst (λ x. Stops code s.closed s.moment m (Trapped Index) x) is.1 (subst (λ o. Stops code s.closed s.moment m o after) is.0 r)
+
+    -- behind the index: perhaps a check of it, the right side and the store
+    behind_index : (checked : Bool) → (checked ≡ false → (w : World Memory) → IsStill w (does w)) → (i : ℤ) → Indexes len i →
+        (p q end depth depth' : ℕ) → q ≡ p + one_if checked → p + (one_if checked + (z.value + 1)) ≡ end →
+        (stack : List ℤ) (calls : List ℕ) (w : World Memory) → IsFit code most w →
+        StandsAt code p (instr_if checked (instr.Check len, depth) ++ (c.value q depth ++ (writing, depth') ∷ [])) →
+        Arrives code s.closed s.moment (machine_at p (i ∷ stack) calls w) (λ v after. machine_at end (v ∷ stack) calls after)
+        (and_then (indexing len i w spot) (λ spot w. and_then (does w) (stores s spot)))
+    behind_index true plain i (Inside k below is row) p q end depth depth' e f stack calls w fit h =
+        let m = machine_at p (i ∷ stack) calls w in
+        subst (λ run. Arrives code s.closed s.moment m (λ v after. machine_at end (v ∷ stack) calls after) (and_then run (λ spot w. and_then (does w) (stores s spot))))
+        (sym (is w spot))
+        (arrives_from code s.closed s.moment m (machine_at (p + 1) (i ∷ stack) calls w) (λ v after. machine_at end (v ∷ stack) calls after)
+        (and_then (does w) (stores s (spot k)))
+        (one_moves code s.closed s.moment p (p + 1) (i ∷ stack) (i ∷ stack) calls w (instr.Check len) h.0.0 (row m (λ _. goes_on m (i ∷ stack))))
+        (inside_runs i k is (p + 1) q end depth depth' e (omega (arith, f)) stack calls w fit h.1))
+    behind_index true plain i (Outside is row) p q end depth depth' e f stack calls w fit h =
+        let m = machine_at p (i ∷ stack) calls w in
+        subst (λ run. Arrives code s.closed s.moment m (λ v after. machine_at end (v ∷ stack) calls after) (and_then run (λ spot w. and_then (does w) (stores s spot))))
+        (sym (is w spot)) (one_stops code s.closed s.moment m (instr.Check len) (Trapped Index) m h.0.0 (row m (λ _. goes_on m (i ∷ stack))))
+    behind_index false plain i (Inside k below is row) p q end depth depth' e f stack calls w fit h =
+        subst (λ run. Arrives code s.closed s.moment (machine_at p (i ∷ stack) calls w) (λ v after. machine_at end (v ∷ stack) calls after)
+        (and_then run (λ spot w. and_then (does w) (stores s spot))))
+        (sym (is w spot)) (inside_runs i k is p q end depth depth' (omega (arith, e)) (omega (arith, f)) stack calls w fit h)
+    behind_index false plain i (Outside is row) p q end depth depth' e f stack calls w fit h =
+        let m = machine_at p (i ∷ stack) calls w in
+        let xs = c.value q depth in
+        let last : Listing = (writing, depth') ∷ [] in
+        let r = p + z.value in
+        let at = stands_back code p z.value xs last (means.fits.value q depth) h in
+        subst (λ run. Arrives code s.closed s.moment m (λ v after. machine_at end (v ∷ stack) calls after) (and_then run (λ spot w. and_then (does w) (stores s spot))))
+        (sym (is w spot))
+        (still_stops m (λ n after. machine_at r (n ∷ i ∷ stack) calls after) w (does w) (plain refl w)
+        (value_runs code s.closed s.moment most c z does means p q depth (omega (arith, e)) (i ∷ stack) calls w fit (stands_front code p xs last h))
+        (λ n. subst (λ run. Arrives code s.closed s.moment (machine_at r (n ∷ i ∷ stack) calls w) (λ v after. machine_at (r + 1) (v ∷ stack) calls after)
+        (and_then run (λ spot w. stores s spot n w))) (is w spot) (indexed.stores_it r n i stack calls w fit at.0.0)))
+
+    -- an assignment to a place with an index, which is checked first or not
+    pub store_indexed : (ci : Codes) (zi : Sizes) (index : Computes Memory) → Mean code s.closed s.moment most ci zi index →
+        (checked : Bool) → (checked ≡ false → (w : World Memory) → IsStill w (does w)) →
+        Mean code s.closed s.moment most
+        (codes_by_value (λ place depth. ci.value place depth ++ (instr_if checked (instr.Check len, depth + 1) ++
+        (c.value (place + (zi.value + one_if checked)) (depth + 1) ++ (writing, depth + 1 + 1) ∷ []))))
+        (by_value (zi.value + (one_if checked + (z.value + 1))))
+        (λ w. and_then (and_then (index w) (λ i w. indexing len i w spot)) (λ spot w. and_then (does w) (stores s spot)))
+    store_indexed ci zi index index_means checked plain = means_by_value code s.closed s.moment most _ _ _
+        (λ place depth. both_long _ _ _ _ (index_means.fits.value place depth)
+        (both_long _ _ _ _ (instr_if_long checked _) (both_long _ _ _ _ (means.fits.value _ _) refl)))
+        (λ place depth stack calls w fit h.
+        let q = place + (zi.value + one_if checked) in
+        let m = machine_at place stack calls w in
+        let p = place + zi.value in
+        let end = place + (zi.value + (one_if checked + (z.value + 1))) in
+        let xs = ci.value place depth in
+        let ys : Listing = instr_if checked (instr.Check len, depth + 1) ++ (c.value q (depth + 1) ++ (writing, depth + 1 + 1) ∷ []) in
+        let next : ℤ → World Memory → Run Memory ℤ = λ i w. and_then (indexing len i w spot) (λ spot w. and_then (does w) (stores s spot)) in
+        subst (λ run. Arrives code s.closed s.moment m (λ v after. machine_at end (v ∷ stack) calls after) run)
+        (sym (and_then_again (index w) (λ i w. indexing len i w spot) (λ spot w. and_then (does w) (stores s spot))))
+        (arrives_then code s.closed s.moment m (λ i after. machine_at p (i ∷ stack) calls after) (λ v after. machine_at end (v ∷ stack) calls after)
+        (index w) next
+        (index_means.value place depth stack calls w fit (stands_front code place xs ys h))
+        (λ i w1 r. behind_index checked plain i (indexes len i) p q end (depth + 1) (depth + 1 + 1) (omega arith) (omega arith) stack calls w1
+        (still_fit code s.closed s.moment fit r) (stands_back code place zi.value xs ys (index_means.fits.value place depth) h))))

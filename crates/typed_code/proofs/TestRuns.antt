@@ -1,5 +1,5 @@
 -- Tests: where the machine goes by a number, and expressions that are tests by their value.
-use Rattle.std.proofs.Common.{◌≡◌, ℕ, zero, suc, ◌+◌, ◌≤◌, Bool, true, false, List, ◌∷◌, length, Some, slice_get, refl, ap, ◌∙◌, subst, arith}
+use Rattle.std.proofs.Common.{◌≡◌, ℕ, zero, suc, ◌+◌, Bool, true, false, List, ◌∷◌, length, Some, slice_get, refl, ap, ◌∙◌, subst, arith}
 use Rattle.std.specs.Prelude.{ℤ, pos, not, if◌then◌else◌}
 use Rattle.std.specs.Ordering.{int_eq}
 use Rattle.int_kinds.specs.Arithmetic.{truth}
@@ -7,47 +7,23 @@ use Rattle.vm_host.specs.declared.outcome.Outcome.TheVariants.{Cut}
 use Rattle.bytecode.specs.declared.code.Code.{Code}
 use Rattle.bytecode.specs.declared.instr.Instr.TheVariants as instr
 use Rattle.bytecode.specs.Machine.{Machine}
-use Rattle.bytecode.specs.Runs.{HoldKinds}
 use Rattle.bytecode.specs.Step.{goes_on, goes_to, taking_turn as row_turn}
-use Rattle.worlds.specs.World.{World, Run, Gives, and_then, taking_turn, taking_turn_of}
+use Rattle.worlds.specs.World.{World, Run, Gives, and_then, taking_turn_of}
 use Rattle.worlds.specs.Control.{Computes}
 use Rattle.typed_tree.specs.Memory.{Memory}
 use Rattle.typed_tree.specs.Size.{Sizes, by_value, exit_size}
 use Rattle.typed_code.specs.Exit.{Backward, Exit, Forward, exit_code, exit_instr, own_truth, same_truth}
 use Rattle.typed_code.specs.Expression.{Codes, codes_by_value}
 use Rattle.typed_code.specs.Listing.{Listing}
+use Rattle.typed_code.specs.Runs.{Comes, Decides, Follows, GoesBy, IsFit, Leaves, StandsAt, branch, going, machine_at, target_of}
 use Rattle.typed_code.proofs.ExpressionSizes.{Fit, value_fits}
-use Rattle.typed_code.proofs.MachineRuns.{Comes, Follows, Leaves, StandsAt, comes_on, follows_from, machine_at, one_comes, one_moves, one_stops, stands_back, stands_front, stays, then_on}
-
--- the place that an exit goes to
-abbrev pub target_of : Exit → ℕ
-target_of (Forward target) = target
-target_of (Backward target) = target
-
--- going to an exit, which takes a turn where it goes back
-abbrev pub going : Exit → World Memory → Run Memory Bool
-going (Forward target) w = Gives true w
-going (Backward target) w = taking_turn w (Gives true)
-
--- where a test goes that goes to an exit for a truth, behind the number that decides: whether it goes there
-abbrev pub branch : Bool → Exit → ℤ → World Memory → Run Memory Bool
-branch when exit n w = if same_truth when (not (int_eq n (pos 0))) then going exit w else Gives false w
+use Rattle.typed_code.proofs.MachineRuns.{comes_on, follows_from, one_comes, one_moves, one_stops, stands_back, stands_front, stays, then_on}
 
 module _ (code : Code) (closed : Bool) (moment : ℕ) where
-  -- from a state on, a test goes to its exit or comes to an end, with this stack
-  abbrev pub Goes_by : Machine → Exit → List ℤ → List ℕ → ℕ → Run Memory Bool → Type 0
-  Goes_by m exit stack calls end run = Follows code closed moment m (λ taken after.
-      Comes code closed moment m (machine_at (if taken then target_of exit else end) stack calls after)) run
-
-  -- from a place to another, a part of a program decides where a test goes
-  abbrev pub Decides : Bool → Exit → ℕ → List ℤ → List ℕ → World Memory → ℕ → Run Memory ℤ → Type 0
-  Decides when exit place stack calls w end run =
-      Goes_by (machine_at place stack calls w) exit stack calls end (and_then run (branch when exit))
-
   -- `Back` goes back, or is cut
   back_goes : (place target end : ℕ) (n : ℤ) (stack : List ℤ) (calls : List ℕ) (w : World Memory) (turns : ℕ) → w.turns ≡ turns →
       int_eq n (pos 0) ≡ false → slice_get code.instrs place ≡ Some (instr.Back target) →
-      Goes_by (machine_at place (n ∷ stack) calls w) (Backward target) stack calls end (taking_turn_of turns w (Gives true))
+      GoesBy code closed moment (machine_at place (n ∷ stack) calls w) (Backward target) stack calls end (taking_turn_of turns w (Gives true))
   back_goes place target end n stack calls w zero t e at =
       let m = machine_at place (n ∷ stack) calls w in
       one_stops code closed moment m (instr.Back target) Cut m at
@@ -62,7 +38,7 @@ module _ (code : Code) (closed : Bool) (moment : ℕ) where
   -- the instruction of an exit
   pub own_exit : (exit : Exit) (place : ℕ) (n : ℤ) (stack : List ℤ) (calls : List ℕ) (w : World Memory) (z : Bool) → int_eq n (pos 0) ≡ z →
       slice_get code.instrs place ≡ Some (exit_instr exit) →
-      Goes_by (machine_at place (n ∷ stack) calls w) exit stack calls (place + 1)
+      GoesBy code closed moment (machine_at place (n ∷ stack) calls w) exit stack calls (place + 1)
       (if same_truth (own_truth exit) (not z) then going exit w else Gives false w)
   own_exit (Forward target) place n stack calls w true e at =
       let m = machine_at place (n ∷ stack) calls w in
@@ -87,7 +63,7 @@ module _ (code : Code) (closed : Bool) (moment : ℕ) where
 
   -- from an earlier state on
   pub goes_from : (m m' : Machine) (exit : Exit) (stack : List ℤ) (calls : List ℕ) (p end : ℕ) (run : Run Memory Bool) → p ≡ end →
-      Comes code closed moment m m' → Goes_by m' exit stack calls p run → Goes_by m exit stack calls end run
+      Comes code closed moment m m' → GoesBy code closed moment m' exit stack calls p run → GoesBy code closed moment m exit stack calls end run
   goes_from m m' exit stack calls p end run e r h =
       follows_from code closed moment m m' _ _ run r (λ taken after g. comes_on code closed moment r
       (subst (λ k. Comes code closed moment m' (machine_at (if taken then target_of exit else k) stack calls after)) e g)) h
@@ -95,7 +71,7 @@ module _ (code : Code) (closed : Bool) (moment : ℕ) where
   -- the instruction of an exit behind `Not`
   other_exit : (exit : Exit) (place : ℕ) (n : ℤ) (stack : List ℤ) (calls : List ℕ) (w : World Memory) (z : Bool) → int_eq n (pos 0) ≡ z →
       slice_get code.instrs place ≡ Some instr.Not → slice_get code.instrs (place + 1) ≡ Some (exit_instr exit) →
-      Goes_by (machine_at place (n ∷ stack) calls w) exit stack calls (place + 2)
+      GoesBy code closed moment (machine_at place (n ∷ stack) calls w) exit stack calls (place + 2)
       (if same_truth (not (own_truth exit)) (not z) then going exit w else Gives false w)
   other_exit (Forward target) place n stack calls w true e at at' =
       goes_from _ _ (Forward target) stack calls (place + 1 + 1) (place + 2) (Gives false w) (omega arith)
@@ -117,22 +93,15 @@ module _ (code : Code) (closed : Bool) (moment : ℕ) where
   -- the code of an exit goes where the number says
   pub exit_runs : (when : Bool) (exit : Exit) (place depth : ℕ) (n : ℤ) (stack : List ℤ) (calls : List ℕ) (w : World Memory) →
       StandsAt code place (exit_code when exit depth) →
-      Goes_by (machine_at place (n ∷ stack) calls w) exit stack calls (place + exit_size when (own_truth exit)) (branch when exit n w)
+      GoesBy code closed moment (machine_at place (n ∷ stack) calls w) exit stack calls (place + exit_size when (own_truth exit)) (branch when exit n w)
   exit_runs true (Forward target) place depth n stack calls w h = other_exit (Forward target) place n stack calls w (int_eq n (pos 0)) refl h.0.0 h.1.0.0
   exit_runs true (Backward target) place depth n stack calls w h = own_exit (Backward target) place n stack calls w (int_eq n (pos 0)) refl h.0.0
   exit_runs false (Forward target) place depth n stack calls w h = own_exit (Forward target) place n stack calls w (int_eq n (pos 0)) refl h.0.0
   exit_runs false (Backward target) place depth n stack calls w h = other_exit (Backward target) place n stack calls w (int_eq n (pos 0)) refl h.0.0 h.1.0.0
 
-  -- a world in which the code may run: at most so many turns are left, the cells are held by their kinds, and there is
-  -- each timer
-  pub record IsFit (most : ℕ) (w : World Memory) : Type 0 where
-    pub turns : w.turns ≤ most
-    pub cells_held : HoldKinds code.cells w.memory.cells
-    pub timers : length code.timers ≤ length w.memory.active
-
   -- the world is so later too
-  pub still_fit : {most : ℕ} {w after : World Memory} {place place' : ℕ} {stack stack' : List ℤ} {calls calls' : List ℕ} → IsFit most w →
-      Comes code closed moment (machine_at place stack calls w) (machine_at place' stack' calls' after) → IsFit most after
+  pub still_fit : {most : ℕ} {w after : World Memory} {place place' : ℕ} {stack stack' : List ℤ} {calls calls' : List ℕ} → IsFit code most w →
+      Comes code closed moment (machine_at place stack calls w) (machine_at place' stack' calls' after) → IsFit code most after
   still_fit f r = record {
     turns = omega (arith, f.turns, r.turns);
     cells_held = r.cells_held f.cells_held;
@@ -142,18 +111,18 @@ module _ (code : Code) (closed : Bool) (moment : ℕ) where
   -- codes with these sizes do what an expression does, wherever they stand, from any stack, open calls and world
   pub record Mean (most : ℕ) (c : Codes) (z : Sizes) (does : Computes Memory) : Type 0 where
     pub fits : Fit c z
-    pub value : (place depth : ℕ) (stack : List ℤ) (calls : List ℕ) (w : World Memory) → IsFit most w →
+    pub value : (place depth : ℕ) (stack : List ℤ) (calls : List ℕ) (w : World Memory) → IsFit code most w →
         StandsAt code place (c.value place depth) →
         Leaves code closed moment place stack calls w (place + z.value) (does w)
-    pub test : (when : Bool) (exit : Exit) (place depth : ℕ) (stack : List ℤ) (calls : List ℕ) (w : World Memory) → IsFit most w →
+    pub test : (when : Bool) (exit : Exit) (place depth : ℕ) (stack : List ℤ) (calls : List ℕ) (w : World Memory) → IsFit code most w →
         StandsAt code place (c.test when exit place depth) →
-        Decides when exit place stack calls w (place + z.test when (own_truth exit)) (does w)
+        Decides code closed moment when exit place stack calls w (place + z.test when (own_truth exit)) (does w)
 
   -- one part, and then a test by its number
   pub decides_by : (m : Machine) (there : ℤ → World Memory → Machine) (when : Bool) (exit : Exit) (stack : List ℤ) (calls : List ℕ) (end : ℕ) (run : Run Memory ℤ) →
       Follows code closed moment m (λ n after. Comes code closed moment m (there n after)) run →
-      ((n : ℤ) (w : World Memory) → Comes code closed moment m (there n w) → Goes_by (there n w) exit stack calls end (branch when exit n w)) →
-      Goes_by m exit stack calls end (and_then run (branch when exit))
+      ((n : ℤ) (w : World Memory) → Comes code closed moment m (there n w) → GoesBy code closed moment (there n w) exit stack calls end (branch when exit n w)) →
+      GoesBy code closed moment m exit stack calls end (and_then run (branch when exit))
   decides_by m there when exit stack calls end run first second =
       then_on code closed moment m there
       (λ m taken after. Comes code closed moment m (machine_at (if taken then target_of exit else end) stack calls after)) run (branch when exit)
@@ -161,7 +130,7 @@ module _ (code : Code) (closed : Bool) (moment : ℕ) where
 
   -- an expression that is a test by its value
   pub means_by_value : (most : ℕ) (c : ℕ → ℕ → Listing) (k : ℕ) (does : Computes Memory) → ((place depth : ℕ) → length (c place depth) ≡ k) →
-      ((place depth : ℕ) (stack : List ℤ) (calls : List ℕ) (w : World Memory) → IsFit most w → StandsAt code place (c place depth) →
+      ((place depth : ℕ) (stack : List ℤ) (calls : List ℕ) (w : World Memory) → IsFit code most w → StandsAt code place (c place depth) →
       Leaves code closed moment place stack calls w (place + k) (does w)) →
       Mean most (codes_by_value c) (by_value k) does
   means_by_value most c k does long runs = record {

@@ -17,9 +17,10 @@ use Rattle.typed_tree.specs.Memory.{Memory}
 use Rattle.typed_tree.specs.Size.{Sizes, by_value, negation_sizes}
 use Rattle.typed_code.specs.Exit.{Exit, own_truth, same_truth}
 use Rattle.typed_code.specs.Expression.{Codes, codes_by_value, negation_codes}
+use Rattle.typed_code.specs.Runs.{Comes, GoesBy, IsFit, Leaves, StandsAt, branch, going, machine_at}
 use Rattle.typed_code.proofs.ExpressionSizes.{both_long, negation_fits}
-use Rattle.typed_code.proofs.MachineRuns.{Comes, Leaves, StandsAt, at_place, comes_on, machine_at, one_moves, stands_back, stands_front, then_on}
-use Rattle.typed_code.proofs.TestRuns.{Goes_by, IsFit, Mean, branch, going, means_by_value}
+use Rattle.typed_code.proofs.MachineRuns.{at_place, comes_on, one_moves, stands_back, stands_front, then_on}
+use Rattle.typed_code.proofs.TestRuns.{Mean, means_by_value}
 
 -- what comes after two parts
 pub and_then_again : {A B C : Type 0} (run : Run Memory A) (f : A → World Memory → Run Memory B) (g : B → World Memory → Run Memory C) →
@@ -65,7 +66,7 @@ module _ (code : Code) (closed : Bool) (moment : ℕ) (most : ℕ) where
   -- an instruction that makes one number of another, behind an expression
   one_more : (c : Codes) (z : Sizes) (does : Computes Memory) (i : Instr) (f : ℤ → ℤ) → Mean code closed moment most c z does →
       ((m : Machine) (n : ℤ) (stack : List ℤ) → row code closed moment m i (n ∷ stack) ≡ goes_on m (f n ∷ stack)) →
-      (place depth : ℕ) (stack : List ℤ) (calls : List ℕ) (w : World Memory) → IsFit code closed moment most w →
+      (place depth : ℕ) (stack : List ℤ) (calls : List ℕ) (w : World Memory) → IsFit code most w →
       StandsAt code place (c.value place depth ++ (i, depth + 1) ∷ []) →
       Leaves code closed moment place stack calls w (place + (z.value + 1)) (run_map f (does w))
   one_more c z does i f means rows place depth stack calls w fit h =
@@ -94,6 +95,6 @@ module _ (code : Code) (closed : Bool) (moment : ℕ) (most : ℕ) where
     fits = negation_fits c z means.fits;
     value = one_more c z does instr.Not (λ n. truth (int_eq n (pos 0))) means (λ m n stack. refl);
     test = λ when exit place depth stack calls w fit h.
-        subst (λ run. Goes_by code closed moment (machine_at place stack calls w) exit stack calls (place + z.test (not when) (own_truth exit)) run)
+        subst (λ run. GoesBy code closed moment (machine_at place stack calls w) exit stack calls (place + z.test (not when) (own_truth exit)) run)
         (branch_negation when exit (does w)) (means.test (not when) exit place depth stack calls w fit h);
   }

@@ -145,8 +145,8 @@ abbrev mutual
       index_code typed at place depth ++ (read_instr at, depth + index_depth at) ∷ [])
   codes_of typed (Store at e) = codes_by_value (λ place depth.
       let value_at : ℕ = place + (index_size typed at + one_if (is_checked_first at e)) in
-      index_code typed at place depth ++
-      (instr_if (is_checked_first at e) (instr.Check (index_count at), depth + index_depth at) ++
+      index_code typed at place depth ++ (instr_if (is_checked_first at e)
+      (instr.Check (index_count at), depth + index_depth at) ++
       ((codes_of typed e).value value_at (depth + index_depth at) ++
       (write_instr at, depth + index_depth at + 1) ∷ [])))
   codes_of typed (Update op k back at e) = codes_by_value (λ place depth.

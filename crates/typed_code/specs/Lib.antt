@@ -5,4 +5,5 @@ pub mod Expression
 pub mod Listing
 pub mod Place
 pub mod Program
+pub mod Runs
 pub mod Statement

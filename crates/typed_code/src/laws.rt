@@ -1,14 +1,21 @@
 //! Laws of the code of typed programs. Each call does nothing: its contract is the law.
 
 ghost use Rattle.std.specs.Prelude.{◌≡◌, ℕ, Bool, length};
+ghost use Rattle.bytecode.specs.declared.code.Code.{Code};
+ghost use Rattle.worlds.specs.Control.{Calls};
 ghost use Rattle.typed_tree.specs.declared.expression.TExpr.{TExpr};
 ghost use Rattle.typed_tree.specs.declared.program.Typed.{Typed};
 ghost use Rattle.typed_tree.specs.declared.statement.TStmt.{TStmt};
+ghost use Rattle.typed_tree.specs.Expression.{Setting};
+ghost use Rattle.typed_tree.specs.Memory.{Memory};
 ghost use Rattle.typed_tree.specs.Size.{size, stmt_size, test_size, value_size};
+ghost use Rattle.typed_tree.specs.Sound.{IsSound};
+ghost use Rattle.typed_tree.specs.SoundExpression.{IsSoundAlone, IsSoundExpr};
 ghost use Rattle.typed_code.specs.Example.{falling_switch, falling_switch_listing, long_cells, no_exits, summing_listing, summing_loop, three_arms, three_arms_listing};
 ghost use Rattle.typed_code.specs.Exit.{Exit, own_truth};
 ghost use Rattle.typed_code.specs.Expression.{test_code, value_code};
 ghost use Rattle.typed_code.specs.Program.{program_code};
+ghost use Rattle.typed_code.specs.Runs.{IsSetFor, RunsAlone, RunsAsTest, RunsAsValue};
 ghost use Rattle.typed_code.specs.Statement.{Exits, stmt_code};
 
 /// The code of a program has as many instructions as its size says, and so has the code of each part.
@@ -20,6 +27,24 @@ pub fn code_has_its_size()
         length (value_code typed e place depth) ≡ value_size typed e }
     ensures tests { (typed : Typed) (when : Bool) (exit : Exit) (e : TExpr) (place depth : ℕ) →
         length (test_code typed when exit e place depth) ≡ test_size typed when (own_truth exit) e }
+{}
+
+/// The code of a sound expression does what the expression means, in every code that has its listing
+/// at its place, that has the sound program's cells and timers, and in which each function of a
+/// smaller number does what its calls mean: from any stack, open calls and fit world, the run comes
+/// to the end of the listing with the expression's number on top and all below as it was, or it is
+/// trapped or cut where the expression is. As a test it goes where the number says; as a statement,
+/// which may be a call that gives nothing, it leaves nothing.
+pub fn expressions_do_what_they_mean()
+    ensures values { (code : Code) (s : Setting) (call : Calls Memory) (most number : ℕ) (e : TExpr) →
+        IsSound s.typed → IsSetFor code s call most number → IsSoundExpr s.typed number e →
+        RunsAsValue code s call most e }
+    ensures tests { (code : Code) (s : Setting) (call : Calls Memory) (most number : ℕ) (e : TExpr) →
+        IsSound s.typed → IsSetFor code s call most number → IsSoundExpr s.typed number e →
+        RunsAsTest code s call most e }
+    ensures alone { (code : Code) (s : Setting) (call : Calls Memory) (most number : ℕ) (e : TExpr) →
+        IsSound s.typed → IsSetFor code s call most number → IsSoundAlone s.typed number e →
+        RunsAlone code s call most e }
 {}
 
 /// The code of a loop, of an `if` and of a `switch`, instruction by instruction.
@@ -34,6 +59,7 @@ mod tests {
     #[test]
     fn laws_can_be_called() {
         super::code_has_its_size();
+        super::expressions_do_what_they_mean();
         super::examples_have_their_listings();
     }
 }
