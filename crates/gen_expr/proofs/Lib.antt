@@ -1,0 +1,6 @@
+-- Lemmas on the definitions of this crate.
+pub mod By
+pub mod Emitted
+pub mod Listings
+pub mod Meaning
+pub mod Rows

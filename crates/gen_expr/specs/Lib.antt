@@ -1,0 +1,4 @@
+-- The definitions of this crate.
+pub mod Exit
+pub mod Meaning
+pub mod Target

@@ -1,0 +1,23 @@
+//! The code of expressions: instructions made from typed trees.
+//!
+//! [`emit`] appends the code of an expression as a value, and [`emit_test`] its code as a test that
+//! goes to an [`Exit`]. Both make exactly the listing of typed_code's definition, from the place and
+//! the depth at which they begin. Its targets are made of sizes, which [`value_size`] and
+//! [`test_size`] count before the code is there, so nothing is filled in afterwards. An [`Emitter`]
+//! holds the code so far, each instruction with its depth.
+#![tactic(auto, unfolding(crate::proofs::By::tree, crate::proofs::By::row))]
+
+pub use emitter::Emitter;
+pub use exit::Exit;
+pub use expression::{emit, emit_dropped, emit_test, emit_values};
+pub use shape::leaves_number;
+pub use size::{dropped_size, test_size, value_size, values_size};
+
+mod emitter;
+mod exit;
+mod expression;
+mod parts;
+mod shape;
+mod size;
+#[cfg(test)]
+mod tests;

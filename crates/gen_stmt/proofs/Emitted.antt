@@ -1,0 +1,89 @@
+-- The code of each form, appended piece by piece: what each piece appends is known, and where a later one begins.
+use Rattle.std.specs.Prelude.{◌≡◌, ℕ, true, ◌+◌, List, [], ◌∷◌, ◌++◌, length, map, Option}
+use Rattle.std.proofs.Common.{refl, ap, sym, ◌∙◌, append_assoc}
+use Rattle.bytecode.specs.declared.code.Fun.{Fun}
+use Rattle.typed_tree.specs.declared.expression.TExpr.{TExpr}
+use Rattle.typed_tree.specs.declared.program.TFun.{TFun}
+use Rattle.typed_tree.specs.declared.program.THandler.{THandler}
+use Rattle.typed_tree.specs.declared.program.Typed.{Typed}
+use Rattle.typed_tree.specs.declared.statement.TGroup.{TGroup}
+use Rattle.typed_tree.specs.declared.statement.TStmt.{TStmt}
+use Rattle.typed_tree.specs.declared.statement.TStmt.TheVariants as stmt
+use Rattle.typed_tree.specs.Size.{for_test_size, jump_size, stmt_size, test_size, value_size}
+use Rattle.typed_code.specs.Exit.{Backward}
+use Rattle.typed_code.specs.Expression.{test_code, value_code}
+use Rattle.typed_code.specs.Listing.{Listing, jump_code}
+use Rattle.typed_code.specs.Program.{function_table, procedures_code, procedures_of, program_code}
+use Rattle.typed_code.specs.Statement.{Exits, for_test_code, stmt_code}
+use Rattle.gen_stmt.specs.Inside.Procedures.{functions_size, of_function, of_handler}
+use Rattle.gen_stmt.specs.Inside.Rows.{part_code_of, part_size_of, switch_code_of}
+use Rattle.gen_stmt.proofs.Rows.{for_code, switch_code}
+use Rattle.gen_stmt.proofs.Steps.{entries_join, procedures_join}
+
+module _ (typed : Typed) (exits : Exits) (s : TStmt) (old : Listing) where
+  -- `while`
+  pub while_emitted : (test : TExpr) (body : TStmt) (body_at b k size : ℕ) (c1 c2 c3 : Listing) →
+      s ≡ stmt.While test body → size ≡ stmt_size typed body → body_at ≡ length old + jump_size size →
+      k ≡ length old + (jump_size (stmt_size typed body) + stmt_size typed body) →
+      b ≡ length old + (jump_size (stmt_size typed body) + stmt_size typed body) + test_size typed true true test →
+      c1 ≡ old ++ jump_code size (length old) →
+      length c1 ≡ length old + jump_size (stmt_size typed body) →
+      c2 ≡ c1 ++ stmt_code typed (record { break_at = b; continue_at = k }) body (length c1) →
+      length c2 ≡ length old + jump_size (stmt_size typed body) + stmt_size typed body →
+      c3 ≡ c2 ++ test_code typed true (Backward body_at) test (length c2) 0 →
+      c3 ≡ old ++ stmt_code typed exits s (length old)
+  unfolding Rattle.typed_tree.specs.declared.statement.TStmt.TheBlock.hidden-the_row-TStmt-2 denote.Hole.Carrier.hidden
+  while_emitted test body body_at b k size c1 c2 c3 is at_size at_body at_k at_b e1 place1 e2 place2 e3 =
+      rw (is, e3, place2, e2, place1, e1, at_b, at_k, at_body, at_size) (simp append_assoc)
+
+  -- `for`
+  pub for_emitted : (init : Option TStmt) (test : Option TExpr) (step : Option TStmt) (body : TStmt)
+      (body_at b k size : ℕ) (c0 c1 c2 c3 c4 : Listing) → s ≡ stmt.For init test step body →
+      size ≡ stmt_size typed body + part_size_of typed step →
+      body_at ≡ length old + part_size_of typed init + jump_size size →
+      k ≡ length old + part_size_of typed init +
+      (jump_size (stmt_size typed body + part_size_of typed step) + stmt_size typed body) →
+      b ≡ k + (part_size_of typed step + for_test_size typed test) →
+      c0 ≡ old ++ part_code_of typed exits init (length old) →
+      length c0 ≡ length old + part_size_of typed init →
+      c1 ≡ c0 ++ jump_code size (length c0) →
+      length c1 ≡ length old + part_size_of typed init + jump_size (stmt_size typed body + part_size_of typed step) →
+      c2 ≡ c1 ++ stmt_code typed (record { break_at = b; continue_at = k }) body (length c1) →
+      length c2 ≡ length old + part_size_of typed init +
+      jump_size (stmt_size typed body + part_size_of typed step) + stmt_size typed body →
+      c3 ≡ c2 ++ part_code_of typed exits step (length c2) →
+      length c3 ≡ length old + part_size_of typed init +
+      jump_size (stmt_size typed body + part_size_of typed step) +
+      (stmt_size typed body + part_size_of typed step) →
+      c4 ≡ c3 ++ for_test_code typed test body_at (length c3) →
+      c4 ≡ old ++ stmt_code typed exits s (length old)
+  for_emitted init test step body body_at b k size c0 c1 c2 c3 c4 is at_size at_body at_k at_b e0 place0 e1 place1 e2 place2 e3 place3 e4 =
+      rw (for_code typed exits s init test step body (length old) b k is at_k at_b, e4, place3, e3, place2, e2, place1, e1, place0, e0, at_body, at_size)
+      (simp append_assoc)
+
+  -- `switch`
+  pub switch_emitted : (on : TExpr) (groups : List TGroup) (c1 c2 : Listing) → s ≡ stmt.Switch on groups →
+      c1 ≡ old ++ value_code typed on (length old) 0 → length c1 ≡ length old + value_size typed on →
+      c2 ≡ c1 ++ switch_code_of typed exits groups (length c1) →
+      c2 ≡ old ++ stmt_code typed exits s (length old)
+  switch_emitted on groups c1 c2 is e1 place e2 =
+      rw (switch_code typed exits s on groups (length old) is, e2, place, e1) (simp append_assoc)
+
+-- the code of a program
+pub program_emitted : (typed : Typed) (functions : List TFun) (handlers : List THandler) (c0 c1 c2 : Listing) →
+    functions ≡ typed.functions → handlers ≡ typed.handlers → c0 ≡ [] →
+    c1 ≡ c0 ++ procedures_code typed (map of_function functions) (length c0) →
+    length c1 ≡ length c0 + functions_size typed functions →
+    c2 ≡ c1 ++ procedures_code typed (map of_handler handlers) (length c1) → c2 ≡ program_code typed
+program_emitted typed functions handlers c0 c1 c2 fs hs e0 e1 place e2 =
+    rw (e2, place, e1, e0, fs, hs) (sym (procedures_join typed typed.functions (map of_handler typed.handlers) 0))
+
+-- the entries of a program
+pub table_made : (typed : Typed) (functions : List TFun) (handlers : List THandler) (c0 c1 : Listing) (t0 t1 t2 : List Fun) →
+    functions ≡ typed.functions → handlers ≡ typed.handlers → c0 ≡ [] → t0 ≡ [] →
+    length c1 ≡ length c0 + functions_size typed functions →
+    t1 ≡ t0 ++ function_table typed (map of_function functions) (length c0) →
+    t2 ≡ t1 ++ function_table typed (map of_handler handlers) (length c1) →
+    t2 ≡ function_table typed (procedures_of typed) 0
+table_made typed functions handlers c0 c1 t0 t1 t2 fs hs e0 f0 place e1 e2 =
+    rw (e2, place, e1, f0, e0, fs, hs) (sym (entries_join typed typed.functions (map of_handler typed.handlers) 0))

@@ -1,0 +1,274 @@
+-- One step of each loop: one more item, and those behind it.
+use Rattle.std.specs.Prelude.{◌≡◌, ℕ, zero, suc, ◌+◌, ◌<◌, ◌≤◌, Bool, true, false, not, ◌&&◌, ◌||◌, if◌then◌else◌, ◌==◌, nat_lt, List, [], ◌∷◌, ◌++◌, length, map, sum, sum_by, count_by, drop, is_some, ℤ, Option, Some, None}
+use Rattle.std.specs.List.{list_any}
+use Rattle.std.proofs.Common.{◌≢◌, ◌⊎◌, inl, inr, eqb, refl, ap, sym, ◌∙◌, arith, append_assoc, get_or, add-zero}
+use Rattle.std.proofs.lemmas.Bool.{eqb-true, le-ltb, lt-ltb}
+use Rattle.std.proofs.lemmas.Bool.Decides.{eqb_tells}
+use Rattle.std.proofs.lemmas.List.Sums.{sum_by-cons, sum_by-drop_more}
+use Rattle.bytecode.specs.declared.code.Fun.{Fun}
+use Rattle.bytecode.specs.declared.code.Handler.{Handler}
+use Rattle.bytecode.specs.declared.instr.Instr.TheVariants.{Jump}
+use Rattle.typed_tree.specs.declared.program.TFun.{TFun}
+use Rattle.typed_tree.specs.declared.program.THandler.{THandler}
+use Rattle.typed_tree.specs.declared.program.Typed.{Typed}
+use Rattle.typed_tree.specs.declared.statement.TArm.{TArm}
+use Rattle.typed_tree.specs.declared.statement.TGroup.{TGroup}
+use Rattle.typed_tree.specs.declared.statement.TStmt.{TStmt}
+use Rattle.typed_tree.specs.Shape.{goes_on}
+use Rattle.typed_tree.specs.Size.{jump_size, one_if, procedure_size, stmt_size, test_size, value_size}
+use Rattle.typed_tree.specs.declared.expression.TExpr.{TExpr}
+use Rattle.typed_tree.specs.Statement.{same_label}
+use Rattle.typed_code.specs.Exit.{Forward}
+use Rattle.typed_code.specs.Expression.{test_code}
+use Rattle.typed_code.specs.Listing.{Listing, instr_if, jump_code}
+use Rattle.typed_code.specs.Program.{Procedure, body_code, function_table, handler_table, place_behind, procedure_code, procedures_code}
+use Rattle.typed_code.specs.Statement.{Exits, cases_code, labels_code, stmt_code}
+use Rattle.gen_expr.proofs.Emitted.{value_some}
+use Rattle.gen_expr.proofs.Listings.{drop_next}
+use Rattle.gen_stmt.specs.Inside.Procedures.{entry_of, functions_size, handlers_size, of_function, of_handler}
+use Rattle.gen_stmt.specs.Inside.Rows.{arms_code_of, arms_size_of, before_default, case_count_of, group_sizes_of, groups_code_of, is_nil, kept_if, labels_of_groups}
+
+-- Sizes.
+
+-- the arms from one on are no larger than all
+pub arms_drop : (typed : Typed) (arms : List TArm) (other i : ℕ) →
+    arms_size_of typed (drop i arms) other ≤ arms_size_of typed arms other
+arms_drop typed [] other zero = omega arith
+arms_drop typed [] other (suc i) = omega arith
+arms_drop typed (arm ∷ rest) other zero = omega arith
+arms_drop typed (arm ∷ rest) other (suc i) = omega (arith, arms_drop typed rest other i)
+
+-- the arms from one on
+pub arms_here : (typed : Typed) (arms : List TArm) (other i k : ℕ) (arm : TArm) → i < length arms →
+    arm ≡ get_or arms i arm → k ≡ i + 1 → arms_size_of typed (drop i arms) other ≡
+    test_size typed false false arm.test + (stmt_size typed arm.body +
+    ((if goes_on arm.body then jump_size (arms_size_of typed (drop k arms) other) else 0) +
+    arms_size_of typed (drop k arms) other))
+arms_here typed arms other i k arm within is next =
+    rw next (ap (λ l. arms_size_of typed l other) (drop_next arms i arm within is))
+
+-- what stands behind the arms is no larger than all
+pub arms_other : (typed : Typed) (arms : List TArm) (other : ℕ) → other ≤ arms_size_of typed arms other
+arms_other typed [] other = omega arith
+arms_other typed (arm ∷ rest) other = omega (arith, arms_other typed rest other)
+
+-- there are no more expressions than instructions of them
+pub values_count : (typed : Typed) (all : List TExpr) → length all ≤ sum_by (value_size typed) all
+values_count typed [] = omega arith
+values_count typed (e ∷ rest) =
+    omega (arith, values_count typed rest, value_some typed e, sum_by-cons (value_size typed) e rest)
+
+-- what stands before a group is no larger than all groups
+pub before_default_le : (labels : List (List (Option ℤ))) (sizes : List ℕ) → before_default labels sizes ≤ sum sizes
+before_default_le [] [] = omega arith
+before_default_le [] (size ∷ sizes) = omega arith
+before_default_le (first ∷ labels) [] = omega arith
+before_default_le (first ∷ labels) (size ∷ sizes) =
+    by_test (list_any (same_label None) first) (before_default_le labels sizes)
+  where
+    by_test : (b : Bool) → before_default labels sizes ≤ sum sizes →
+        (if b then 0 else size + before_default labels sizes) ≤ sum (size ∷ sizes)
+    by_test true h = omega arith
+    by_test false h = omega (arith, h, sum_by-cons (λ k. k) size sizes)
+
+-- the items from one on are none exactly where it is behind the last
+pub is_nil-drop : {A : Type 0} (xs : List A) (k : ℕ) → k ≤ length xs → is_nil (drop k xs) ≡ (k == length xs)
+is_nil-drop [] zero within = refl
+is_nil-drop [] (suc k) within = absurd (omega (arith, within))
+is_nil-drop (x ∷ xs) zero within = sym (by_no (eqb_tells 0 (suc (length xs))))
+  where
+    by_no : ((eqb 0 (suc (length xs)) ≡ true) × (0 ≡ suc (length xs))) ⊎
+        ((eqb 0 (suc (length xs)) ≡ false) × (0 ≢ suc (length xs))) → eqb 0 (suc (length xs)) ≡ false
+    by_no (inl h) = absurd (omega (arith, h.1))
+    by_no (inr h) = h.0
+is_nil-drop (x ∷ xs) (suc k) within =
+    is_nil-drop xs k (omega (arith, within)) ∙ same_tests (eqb_tells k (length xs)) (eqb_tells (suc k) (suc (length xs)))
+  where
+    same_tests : ((eqb k (length xs) ≡ true) × (k ≡ length xs)) ⊎ ((eqb k (length xs) ≡ false) × (k ≢ length xs)) →
+        ((eqb (suc k) (suc (length xs)) ≡ true) × (suc k ≡ suc (length xs))) ⊎
+        ((eqb (suc k) (suc (length xs)) ≡ false) × (suc k ≢ suc (length xs))) →
+        eqb k (length xs) ≡ eqb (suc k) (suc (length xs))
+    same_tests (inl g) (inl h) = g.0 ∙ sym h.0
+    same_tests (inl g) (inr h) = absurd (omega (arith, g.1, h.1))
+    same_tests (inr g) (inl h) = absurd (omega (arith, g.1, h.1))
+    same_tests (inr g) (inr h) = g.0 ∙ sym h.0
+
+-- the sizes of the groups from one on
+pub sizes_here : (typed : Typed) (groups : List TGroup) (i : ℕ) (group : TGroup) → i < length groups →
+    group ≡ get_or groups i group → group_sizes_of typed (drop i groups) ≡
+    sum_by (stmt_size typed) (kept_if (i + 1 == length groups) group.body) ∷ group_sizes_of typed (drop (i + 1) groups)
+sizes_here typed groups i group within is =
+    ap (group_sizes_of typed) (drop_next groups i group within is) ∙
+    ap (λ b. sum_by (stmt_size typed) (kept_if b group.body) ∷ group_sizes_of typed (drop (i + 1) groups))
+    (is_nil-drop groups (i + 1) (omega (arith, within)))
+
+-- what is counted of a group, whether `default` was met before, stands in it or does not
+over_by : (met has : Bool) (over size rest whole counted : ℕ) → counted ≡ (if met || has then 0 else size) →
+    over + (if met then 0 else (if has then 0 else size + rest)) ≡ whole → over + counted ≤ whole
+over_by true has over size rest whole counted is all = omega (arith, is, all)
+over_by false true over size rest whole counted is all = omega (arith, is, all)
+over_by false false over size rest whole counted is all = omega (arith, is, all)
+
+-- what is counted of a group before `default` is no more than there is
+pub over_room : (typed : Typed) (groups : List TGroup) (i : ℕ) (group : TGroup) (met now : Bool)
+    (over size counted whole : ℕ) → i < length groups → group ≡ get_or groups i group →
+    size ≡ sum_by (stmt_size typed) (kept_if (i + 1 == length groups) group.body) →
+    now ≡ (met || list_any (same_label None) group.labels) → counted ≡ (if now then 0 else size) →
+    over + (if met then 0 else
+    before_default (labels_of_groups (drop i groups)) (group_sizes_of typed (drop i groups))) ≡ whole →
+    over + counted ≤ whole
+over_room typed groups i group met now over size counted whole within is is_size is_now is_counted all =
+    let next = rw (sizes_here typed groups i group within is, drop_next groups i group within is) at all in
+    over_by met (list_any (same_label None) group.labels) over
+    (sum_by (stmt_size typed) (kept_if (i + 1 == length groups) group.body)) _ whole counted
+    (is_counted ∙ ap (λ b. if b then 0 else size) is_now ∙
+    ap (λ k. if met || list_any (same_label None) group.labels then 0 else k) is_size) next
+
+-- Code.
+
+-- one more statement
+pub stmts_next : (typed : Typed) (exits : Exits) (all : List TStmt) (i : ℕ) (s : TStmt) (c1 c2 : Listing) →
+    i < length all → s ≡ get_or all i s → c2 ≡ c1 ++ stmt_code typed exits s (length c1) →
+    length c2 ≡ length c1 + stmt_size typed s →
+    c2 ++ body_code typed exits (drop (i + 1) all) (length c2) ≡
+    c1 ++ body_code typed exits (drop i all) (length c1)
+stmts_next typed exits all i s c1 c2 within is code place =
+    rw (drop_next all i s within is, place, code) (simp append_assoc)
+
+-- a jump over something
+some_jump : (b : Bool) (jump_at behind end : ℕ) → (behind == 0) ≡ b → end ≡ jump_at + (one_if (not b) + behind) →
+    (instr_if (not b) (Jump (jump_at + 1 + behind), 0) ≡ instr_if (nat_lt jump_at end) (Jump end, 0)) ×
+    (one_if (not b) ≡ one_if (nat_lt jump_at end))
+some_jump true jump_at behind end is ends =
+    let none_ = eqb-true behind 0 is in
+    let no : nat_lt jump_at end ≡ false = le-ltb jump_at end (omega (arith, ends, none_)) in rw no (refl, refl)
+some_jump false jump_at behind end is ends =
+    let all : nat_lt jump_at end ≡ true = lt-ltb jump_at end (omega (arith, ends)) in
+    let at : jump_at + 1 + behind ≡ end = omega (arith, ends) in
+    rw (all, at) (refl, refl)
+
+-- the jump of an arm, and its size
+arm_jump : (goes jumps : Bool) (jump_at behind end : ℕ) →
+    end ≡ jump_at + ((if goes then jump_size behind else 0) + behind) →
+    jumps ≡ (goes && nat_lt jump_at end) →
+    ((if goes then jump_code behind jump_at else []) ≡ instr_if jumps (Jump end, 0)) ×
+    ((if goes then jump_size behind else 0) ≡ one_if jumps)
+arm_jump false jumps jump_at behind end ends is = rw is (refl, refl)
+arm_jump true jumps jump_at behind end ends is =
+    rw is (some_jump (behind == 0) jump_at behind end refl ends)
+
+-- one more arm
+pub arms_next : (typed : Typed) (exits : Exits) (arms : List TArm) (i : ℕ) (arm : TArm) (other : ℕ)
+    (behind : ℕ → Listing) (c1 c2 c3 c4 : Listing) (next end : ℕ) (jumps : Bool) →
+    i < length arms → arm ≡ get_or arms i arm →
+    length c1 + arms_size_of typed (drop i arms) other ≡ end →
+    jumps ≡ (goes_on arm.body && nat_lt (length c1 + test_size typed false false arm.test + stmt_size typed arm.body) end) →
+    next ≡ length c1 + test_size typed false false arm.test + stmt_size typed arm.body + one_if jumps →
+    c2 ≡ c1 ++ test_code typed false (Forward next) arm.test (length c1) 0 →
+    length c2 ≡ length c1 + test_size typed false false arm.test →
+    c3 ≡ c2 ++ stmt_code typed exits arm.body (length c2) →
+    c4 ≡ c3 ++ instr_if jumps (Jump end, 0) → length c4 ≡ next →
+    c4 ++ arms_code_of typed exits (drop (i + 1) arms) other behind (length c4) ≡
+    c1 ++ arms_code_of typed exits (drop i arms) other behind (length c1)
+arms_next typed exits arms i arm other behind c1 c2 c3 c4 next end jumps within is whole does at e2 place e3 e4 long =
+    let rest = arms_size_of typed (drop (i + 1) arms) other in
+    let jump_at = length c1 + test_size typed false false arm.test + stmt_size typed arm.body in
+    let here = arms_here typed arms other i (i + 1) arm within is refl in
+    let jump = arm_jump (goes_on arm.body) jumps jump_at rest end (omega (arith, whole, here)) does in
+    rw (drop_next arms i arm within is, jump.0, jump.1, long, e4, e3, place, e2, at) (simp append_assoc)
+
+-- one more label
+pub labels_next : (labels : List (Option ℤ)) (i : ℕ) (label : Option ℤ) (at : ℕ) (c1 c2 : Listing) →
+    i < length labels → label ≡ get_or labels i label → c2 ≡ c1 ++ labels_code (label ∷ []) at →
+    c2 ++ labels_code (drop (i + 1) labels) at ≡ c1 ++ labels_code (drop i labels) at
+labels_next labels i None at c1 c2 within is code =
+    rw (drop_next labels i None within is, code) (simp append_assoc)
+labels_next labels i (Some n) at c1 c2 within is code =
+    rw (drop_next labels i (Some n) within is, code) (simp append_assoc)
+
+-- the cases of one more group
+pub cases_next : (typed : Typed) (groups : List TGroup) (i : ℕ) (group : TGroup) (at next : ℕ) (c1 c2 : Listing) →
+    i < length groups → group ≡ get_or groups i group →
+    c2 ≡ c1 ++ labels_code group.labels at →
+    next ≡ at + sum_by (stmt_size typed) (kept_if (i + 1 == length groups) group.body) →
+    c2 ++ cases_code (labels_of_groups (drop (i + 1) groups)) (group_sizes_of typed (drop (i + 1) groups)) next ≡
+    c1 ++ cases_code (labels_of_groups (drop i groups)) (group_sizes_of typed (drop i groups)) at
+cases_next typed groups i group at next c1 c2 within is code place =
+    rw (sizes_here typed groups i group within is, drop_next groups i group within is, place, code) (simp append_assoc)
+
+-- one more group
+pub groups_next : (typed : Typed) (exits : Exits) (groups : List TGroup) (i : ℕ) (group : TGroup) (c1 c2 : Listing) →
+    i < length groups → group ≡ get_or groups i group →
+    c2 ≡ c1 ++ body_code typed exits (kept_if (i + 1 == length groups) group.body) (length c1) →
+    length c2 ≡ length c1 + sum_by (stmt_size typed) (kept_if (i + 1 == length groups) group.body) →
+    c2 ++ groups_code_of typed exits (drop (i + 1) groups) (length c2) ≡
+    c1 ++ groups_code_of typed exits (drop i groups) (length c1)
+groups_next typed exits groups i group c1 c2 within is code place =
+    let last = is_nil-drop groups (i + 1) (omega (arith, within)) in
+    rw (drop_next groups i group within is, last, place, code) (simp append_assoc)
+
+-- Procedures.
+
+module _ {A : Type 0} (f : A → Procedure) (typed : Typed) (xs : List A) (i : ℕ) (x : A)
+    (within : i < length xs) (is : x ≡ get_or xs i x) where
+  -- one more procedure
+  pub procedures_next : (c1 c2 : Listing) → c2 ≡ c1 ++ procedure_code typed (f x) (length c1) →
+      length c2 ≡ place_behind typed (f x) (length c1) →
+      c2 ++ procedures_code typed (map f (drop (i + 1) xs)) (length c2) ≡
+      c1 ++ procedures_code typed (map f (drop i xs)) (length c1)
+  procedures_next c1 c2 code place =
+      rw (drop_next xs i x within is, place, code) (simp append_assoc)
+
+  -- its entry
+  pub entries_next : (t1 t2 : List Fun) (place next : ℕ) → t2 ≡ t1 ++ entry_of typed (f x) place ∷ [] →
+      next ≡ place_behind typed (f x) place →
+      t2 ++ function_table typed (map f (drop (i + 1) xs)) next ≡
+      t1 ++ function_table typed (map f (drop i xs)) place
+  entries_next t1 t2 place next entry behind =
+      rw (drop_next xs i x within is, entry, behind) (simp append_assoc)
+
+-- one more event procedure
+pub handlers_next : (handlers : List THandler) (i : ℕ) (handler : THandler) (h1 h2 : List Handler) (number next : ℕ) →
+    i < length handlers → handler ≡ get_or handlers i handler →
+    h2 ≡ h1 ++ record { event = handler.event; function = number; file = handler.file; line = handler.line } ∷ [] →
+    next ≡ number + 1 →
+    h2 ++ handler_table (drop (i + 1) handlers) next ≡ h1 ++ handler_table (drop i handlers) number
+handlers_next handlers i handler h1 h2 number next within is entry one =
+    rw (drop_next handlers i handler within is, entry, one) (simp append_assoc)
+
+-- functions, and other procedures behind them
+pub procedures_join : (typed : Typed) (functions : List TFun) (rest : List Procedure) (place : ℕ) →
+    procedures_code typed (map of_function functions ++ rest) place ≡
+    procedures_code typed (map of_function functions) place ++
+    procedures_code typed rest (place + functions_size typed functions)
+procedures_join typed [] rest place = rw add-zero refl
+procedures_join typed (function ∷ functions) rest place =
+    let behind = place_behind typed (of_function function) place in
+    let size = sum_by-cons (λ function. procedure_size typed (is_some function.gives) function.body) function functions in
+    let end : behind + functions_size typed functions ≡ place + functions_size typed (function ∷ functions) = omega (arith, size) in
+    rw (← end)
+    (ap (λ l. procedure_code typed (of_function function) place ++ l) (procedures_join typed functions rest behind) ∙
+    sym (append_assoc (procedure_code typed (of_function function) place)
+    (procedures_code typed (map of_function functions) behind)
+    (procedures_code typed rest (behind + functions_size typed functions))))
+
+-- their entries
+pub entries_join : (typed : Typed) (functions : List TFun) (rest : List Procedure) (place : ℕ) →
+    function_table typed (map of_function functions ++ rest) place ≡
+    function_table typed (map of_function functions) place ++
+    function_table typed rest (place + functions_size typed functions)
+entries_join typed [] rest place = rw add-zero refl
+entries_join typed (function ∷ functions) rest place =
+    let behind = place_behind typed (of_function function) place in
+    let size = sum_by-cons (λ function. procedure_size typed (is_some function.gives) function.body) function functions in
+    let end : behind + functions_size typed functions ≡ place + functions_size typed (function ∷ functions) = omega (arith, size) in
+    ap (λ l. entry_of typed (of_function function) place ∷ l)
+    (entries_join typed functions rest behind ∙
+    ap (λ p. function_table typed (map of_function functions) behind ++ function_table typed rest p) end)
+
+-- there are as many entries as functions
+pub entries_count : (typed : Typed) (functions : List TFun) (place : ℕ) →
+    length (function_table typed (map of_function functions) place) ≡ length functions
+entries_count typed [] place = refl
+entries_count typed (function ∷ functions) place =
+    ap suc (entries_count typed functions (place_behind typed (of_function function) place))

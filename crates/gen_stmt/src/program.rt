@@ -1,0 +1,165 @@
+// The code of procedures and of whole programs.
+
+ghost use Rattle.std.specs.Prelude.{◌≡◌, ◌+◌, ◌<◌, ◌^◌, [], ◌∷◌, ◌++◌, length, map, IfOk, OnOk};
+ghost use Rattle.typed_tree.specs.Size.{procedure_size, size, tail_size};
+ghost use Rattle.typed_code.specs.Program.{IsCodeOf, function_table, handler_table, procedure_code, procedures_code, tail_code};
+ghost use Rattle.gen_stmt.specs.Inside.Procedures.{entry_of, functions_size, handlers_size, of_function, of_handler};
+
+use crate::exits::Exits;
+use crate::shape::last_goes_on;
+use crate::size::stmts_size;
+use crate::statement::emit_stmts;
+use bytecode::{Code, Fun, Handler, Instr};
+use gen_expr::Emitter;
+use items::Items;
+use sim_outside::NoMemory;
+use std::alloc::Global;
+use typed_tree::{TFun, THandler, TStmt, Typed};
+use write_format::Format;
+
+/// Appends the end of a procedure, where control may come to it: it returns, with 0 where it gives a
+/// number.
+fn add_tail(gives: bool, goes: bool, into: &mut Emitter) -> Result<(), NoMemory>
+    ensures grows { OnOk result (length into.new ≡ length into.old + tail_size gives goes) }
+    ensures code { OnOk result (into.new ≡ into.old ++ tail_code gives goes) }
+{
+    if goes {
+        if gives {
+            into.add(Instr::Push(0), 0)?;
+        }
+        into.add(Instr::Ret, u32::from(gives))?;
+    }
+    Ok(())
+}
+
+/// Appends the code of a procedure that gives a number or not.
+fn emit_procedure(
+    gives: bool,
+    body: &[TStmt],
+    typed: &Typed,
+    into: &mut Emitter,
+) -> Result<(), NoMemory>
+    requires { length into.old + procedure_size typed.now gives body.now < 2 ^ 32 }
+    ensures grows { OnOk result
+        (length into.new ≡ length into.old + procedure_size typed.now gives body.now) }
+    ensures code { OnOk result (into.new ≡ into.old
+        ++ procedure_code typed.now (record { gives = gives; body = body.now }) (length into.old)) }
+{
+    let end = into.place() + stmts_size(body, typed);
+    let exits = Exits {
+        break_at: end,
+        continue_at: end,
+    };
+    emit_stmts(body, typed, exits, into)?;
+    add_tail(gives, last_goes_on(body), into)?;
+    Ok(())
+}
+
+/// Appends the code of a procedure, and its entry in the table of functions.
+fn add_procedure(
+    gives: bool,
+    body: &[TStmt],
+    typed: &Typed,
+    code: &mut Emitter,
+    table: &mut Vec<Fun>,
+) -> Result<(), NoMemory>
+    requires { length code.old + procedure_size typed.now gives body.now < 2 ^ 32 }
+    ensures grows { OnOk result
+        (length code.new ≡ length code.old + procedure_size typed.now gives body.now) }
+    ensures code { OnOk result (code.new ≡ code.old
+        ++ procedure_code typed.now (record { gives = gives; body = body.now }) (length code.old)) }
+    ensures table { OnOk result (table.new.items ≡ table.old.items
+        ++ entry_of typed.now (record { gives = gives; body = body.now }) (length code.old) ∷ []) }
+{
+    let start = code.place();
+    emit_procedure(gives, body, typed, code)?;
+    let end = code.place();
+    table.push(Fun { start, end, gives })?;
+    Ok(())
+}
+
+/// Appends the code of the functions, and their entries.
+fn add_functions(
+    functions: &[TFun],
+    typed: &Typed,
+    code: &mut Emitter,
+    table: &mut Vec<Fun>,
+) -> Result<(), NoMemory>
+    requires { length code.old + functions_size typed.now functions.now < 2 ^ 32 }
+    ensures grows { OnOk result (length code.new ≡ length code.old + functions_size typed.now functions.now) }
+    ensures code { OnOk result (code.new ≡ code.old
+        ++ procedures_code typed.now (map of_function functions.now) (length code.old)) }
+    ensures table { OnOk result (table.new.items ≡ table.old.items
+        ++ function_table typed.now (map of_function functions.now) (length code.old)) }
+{
+    for function in functions {
+        let body = function.body.as_slice();
+        add_procedure(function.gives.is_some(), body, typed, code, table)?;
+    }
+    Ok(())
+}
+
+/// Appends the code of the event procedures, and their entries, and gives their table.
+fn add_handlers(
+    alloc: Global,
+    handlers: &[THandler],
+    typed: &Typed,
+    code: &mut Emitter,
+    table: &mut Vec<Fun>,
+) -> Result<Vec<Handler>, NoMemory>
+    requires { length code.old + handlers_size typed.now handlers.now < 2 ^ 32 }
+    ensures code { OnOk result (code.new ≡ code.old
+        ++ procedures_code typed.now (map of_handler handlers.now) (length code.old)) }
+    ensures table { OnOk result (table.new.items ≡ table.old.items
+        ++ function_table typed.now (map of_handler handlers.now) (length code.old)) }
+    ensures handlers { IfOk result
+        (λ entries. entries.items ≡ handler_table handlers.now (length table.old.items)) }
+{
+    let mut entries = Vec::new(alloc);
+    for handler in handlers {
+        let number = u32::try_from(table.len()).map_err(|_| NoMemory)?;
+        add_procedure(false, handler.body.as_slice(), typed, code, table)?;
+        entries.push(Handler {
+            event: handler.event.copy()?,
+            function: number,
+            file: handler.file,
+            line: handler.line,
+        })?;
+    }
+    Ok(entries)
+}
+
+/// The formats once more.
+fn copy_formats(alloc: Global, formats: &[Format]) -> Result<Items<Format>, NoMemory>
+    ensures { IfOk result (λ copies. copies ≡ formats.now) }
+{
+    let mut copies = Vec::new(alloc);
+    for format in formats {
+        copies.push(format.copy()?)?;
+    }
+    Ok(Items::from_list(copies))
+}
+
+/// The code of a typed program, with its tables. Takes time linear in the code and in the tables, once
+/// for each level of nesting.
+pub fn make_code(alloc: Global, typed: &Typed) -> Result<Code, NoMemory>
+    requires { size typed.now < 2 ^ 32 }
+    ensures { IfOk result (IsCodeOf typed.now) }
+{
+    let mut code = Emitter::new(alloc);
+    let mut functions = Vec::new(alloc);
+    add_functions(typed.functions.as_slice(), typed, &mut code, &mut functions)?;
+    let events = typed.handlers.as_slice();
+    let handlers = add_handlers(alloc, events, typed, &mut code, &mut functions)?;
+    let (instrs, depths) = code.take();
+    Ok(Code {
+        instrs: Items::from_list(instrs),
+        depths: Items::from_list(depths),
+        functions: Items::from_list(functions),
+        handlers: Items::from_list(handlers),
+        cells: typed.cells.copy()?,
+        starts: typed.starts.copy()?,
+        timers: typed.timers.copy()?,
+        formats: copy_formats(alloc, typed.formats.as_slice())?,
+    })
+}
