@@ -1,0 +1,5 @@
+-- The lemmas of this crate.
+mod ChoiceLemmas
+mod NextLineLemmas
+mod SaidLemmas
+mod ReadLemmas

@@ -1,0 +1,6 @@
+-- The definitions of this crate.
+pub mod Value
+pub mod Item
+pub mod Rule
+pub mod Scenario
+pub mod Inside
