@@ -1,0 +1,12 @@
+-- The lemmas of this crate.
+pub mod BytesLemmas
+pub mod DataLemmas
+pub mod FieldLemmas
+pub mod FrameFieldLemmas
+pub mod NumberBounds
+pub mod OneReading
+pub mod PieceLemmas
+pub mod ReadingLemmas
+pub mod SplitLemmas
+pub mod StampLemmas
+pub mod WrittenLemmas

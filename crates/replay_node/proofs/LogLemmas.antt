@@ -1,0 +1,196 @@
+-- How far the reading of a log has come.
+use Rattle.std.proofs.Common.{◌≡◌, ◌≢◌, ℕ, ◌+◌, ◌-◌, ◌<◌, ◌≤◌, ◌⊎◌, inl, inr, Bool, true, false, List, [], ◌∷◌, ◌++◌, length, get_or, refl, sym, ap, subst, ◌∙◌, arith, append_assoc, append-nil, length-append}
+use Rattle.std.specs.Prelude.{◌==◌}
+use Rattle.std.specs.Bool.{OnFalse}
+use Rattle.std.specs.List.{onto_first}
+use Rattle.std.proofs.lemmas.List.{get_or-append_right}
+use Rattle.text_parts.specs.Line.{lines_of, line_end}
+use Rattle.log_line.specs.Reading.{Reads}
+use Rattle.log_line.specs.declared.line.Line.{Line}
+use Rattle.log_line.specs.declared.line.Line.TheVariants.{Skip}
+use Rattle.replay_node.specs.Log.{is_ended, HasNoReading, AllRead, EndsUnread, IsBadLine}
+use Rattle.replay_node.specs.Replay.{IsReplayOf, IsReplay}
+use Rattle.replay_node.specs.Inside.Progress.{IsProgress}
+use Rattle.scenario.specs.declared.scenario.Epoch.{Epoch}
+use Rattle.replay_node.specs.declared.progress.Progress.{Progress}
+use Rattle.replay_node.specs.declared.replay.Replay.{Replay}
+
+-- one more line that reads
+all_read_more : (lines : List (List ℕ)) (readings : List Line) (line : List ℕ) (reading : Line) → AllRead lines readings → Reads line reading → AllRead (lines ++ line ∷ []) (readings ++ reading ∷ [])
+all_read_more [] [] line reading read is = (is, tt)
+all_read_more [] (r ∷ readings) line reading read is = absurd read
+all_read_more (l ∷ lines) [] line reading read is = absurd read
+all_read_more (l ∷ lines) (r ∷ readings) line reading read is = (read.0, all_read_more lines readings line reading read.1 is)
+
+-- what stands behind a front ends the text
+ended_behind : (front rest : List ℕ) → 0 < length rest → is_ended (front ++ rest) ≡ is_ended rest
+ended_behind front rest some =
+    let whole = length-append front rest in
+    let place : ℕ = length (front ++ rest) - 1 in
+    let at : get_or (front ++ rest) place 0 ≡ get_or rest (place - length front) 0 = get_or-append_right front rest (length front) place 0 refl (omega (arith, whole, some)) in
+    let same : place - length front ≡ length rest - 1 = omega (arith, whole, some) in
+    ap (λ b. b == 10) (at ∙ ap (λ n. get_or rest n 0) same)
+
+-- a line feed at the end ends the text
+ended_by : (line : List ℕ) → is_ended (line ++ 10 ∷ []) ≡ true
+ended_by line = ended_behind line (10 ∷ []) (omega arith)
+
+-- a byte in front leaves a line
+onto_some : (byte : ℕ) (lines : List (List ℕ)) → onto_first byte lines ≡ [] → ⊥
+onto_some byte [] none = cc
+onto_some byte (line ∷ lines) none = cc
+
+-- a text has a line, by whether its first byte ends one
+some_by : (byte : ℕ) (text : List ℕ) (t : Bool) → (byte == 10) ≡ t → lines_of (byte ∷ text) ≡ [] → ⊥
+some_by byte text true is none = let e = rw is at none in cc
+some_by byte text false is none = onto_some byte (lines_of text) (rw is at none)
+
+-- a text with a byte has a line
+some_line : (text : List ℕ) → 0 < length text → lines_of text ≢ []
+some_line [] some none = omega (arith, some)
+some_line (byte ∷ text) some none = some_by byte text (byte == 10) refl none
+
+-- a text without lines is empty
+no_text : (text : List ℕ) → lines_of text ≡ [] → text ≡ []
+no_text [] none = refl
+no_text (byte ∷ text) none = absurd (some_by byte text (byte == 10) refl none)
+
+-- a first line that goes on
+one_onto : (byte : ℕ) (text : List ℕ) (lines : List (List ℕ)) → lines_of text ≡ lines → onto_first byte lines ≡ (byte ∷ text) ∷ [] → (text ≡ []) ⊎ (lines_of text ≡ text ∷ [])
+one_onto byte text [] is whole = inl (no_text text is)
+one_onto byte text (line ∷ lines) is whole =
+    let first : line ≡ text = cc in
+    let others : lines ≡ [] = cc in
+    inr (is ∙ ap (λ l. l ∷ lines) first ∙ ap (λ ls. text ∷ ls) others)
+
+-- a text that is its only line is not ended, by its rest
+only_by : (byte : ℕ) (text : List ℕ) → (byte == 10) ≡ false → (lines_of text ≡ text ∷ [] → is_ended text ≡ false) → (text ≡ []) ⊎ (lines_of text ≡ text ∷ []) → is_ended (byte ∷ text) ≡ false
+only_by byte text is again (inl none) = subst (λ t. is_ended (byte ∷ t) ≡ false) (sym none) is
+only_by byte [] is again (inr one) = is
+only_by byte (c ∷ text) is again (inr one) = ended_behind (byte ∷ []) (c ∷ text) (omega arith) ∙ again one
+
+-- by whether its first byte is a line feed
+only_test : (byte : ℕ) (text : List ℕ) (t : Bool) → (byte == 10) ≡ t → (lines_of text ≡ text ∷ [] → is_ended text ≡ false) → lines_of (byte ∷ text) ≡ (byte ∷ text) ∷ [] → is_ended (byte ∷ text) ≡ false
+only_test byte text true is again one = absurd (let e = rw is at one in cc)
+only_test byte text false is again one = only_by byte text is again (one_onto byte text (lines_of text) refl (rw is at one))
+
+-- a text that is its only line is not ended
+pub only_line : (text : List ℕ) → lines_of text ≡ text ∷ [] → is_ended text ≡ false
+only_line [] one = cc
+only_line (byte ∷ text) one = only_test byte text (byte == 10) refl (only_line text) one
+
+-- how far a log is read
+pub record HasRead (log rest interface : List ℕ) (bit : ℕ) (epoch : Epoch) (number : ℕ) (progress : Progress) : Type 0 where
+  pub front : List ℕ
+  pub lines : List (List ℕ)
+  pub readings : List Line
+  pub text : log ≡ front ++ rest
+  pub split : lines_of log ≡ lines ++ lines_of rest
+  pub read : AllRead lines readings
+  pub count : number ≡ length lines
+  pub room : number + length rest ≤ length log
+  pub skipped_room : progress.skipped ≤ number
+  pub progress_is : IsProgress interface bit epoch readings progress
+
+-- nothing is read yet
+pub read_nothing : (log interface : List ℕ) (bit : ℕ) (epoch : Epoch) (progress : Progress) → progress.skipped ≡ 0 → IsProgress interface bit epoch [] progress
+    → HasRead log log interface bit epoch 0 progress
+read_nothing log interface bit epoch progress none is = record {
+  front = [];
+  lines = [];
+  readings = [];
+  text = refl;
+  split = refl;
+  read = tt;
+  count = refl;
+  room = omega arith;
+  skipped_room = omega (arith, none);
+  progress_is = is;
+}
+
+-- the first line of what is left
+pub record IsFirst (rest line : List ℕ) (ended : Bool) (after : List ℕ) : Type 0 where
+  pub lines : lines_of rest ≡ line ∷ lines_of after
+  pub whole : rest ≡ line ++ line_end ended ++ after
+  pub last : ended ≡ false → after ≡ []
+  pub shorter : length after < length rest
+
+-- the lines of the log around it
+lines_around : (log rest line after : List ℕ) (lines : List (List ℕ)) → lines_of log ≡ lines ++ lines_of rest → lines_of rest ≡ line ∷ lines_of after → lines_of log ≡ lines ++ line ∷ lines_of after
+lines_around log rest line after lines split first = split ∙ ap (λ l. lines ++ l) first
+
+-- one more line that reads
+pub read_more : (log rest line after interface : List ℕ) (ended : Bool) (bit : ℕ) (epoch : Epoch) (number : ℕ) (old new : Progress) (reading : Line)
+    → (has : HasRead log rest interface bit epoch number old) → IsFirst rest line ended after → Reads line reading
+    → ((readings : List Line) → IsProgress interface bit epoch readings old → IsProgress interface bit epoch (readings ++ reading ∷ []) new) → new.skipped ≤ old.skipped + 1
+    → HasRead log after interface bit epoch (number + 1) new
+read_more log rest line after interface ended bit epoch number old new reading has first reads taken room =
+    let short = first.shorter in
+    let count_is = has.count in
+    let log_room = has.room in
+    let old_room = has.skipped_room in
+    record {
+      front = has.front ++ line ++ line_end ended;
+      lines = has.lines ++ line ∷ [];
+      readings = has.readings ++ reading ∷ [];
+      text = has.text ∙ ap (λ l. has.front ++ l) first.whole ∙ sym (append_assoc has.front (line ++ line_end ended) after)
+          ∙ ap (λ l. l ++ after) (sym (append_assoc has.front line (line_end ended)));
+      split = lines_around log rest line after has.lines has.split first.lines ∙ sym (append_assoc has.lines (line ∷ []) (lines_of after));
+      read = all_read_more has.lines has.readings line reading has.read reads;
+      count = let more = length-append has.lines (line ∷ []) in omega (arith, more, count_is);
+      room = omega (arith, short, log_room);
+      skipped_room = omega (arith, room, old_room);
+      progress_is = taken has.readings has.progress_is;
+    }
+
+-- a line that has no reading and is ended
+pub bad_line : (log rest line after interface : List ℕ) (bit : ℕ) (epoch : Epoch) (number : ℕ) (old : Progress)
+    → (has : HasRead log rest interface bit epoch number old) → IsFirst rest line true after → HasNoReading line → IsBadLine log (number + 1)
+bad_line log rest line after interface bit epoch number old has first none =
+    let count_is = has.count in
+    let short = first.shorter in
+    record {
+      lines = has.lines;
+      line = line;
+      behind = lines_of after;
+      are = lines_around log rest line after has.lines has.split first.lines;
+      number_is = omega (arith, count_is);
+      read = (has.readings, has.read);
+      no_reading = none;
+      is_no_end = λ no_lines.
+          let no_more = no_text after no_lines in
+          let ends : rest ≡ line ++ 10 ∷ [] = first.whole ∙ ap (λ l. (line ++ 10 ∷ []) ++ l) no_more ∙ append-nil (line ++ 10 ∷ []) in
+          ap is_ended has.text ∙ ended_behind has.front rest (omega (arith, short)) ∙ ap is_ended ends ∙ ended_by line;
+    }
+
+-- an unread end
+pub unread_end : (log rest line after interface : List ℕ) (bit : ℕ) (epoch : Epoch) (number : ℕ) (old new : Progress) (replay : Replay)
+    → (has : HasRead log rest interface bit epoch number old) → IsFirst rest line false after → HasNoReading line
+    → ((readings : List Line) → IsProgress interface bit epoch readings old → IsProgress interface bit epoch (readings ++ Skip ∷ []) new)
+    → ((readings : List Line) → IsProgress interface bit epoch readings new → IsReplayOf interface bit epoch readings replay) → IsReplay log interface bit epoch replay
+unread_end log rest line after interface bit epoch number old new replay has first none skipped made =
+    let short = first.shorter in
+    let no_more = first.last refl in
+    let whole : rest ≡ line = first.whole ∙ ap (λ l. (line ++ []) ++ l) no_more ∙ append-nil (line ++ []) ∙ append-nil line in
+    let one : lines_of rest ≡ rest ∷ [] = first.lines ∙ ap (λ l. line ∷ lines_of l) no_more ∙ ap (λ l. l ∷ []) (sym whole) in
+    let ends : EndsUnread log has.readings = record {
+      lines = has.lines;
+      last = line;
+      are = lines_around log rest line after has.lines has.split first.lines ∙ ap (λ l. has.lines ++ line ∷ lines_of l) no_more;
+      read = has.read;
+      no_reading = none;
+      not_ended = ap is_ended has.text ∙ ended_behind has.front rest (omega (arith, short)) ∙ only_line rest one;
+    } in
+    (has.readings ++ Skip ∷ [], inr (has.readings, ends, refl), made (has.readings ++ Skip ∷ []) (skipped has.readings has.progress_is))
+
+-- all lines are read
+pub read_all : (log interface : List ℕ) (bit : ℕ) (epoch : Epoch) (number : ℕ) (progress : Progress) (replay : Replay) → (has : HasRead log [] interface bit epoch number progress)
+    → ((readings : List Line) → IsProgress interface bit epoch readings progress → IsReplayOf interface bit epoch readings replay) → IsReplay log interface bit epoch replay
+read_all log interface bit epoch number progress replay has made =
+    let same : lines_of log ≡ has.lines = has.split ∙ append-nil has.lines in
+    (has.readings, inl (subst (λ l. AllRead l has.readings) (sym same) has.read), made has.readings has.progress_is)
+
+-- what holds where a test is false
+pub on_false : (test : Bool) (P : Type 0) → OnFalse test P → test ≡ false → P
+on_false true P is isnt = cc
+on_false false P is isnt = is

@@ -1,0 +1,10 @@
+-- What stands between two lines.
+use Rattle.std.proofs.Common.{length}
+use Rattle.replay_node.proofs.LogLemmas.{HasRead}
+use Rattle.replay_node.proofs.log.requests.Given as goal
+
+abbrev pub invariant-loop-first : goal.invariant-loop-first
+invariant-loop-first l = HasRead l.log l.rest l.interface l.bit l.fn.epoch l.number l.progress
+
+abbrev pub decreases-loop-first : goal.decreases-loop-first
+decreases-loop-first l = length l.rest

@@ -1,0 +1,77 @@
+-- The requests of a log that is replayed.
+use Rattle.std.specs.Prelude.{◌≡◌, ◌+◌, ◌-◌, ◌*◌, ◌^◌, ℕ, Bool, true, false, List, [], ◌∷◌, max, min, not, count_by, if◌then◌else◌}
+use Rattle.std.specs.List.{flat_map}
+use Rattle.std.specs.Str.{bytes_eq}
+use Rattle.frame_bits.specs.Length.{frame_length}
+use Rattle.log_line.specs.declared.line.Entry as declared
+use Rattle.log_line.specs.declared.line.Line.{Line}
+use Rattle.log_line.specs.declared.line.Line.TheVariants.{Entry, Skip, Empty}
+use Rattle.replay_node.specs.Log.{LogReads}
+use Rattle.scenario.specs.declared.scenario.Epoch.{Epoch}
+use Rattle.scenario.specs.declared.scenario.Epoch.TheVariants.{At, First}
+use Rattle.replay_node.specs.declared.replay.Replay.{Replay}
+use Rattle.replay_node.specs.declared.replay.Request.{Request}
+
+-- the entry of a line, where it is of this interface
+abbrev pub entry_on : List ℕ → Line → List declared.Entry
+entry_on interface (Entry entry) = if bytes_eq entry.interface interface then entry ∷ [] else []
+entry_on interface Skip = []
+entry_on interface Empty = []
+
+-- the entries of the interface, in order
+abbrev pub entries_on : List ℕ → List Line → List declared.Entry
+entries_on interface readings = flat_map (entry_on interface) readings
+
+-- whether a line is passed over: a frame of another kind, or an entry of another interface
+abbrev pub is_skipped : List ℕ → Line → Bool
+is_skipped interface (Entry entry) = not (bytes_eq entry.interface interface)
+is_skipped interface Skip = true
+is_skipped interface Empty = false
+
+-- how many lines are passed over
+abbrev pub skipped_on : List ℕ → List Line → ℕ
+skipped_on interface readings = count_by (is_skipped interface) readings
+
+-- a second before a moment in seconds, at least 0 and at most 2^32 - 1
+abbrev pub second_before : ℕ → ℕ
+second_before seconds = min (seconds - 1) (2 ^ 32 - 1)
+
+-- the epoch in seconds; the first is a second before the first entry, and 0 without one
+abbrev pub epoch_of : Epoch → List declared.Entry → ℕ
+epoch_of (At seconds) entries = seconds
+epoch_of First [] = 0
+epoch_of First (entry ∷ entries) = second_before entry.seconds
+
+-- microseconds in a second
+abbrev pub per_second : ℕ
+per_second = 1000000
+
+-- the stamp of an entry in microseconds
+abbrev pub stamp_of : declared.Entry → ℕ
+stamp_of entry = entry.seconds * per_second + entry.micros
+
+-- when the frame of an entry started, in microseconds from the epoch, at least 0 and at most 2^64 - 1; a bit
+-- takes this time
+abbrev pub start_of : ℕ → ℕ → declared.Entry → ℕ
+start_of bit epoch entry =
+    min (stamp_of entry - epoch * per_second - frame_length entry.frame * bit) (2 ^ 64 - 1)
+
+-- the requests of the entries, where the one before asked at this moment: each asks at its start, and not
+-- before the one before
+abbrev pub requests_of : ℕ → ℕ → ℕ → List declared.Entry → List Request
+requests_of bit epoch before [] = []
+requests_of bit epoch before (entry ∷ entries) =
+    record { at = max before (start_of bit epoch entry); frame = entry.frame }
+    ∷ requests_of bit epoch (max before (start_of bit epoch entry)) entries
+
+-- the replay of lines that read so
+pub record IsReplayOf (interface : List ℕ) (bit : ℕ) (epoch : Epoch) (readings : List Line) (replay : Replay)
+    : Type 0 where
+  pub epoch_is : replay.epoch ≡ epoch_of epoch (entries_on interface readings)
+  pub skipped_is : replay.skipped ≡ skipped_on interface readings
+  pub list_is : replay.list ≡ requests_of bit replay.epoch 0 (entries_on interface readings)
+
+-- the replay of a log on an interface
+abbrev pub IsReplay : List ℕ → List ℕ → ℕ → Epoch → Replay → Type 0
+IsReplay log interface bit epoch replay =
+    (readings : List Line) × LogReads log readings × IsReplayOf interface bit epoch readings replay

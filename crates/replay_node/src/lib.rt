@@ -1,0 +1,16 @@
+//! The requests by which a recorded log is replayed.
+//!
+//! A log has lines in the form of can-utils' `candump -L`. [`requests`] gives a request for each
+//! classic CAN frame of one interface, so that the frame ends on an idle bus at its stamp: it asks at
+//! its start, which is its stamp less the epoch and less its length. Frames of other kinds and of other
+//! interfaces are passed over and counted.
+#![tactic(auto)]
+
+pub use log::requests;
+pub use replay::{Replay, ReplayRefusal, Request};
+
+mod log;
+mod progress;
+mod replay;
+#[cfg(test)]
+mod tests;
