@@ -1,0 +1,6 @@
+-- The lemmas of this crate.
+pub mod LexerLemmas
+pub mod Tables
+pub mod SaidLemmas
+pub mod OneReading
+pub mod Distinct
