@@ -13,12 +13,13 @@ use Rattle.sim_run.specs.declared.source.Source.{Source}
 use Rattle.sim_run.specs.declared.status.Status.{Status}
 use Rattle.sim_run.specs.declared.status.Status.TheVariants.{Done, Refused, Usage, ReadFault, WriteFault, OutOfMemory}
 use Rattle.sim_run.specs.Answer.{Prints, IsDone, IsRefused, IsAnswer}
-use Rattle.sim_run.specs.Blame.{blame_line, form_not_taken, whole_file}
+use Rattle.sim_run.specs.Blame.{form_not_taken, whole_file}
 use Rattle.sim_run.specs.Command.{IsCommand}
 use Rattle.sim_run.specs.Inputs.{Contents, AreAccepted, IsFirstBlame}
 use Rattle.sim_run.specs.Inside.Answer.{status_after}
 use Rattle.sim_run.specs.Log.{after_start, log_of}
 use Rattle.sim_run.specs.Window.{window_of}
+use Rattle.sim_text.specs.Blame.{blame_line}
 use Rattle.sim_run.proofs.CommandLemmas.{one_command}
 use Rattle.sim_run.proofs.InputsLemmas.{one_pair, not_both, one_blame}
 use Rattle.sim_run.proofs.LogLemmas.{one_log, some_log}

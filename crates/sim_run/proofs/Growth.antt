@@ -1,8 +1,7 @@
 -- How what was written grows by one piece after another.
 use Rattle.std.proofs.Common.{◌≡◌, ℕ, zero, suc, ◌+◌, ◌<◌, List, [], ◌∷◌, ◌++◌, length, take, drop, get_or, Option, Some, None, refl, sym, ap, ◌∙◌, append_assoc, arith}
 use Rattle.std.proofs.Math.Seq.{take-append-add, take-nil}
-use Rattle.std.proofs.lemmas.List.{append-nil, take_more}
-use Rattle.std.proofs.lemmas.Grind.{flat_map-append}
+use Rattle.std.proofs.lemmas.List.{append-nil}
 use Rattle.std.specs.List.{flat_map}
 use Rattle.std.specs.Option.{option_map}
 use Rattle.std.specs.Prelude.{Result, Ok, Err, IsErr}
@@ -35,13 +34,6 @@ pub flat_map_around : {X : Type 0} (f : X → List ℕ) (xs : List X) (i : ℕ) 
 flat_map_around f [] i x within is = absurd (omega arith)
 flat_map_around f (y ∷ ys) zero x within is = grind arith
 flat_map_around f (y ∷ ys) (suc i) x within is = grind (arith, flat_map_around f ys i x (omega arith) is, append_assoc {A = ℕ})
-
--- one more piece
-pub flat_map-take_more : {X A : Type 0} (f : X → List A) (xs : List X) (i : ℕ) (d : X) → i < length xs →
-    flat_map f (take (i + 1) xs) ≡ flat_map f (take i xs) ++ f (get_or xs i d)
-flat_map-take_more f xs i d within =
-    ap (flat_map f) (take_more xs i d within) ∙ flat_map-append f (take i xs) (get_or xs i d ∷ [])
-    ∙ ap (λ l. flat_map f (take i xs) ++ l) (append-nil (f (get_or xs i d)))
 
 -- nothing is written yet
 pub grows_by_none : (old : Option (List ℕ)) → GrowsBy old old []

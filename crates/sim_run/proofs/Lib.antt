@@ -1,11 +1,9 @@
 -- The lemmas of this crate.
 pub mod AnswerLemmas
 pub mod CommandLemmas
-pub mod DigitLemmas
 pub mod Growth
 pub mod InputsLemmas
 pub mod LogLemmas
-pub mod NumeralLemmas
 pub mod ProgramLemmas
 pub mod ScenarioLemmas
 pub mod TableLemmas

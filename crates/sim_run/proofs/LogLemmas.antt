@@ -13,8 +13,7 @@ use Rattle.can_bus.proofs.DueLater.{DueLater-bus, DueLaterFromNothing-bus}
 use Rattle.std.specs.FinMap.{len, len-empty}
 use Rattle.can_frame.specs.Frame.{FrameFields}
 use Rattle.sim_outside.specs.Sink.{GrowsBy}
-use Rattle.sim_run.specs.Log.{LogEntry, Logs, IsOver, bit_time, after_requests, after_start, after_instant, entries_at, log_of}
-use Rattle.sim_run.specs.LogLine.{log_line}
+use Rattle.sim_run.specs.Log.{LogEntry, Logs, IsOver, bit_time, after_requests, after_start, after_instant, entries_at, entry_line, log_of}
 
 -- what is due is not later than what is not
 not_over : (until now : ℕ) (bus : BusState) → IsOver until bus → next_moment bus ≡ Some now → now ≤ until → ⊥
@@ -142,7 +141,7 @@ reaches_end until first before bus reaches over = subst (Logs until first) (appe
 
 -- the lines of frames in a row
 pub log_of-append : (before more : List LogEntry) → log_of (before ++ more) ≡ log_of before ++ log_of more
-log_of-append before more = flat_map-append (λ (entry : LogEntry). log_line entry.moment entry.frame) before more
+log_of-append before more = flat_map-append entry_line before more
 
 -- how far the end moment is from what is due
 abbrev pub time_left : ℕ → BusState → ℕ

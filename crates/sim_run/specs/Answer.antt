@@ -7,11 +7,11 @@ use Rattle.sim_run.specs.declared.scenario.Scenario.{Scenario}
 use Rattle.sim_run.specs.declared.source.Source.{Source}
 use Rattle.sim_run.specs.declared.status.Status.{Status}
 use Rattle.sim_run.specs.declared.status.Status.TheVariants.{Done, Refused, Usage, ReadFault, WriteFault, OutOfMemory}
-use Rattle.sim_run.specs.Blame.{blame_line}
 use Rattle.sim_run.specs.Command.{IsCommand, IsNoCommand}
 use Rattle.sim_run.specs.Inputs.{Contents, AreAccepted, IsFirstBlame}
 use Rattle.sim_run.specs.Log.{LogEntry, Logs, after_start, log_of}
 use Rattle.sim_run.specs.Window.{window_of}
+use Rattle.sim_text.specs.Blame.{blame_line}
 
 -- what a command prints of accepted inputs: the window, or the log up to the end moment
 abbrev pub Prints : Command → Scenario → Source → List ℕ → Type 0

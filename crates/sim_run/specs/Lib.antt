@@ -2,11 +2,9 @@
 pub mod Answer
 pub mod Blame
 pub mod Command
-pub mod Digits
 pub mod Inputs
 pub mod Inside
 pub mod Log
-pub mod LogLine
 pub mod Program
 pub mod Scenario
 pub mod Source

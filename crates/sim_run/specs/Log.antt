@@ -1,10 +1,10 @@
 -- The frames that one node's requests put on the bus.
-use Rattle.std.specs.Prelude.{◌≡◌, ◌<◌, ◌≤◌, ℕ, List, [], ◌∷◌, ◌++◌, Option, Some, None, IfSome}
+use Rattle.std.specs.Prelude.{◌≡◌, ◌<◌, ◌≤◌, ◌/◌, ◌%◌, ℕ, List, [], ◌∷◌, ◌++◌, Option, Some, None, IfSome, codes}
 use Rattle.std.specs.List.{flat_map}
 use Rattle.can_frame.specs.Frame.{FrameFields}
 use Rattle.can_bus.specs.Bus.{BusState, new_bus, after_request, ended, after_finish, after_arbitration, next_moment}
 use Rattle.can_bus.specs.declared.bus.Ended.{Ended}
-use Rattle.sim_run.specs.LogLine.{log_line}
+use Rattle.log_line.specs.Written.{log_line}
 
 -- a frame that left the wire, and the moment of its end
 pub record LogEntry : Type 0 where
@@ -46,6 +46,10 @@ pub data Logs (until : ℕ) : BusState → List LogEntry → Type 0 where
       → next_moment bus ≡ Some now → now ≤ until → entries ≡ entries_at now (ended bus now) ++ rest
       → Logs until (after_instant bus now) rest → Logs until bus entries
 
+-- the line of an entry, on the interface can0, with its moment in seconds and microseconds
+abbrev pub entry_line : LogEntry → List ℕ
+entry_line entry = log_line (entry.moment / 1000000) (entry.moment % 1000000) (codes "can0") entry.frame
+
 -- the lines of the entries
 abbrev pub log_of : List LogEntry → List ℕ
-log_of entries = flat_map (λ entry. log_line entry.moment entry.frame) entries
+log_of entries = flat_map entry_line entries

@@ -1,6 +1,6 @@
 -- What a scenario file says.
 use Rattle.std.specs.Prelude.{◌≡◌, ◌≢◌, ◌<◌, ◌≤◌, ◌*◌, ℕ, List, [], ◌∷◌, ◌++◌, length, All, codes, Option, Some, None, IfSome}
-use Rattle.capl_lexer.specs.Bytes.{IsDigit, number_in}
+use Rattle.text_parts.specs.Number.{IsDigit, number_in}
 use Rattle.capl_lexer.specs.Spelling.{IsName}
 use Rattle.sim_run.specs.declared.scenario.Scenario.{Scenario}
 

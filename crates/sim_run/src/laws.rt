@@ -2,7 +2,7 @@
 
 ghost use Rattle.std.specs.Prelude.{◌≡◌, ◌<◌, ◌≤◌, ◌^◌, List, ℕ, decimal};
 ghost use Rattle.sim_run.specs.Answer.{IsAnswer};
-ghost use Rattle.sim_run.specs.Digits.{IsNumeral, zero_filled};
+ghost use Rattle.text_parts.specs.Digits.{IsNumeral, zero_filled};
 ghost use Rattle.sim_run.specs.Inputs.{Contents};
 ghost use Rattle.sim_run.specs.declared.status.Status.{Status};
 

@@ -18,7 +18,6 @@ mod command;
 mod inputs;
 pub mod laws;
 mod log;
-mod log_line;
 mod program;
 mod scenario;
 mod source;

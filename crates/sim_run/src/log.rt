@@ -6,21 +6,26 @@ ghost use Rattle.sim_outside.specs.Fault.{HasRisen};
 ghost use Rattle.sim_outside.specs.Sink.{Writes};
 ghost use Rattle.sim_run.specs.Log.{LogEntry, Logs, after_start, after_instant, entries_at, log_of};
 
-use crate::log_line::make_log_line;
-use arbitration::PlainBus;
+use bus_heap::HeapBus;
 use can_bus::Bus;
 use can_frame::Frame;
+use log_line::write_line;
 use sim_outside::{NoMemory, Sink, SinkRefusal};
 use std::alloc::Global;
 
 // The microseconds of a bit at 500,000 bits a second.
 const BIT_MICROS: u32 = 2;
 
+const MICROS_PER_SECOND: u64 = 1_000_000;
+
+// The interface in the log's lines.
+const INTERFACE: &[u8] = b"can0";
+
 // The number of the one node on the bus.
 const NODE: u32 = 0;
 
 /// Runs the bus on the frames that the node requests at the start, up to the end moment, and writes
-/// the line of each frame when it ends. Takes time that grows with the square of the number of frames.
+/// the line of each frame when it ends. Each frame takes time logarithmic in the number of those that wait.
 pub(crate) fn write_log<S: Sink>(
     alloc: Global,
     until: u64,
@@ -43,10 +48,10 @@ pub(crate) fn write_log<S: Sink>(
 }
 
 /// The bus after the requests of the start and the first arbitration.
-fn start(alloc: Global, frames: &[Frame]) -> Result<PlainBus, NoMemory>
+fn start(alloc: Global, frames: &[Frame]) -> Result<HeapBus, NoMemory>
     ensures { IfOk result (λ bus. bus ≡ after_start frames.now) }
 {
-    let mut bus = PlainBus::make(alloc, BIT_MICROS);
+    let mut bus = HeapBus::make(alloc, BIT_MICROS);
     for frame in frames {
         bus.request(NODE, frame)?;
     }
@@ -57,7 +62,7 @@ fn start(alloc: Global, frames: &[Frame]) -> Result<PlainBus, NoMemory>
 /// Does an instant of the bus, and writes the line of the frame that ends, if one does.
 fn write_instant<S: Sink>(
     alloc: Global,
-    bus: &mut PlainBus,
+    bus: &mut HeapBus,
     now: u64,
     out: &mut S,
 ) -> Result<(), SinkRefusal>
@@ -73,6 +78,8 @@ fn write_instant<S: Sink>(
     let Some(ended) = ended else {
         return Ok(());
     };
-    let line = make_log_line(alloc, now, &ended.frame)?;
+    let seconds = now / MICROS_PER_SECOND;
+    let micros = (now % MICROS_PER_SECOND) as u32;
+    let line = write_line(alloc, seconds, micros, INTERFACE, &ended.frame)?;
     out.write(line.bytes())
 }

@@ -6,10 +6,11 @@ ghost use Rattle.items.specs.Search.{Finds};
 ghost use Rattle.sim_run.specs.Scenario.{IsScenario, IsNodeName, IsFileName, IsEndMoment};
 ghost use Rattle.sim_run.specs.Inside.Fields.{AreFieldsOf, view_of_fields, view_of_option};
 
-use capl_lexer::{decimal_number, is_name};
+use capl_lexer::is_name;
 use memchr::memchr;
 use sim_outside::{NoMemory, Text};
 use std::alloc::Global;
+use text_parts::decimal_number;
 
 /// What a scenario says.
 #[derive(Debug, Drop)]
@@ -115,12 +116,9 @@ fn end_moment(digits: Option<&[u8]>) -> Option<u64>
     let Some(digits) = digits else {
         return Some(DEFAULT_END);
     };
-    if digits.is_empty() || digits.len() > 20 {
+    if digits.len() > 20 {
         return None;
     }
-    let millis = decimal_number(digits)?;
-    if millis > DAY / MICROS_PER_MILLI {
-        return None;
-    }
+    let millis = decimal_number(digits, DAY / MICROS_PER_MILLI)?;
     Some(millis * MICROS_PER_MILLI)
 }

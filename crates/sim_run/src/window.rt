@@ -1,14 +1,18 @@
 // The window: the lines of the texts that a node writes.
 
-ghost use Rattle.std.specs.Prelude.{◌≡◌, ◌≤◌, IfOk, IsErrOf};
+ghost use Rattle.std.specs.Prelude.{◌≤◌, IsErrOf};
 ghost use Rattle.std.specs.List.{flat_map};
 ghost use Rattle.sim_outside.specs.Fault.{HasRisen};
 ghost use Rattle.sim_outside.specs.Sink.{Writes};
-ghost use Rattle.sim_run.specs.Window.{window_line, statement_line, window_of};
+ghost use Rattle.sim_run.specs.Window.{statement_line, window_of};
 
 use capl_parser::{FileTree, Statement};
-use sim_outside::{NoMemory, Sink, SinkRefusal, Text};
+use sim_outside::{Sink, SinkRefusal};
+use sim_text::window_line;
 use std::alloc::Global;
+
+// The moment of `on start`, in microseconds.
+const START: u64 = 0;
 
 /// Writes the window of a node, line by line.
 pub(crate) fn write_window<S: Sink>(
@@ -59,28 +63,9 @@ fn write_statement<S: Sink>(
 {
     match statement {
         Statement::Write(text) => {
-            let line = make_window_line(alloc, node, text.bytes())?;
+            let line = window_line(alloc, START, node, text.bytes())?;
             out.write(line.bytes())
         }
         Statement::Output(_) => Ok(()),
     }
-}
-
-/// The line of a text that a node writes at the start, with its line end. Takes time and memory linear
-/// in both.
-fn make_window_line(alloc: Global, node: &[u8], text: &[u8]) -> Result<Text, NoMemory>
-    ensures { IfOk result (λ line. line ≡ window_line node.now text.now) }
-{
-    let mut line = Vec::from_slice(alloc, b"w 0.000000 ")?;
-    line.extend_from_slice(node)?;
-    line.push(b' ')?;
-    for byte in text {
-        match byte {
-            b'\n' => line.extend_from_slice(b"\\n")?,
-            b'\r' => line.extend_from_slice(b"\\r")?,
-            _ => line.push(*byte)?,
-        }
-    }
-    line.push(b'\n')?;
-    Text::make(alloc, &line)
 }

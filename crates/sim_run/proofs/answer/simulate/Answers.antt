@@ -1,7 +1,7 @@
 -- What was written of the answer.
 use Rattle.std.proofs.Common.{map, sym, subst}
 use Rattle.std.specs.Prelude.{string_bytes}
-use Rattle.sim_run.specs.Blame.{blame_line}
+use Rattle.sim_text.specs.Blame.{blame_line}
 use Rattle.sim_run.specs.Command.{IsCommand}
 use Rattle.sim_run.specs.declared.status.Status.TheVariants.{Done, Refused}
 use Rattle.sim_run.proofs.AnswerLemmas.{some_print, answer_of_accepted, answer_of_blame, done_or_refused, written_whole, written_partly}

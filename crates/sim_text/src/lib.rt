@@ -1,0 +1,18 @@
+//! The lines that the program prints, but for those of the log.
+//!
+//! [`window_line`] shows a text that a node writes, [`blame_line`] says which rule an input breaks,
+//! [`profile_line`] what an event procedure took, and [`summary_line`] what the run of a generated
+//! scenario had. Each line ends with a line feed (byte 10) and has none before it, where the names in
+//! it have none. Numbers are decimal digits.
+#![tactic(auto)]
+
+pub use blame::blame_line;
+pub use profile::profile_line;
+pub use summary::summary_line;
+pub use window::window_line;
+
+mod blame;
+mod number;
+mod profile;
+mod summary;
+mod window;

@@ -1,0 +1,91 @@
+// The line of an event procedure in a profile.
+
+ghost use Rattle.std.specs.Prelude.{◌≡◌, ◌++◌, IfOk, OnOk, decimal, codes};
+ghost use Rattle.sim_text.specs.Profile.{event_word, profile_line};
+
+use crate::number::append_number;
+use sim_outside::{NoMemory, Text};
+use stack_vm::MeterRow;
+use std::alloc::Global;
+use vm_host::Event;
+
+/// The line of an event procedure: `p NODE FILE:LINE EVENT RUNS TURNS` and its line end. LINE is that of
+/// the word `on`, counted from 1. Takes time and memory linear in both names.
+pub fn profile_line(
+    alloc: Global,
+    node: &[u8],
+    file: &[u8],
+    line: u32,
+    event: &Event,
+    row: MeterRow,
+) -> Result<Text, NoMemory>
+    ensures { IfOk result (λ text. text ≡ profile_line node.now file.now line event.now row) }
+{
+    let mut text = Vec::from_slice(alloc, b"p ")?;
+    text.extend_from_slice(node)?;
+    text.push(b' ')?;
+    text.extend_from_slice(file)?;
+    text.push(b':')?;
+    append_number(&mut text, u64::from(line))?;
+    text.push(b' ')?;
+    text.extend_from_slice(event_word(event))?;
+    append_row(&mut text, row)?;
+    text.push(b'\n')?;
+    Text::make(alloc, &text)
+}
+
+/// The word of an event.
+fn event_word(event: &Event) -> &'static [u8]
+    ensures { result.now ≡ event_word event.now }
+{
+    match event {
+        Event::PreStart => b"preStart",
+        Event::Start => b"start",
+        Event::Stop => b"stopMeasurement",
+        Event::Message(_) => b"message",
+        Event::Timer(_) => b"timer",
+        Event::Key(_) => b"key",
+    }
+}
+
+/// Appends the runs and the turns of a row, with a blank before each.
+fn append_row(text: &mut Vec<u8>, row: MeterRow) -> Result<(), NoMemory>
+    ensures { OnOk result (text.new.items ≡
+        text.old.items ++ codes " " ++ decimal row.runs ++ codes " " ++ decimal row.turns) }
+{
+    text.push(b' ')?;
+    append_number(text, row.runs)?;
+    text.push(b' ')?;
+    append_number(text, row.turns)
+}
+
+#[cfg(test)]
+mod tests {
+    use super::*;
+    use items::Items;
+    use std::test::Fail;
+    use vm_host::Selector;
+
+    #[test]
+    fn lines_of_the_events(rt: HostRuntime) -> Result<(), Fail> {
+        let row = MeterRow {
+            runs: 3,
+            turns: 18_446_744_073_709_551_615,
+        };
+        let selectors: Items<Selector> = Items::new(rt.alloc());
+        let rows = [
+            (Event::PreStart, "preStart"),
+            (Event::Start, "start"),
+            (Event::Stop, "stopMeasurement"),
+            (Event::Message(selectors), "message"),
+            (Event::Timer(7), "timer"),
+            (Event::Key(Some(b'a')), "key"),
+        ];
+        for (event, word) in &rows {
+            let line = profile_line(rt.alloc(), b"N", b"d/n.can", 12, event, row)?;
+            let wanted = format!(in rt.alloc(); "p N d/n.can:12 {word} 3 18446744073709551615\n")?;
+            assert_eq!(rt; line.bytes(), wanted.as_bytes());
+        }
+        Ok(())
+    }
+}

@@ -1,0 +1,76 @@
+// The line of a text that a node writes.
+
+ghost use Rattle.std.specs.Prelude.{◌≡◌, ◌++◌, IfOk, OnOk};
+ghost use Rattle.std.specs.List.{flat_map};
+ghost use Rattle.sim_text.specs.Window.{moment_text, shown_byte, window_line};
+
+use crate::number::append_number;
+use sim_outside::{NoMemory, Text};
+use std::alloc::Global;
+
+const MICROS_PER_SECOND: u64 = 1_000_000;
+
+/// The line of a text that a node writes at a moment, in microseconds from the start of the
+/// measurement: `w S.UUUUUU NODE TEXT` and its line end. A line feed of the text is shown as `\n` and a
+/// carriage return as `\r`; all else is as it is. Takes time and memory linear in both texts.
+pub fn window_line(alloc: Global, now: u64, node: &[u8], text: &[u8]) -> Result<Text, NoMemory>
+    ensures { IfOk result (λ line. line ≡ window_line now node.now text.now) }
+{
+    let mut line = Vec::from_slice(alloc, b"w ")?;
+    append_moment(alloc, &mut line, now)?;
+    line.push(b' ')?;
+    line.extend_from_slice(node)?;
+    line.push(b' ')?;
+    append_shown(&mut line, text)?;
+    line.push(b'\n')?;
+    Text::make(alloc, &line)
+}
+
+/// Appends a moment: its seconds, and six digits of microseconds.
+fn append_moment(alloc: Global, line: &mut Vec<u8>, now: u64) -> Result<(), NoMemory>
+    ensures { OnOk result (line.new.items ≡ line.old.items ++ moment_text now) }
+{
+    let micros = now % MICROS_PER_SECOND;
+    append_number(line, now / MICROS_PER_SECOND)?;
+    line.extend_from_slice(format!(in alloc; ".{micros:06}")?.as_bytes())?;
+    Ok(())
+}
+
+/// Appends each byte of a text as it is shown.
+fn append_shown(line: &mut Vec<u8>, text: &[u8]) -> Result<(), NoMemory>
+    ensures { OnOk result (line.new.items ≡ line.old.items ++ flat_map shown_byte text.now) }
+{
+    for byte in text {
+        match byte {
+            b'\n' => line.extend_from_slice(b"\\n")?,
+            b'\r' => line.extend_from_slice(b"\\r")?,
+            _ => line.push(*byte)?,
+        }
+    }
+    Ok(())
+}
+
+#[cfg(test)]
+mod tests {
+    use super::*;
+    use std::test::Fail;
+
+    #[test]
+    fn lines_of_some_texts(rt: HostRuntime) -> Result<(), Fail> {
+        let rows: [(u64, &[u8], &[u8]); 5] = [
+            (0, b"hi", b"w 0.000000 N hi\n"),
+            (0, b"", b"w 0.000000 N \n"),
+            (1_000_001, b"a\nb\r", b"w 1.000001 N a\\nb\\r\n"),
+            (
+                86_400_000_000,
+                b"\\ \x00\xFF",
+                b"w 86400.000000 N \\ \x00\xFF\n",
+            ),
+            (u64::MAX, b"x", b"w 18446744073709.551615 N x\n"),
+        ];
+        for (now, text, line) in rows {
+            assert_eq!(rt; window_line(rt.alloc(), now, b"N", text)?.bytes(), line);
+        }
+        Ok(())
+    }
+}
