@@ -4,8 +4,8 @@ use Rattle.std.specs.Prelude.{IfSome, IsErrAnd}
 use Rattle.sim_outside.specs.Folder.{beside}
 use Rattle.sim_outside.specs.declared.blame.Blame.{Blame}
 use Rattle.capl_lexer.proofs.ReadingLemmas.{reading-unique}
-use Rattle.capl_parser.proofs.SpellingLemmas.{spelling_unique}
-use Rattle.capl_parser.specs.Spelling.{kinds_of}
+use Rattle.sim_run.proofs.SpellingLemmas.{spelling_unique}
+use Rattle.sim_run.specs.Form.Spelling.{kinds_of}
 use Rattle.sim_run.specs.declared.inputs.InputRefusal.{InputRefusal}
 use Rattle.sim_run.specs.declared.inputs.InputRefusal.TheVariants.{Blamed, Failed, NoMemory}
 use Rattle.sim_run.specs.declared.scenario.Scenario.{Scenario}

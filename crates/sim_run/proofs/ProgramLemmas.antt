@@ -6,12 +6,12 @@ use Rattle.std.proofs.lemmas.Bool.{cases_lt}
 use Rattle.can_frame.specs.Frame.{FrameFields}
 use Rattle.can_frame.specs.declared.Ident.{Ident}
 use Rattle.can_frame.specs.declared.Ident.TheVariants.{Std, Ext}
-use Rattle.capl_parser.specs.declared.tree.Declaration.{Declaration}
-use Rattle.capl_parser.specs.declared.tree.FileTree.{FileTree}
-use Rattle.capl_parser.specs.declared.tree.FileTree.TheVariants.{Empty, Start}
-use Rattle.capl_parser.specs.declared.tree.Number.{Number}
-use Rattle.capl_parser.specs.declared.tree.Statement.{Statement}
-use Rattle.capl_parser.specs.declared.tree.Statement.TheVariants.{Write, Output}
+use Rattle.sim_run.specs.declared.form.tree.Declaration.{Declaration}
+use Rattle.sim_run.specs.declared.form.tree.FileTree.{FileTree}
+use Rattle.sim_run.specs.declared.form.tree.FileTree.TheVariants.{Empty, Start}
+use Rattle.sim_run.specs.declared.form.tree.Number.{Number}
+use Rattle.sim_run.specs.declared.form.tree.Statement.{Statement}
+use Rattle.sim_run.specs.declared.form.tree.Statement.TheVariants.{Write, Output}
 use Rattle.sim_run.specs.Program.{IsPlainNumber, IsIdentOf, IsRemoteOf, IsFrameOf, HasFrame, AreVariables, RequestFrames, IsProgram, declarations_of}
 
 -- a number is one

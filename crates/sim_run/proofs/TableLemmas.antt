@@ -11,9 +11,9 @@ use Rattle.std.proofs.lemmas.List.Quantifiers.{all_pairs_push}
 use Rattle.std.proofs.lemmas.Map.Views.{Contains-from_any}
 use Rattle.std.proofs.lemmas.Slice.Eq.{bytes_eq-Decides}
 use Rattle.can_frame.specs.Frame.{FrameFields}
-use Rattle.capl_parser.specs.declared.tree.Declaration.{Declaration}
-use Rattle.capl_parser.specs.declared.tree.Statement.{Statement}
-use Rattle.capl_parser.specs.declared.tree.Statement.TheVariants.{Write, Output}
+use Rattle.sim_run.specs.declared.form.tree.Declaration.{Declaration}
+use Rattle.sim_run.specs.declared.form.tree.Statement.{Statement}
+use Rattle.sim_run.specs.declared.form.tree.Statement.TheVariants.{Write, Output}
 use Rattle.sim_run.specs.Program.{AreVariables, RequestFrames, IsFrameOf, HasFrame, function_names}
 use Rattle.sim_run.specs.Inside.Table.{IsEntryOf, IsTable}
 

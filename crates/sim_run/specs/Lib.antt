@@ -2,6 +2,7 @@
 pub mod Answer
 pub mod Blame
 pub mod Command
+pub mod Form
 pub mod Inputs
 pub mod Inside
 pub mod Log

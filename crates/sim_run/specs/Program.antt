@@ -4,12 +4,12 @@ use Rattle.std.specs.List.{AllPairs}
 use Rattle.can_frame.specs.Frame.{FrameFields}
 use Rattle.can_frame.specs.declared.Ident.{Ident}
 use Rattle.can_frame.specs.declared.Ident.TheVariants.{Std, Ext}
-use Rattle.capl_parser.specs.declared.tree.Declaration.{Declaration}
-use Rattle.capl_parser.specs.declared.tree.FileTree.{FileTree}
-use Rattle.capl_parser.specs.declared.tree.FileTree.TheVariants.{Empty, Start}
-use Rattle.capl_parser.specs.declared.tree.Number.{Number}
-use Rattle.capl_parser.specs.declared.tree.Statement.{Statement}
-use Rattle.capl_parser.specs.declared.tree.Statement.TheVariants.{Write, Output}
+use Rattle.sim_run.specs.declared.form.tree.Declaration.{Declaration}
+use Rattle.sim_run.specs.declared.form.tree.FileTree.{FileTree}
+use Rattle.sim_run.specs.declared.form.tree.FileTree.TheVariants.{Empty, Start}
+use Rattle.sim_run.specs.declared.form.tree.Number.{Number}
+use Rattle.sim_run.specs.declared.form.tree.Statement.{Statement}
+use Rattle.sim_run.specs.declared.form.tree.Statement.TheVariants.{Write, Output}
 
 -- the functions of the language, which no variable has the name of
 abbrev pub function_names : List (List ℕ)

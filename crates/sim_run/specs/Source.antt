@@ -2,7 +2,7 @@
 use Rattle.std.specs.Prelude.{◌≡◌, ℕ, List}
 use Rattle.capl_lexer.specs.declared.token.Token.{Token}
 use Rattle.capl_lexer.specs.Reading.{IsReading}
-use Rattle.capl_parser.specs.Spelling.{kinds_of, spelling}
+use Rattle.sim_run.specs.Form.Spelling.{kinds_of, spelling}
 use Rattle.sim_run.specs.declared.source.Source.{Source}
 use Rattle.sim_run.specs.Program.{IsProgram}
 

@@ -1,10 +1,10 @@
 -- The window of a source: the lines of the texts that its node writes, in order (CAPL manual, write).
 use Rattle.std.specs.Prelude.{ℕ, List, []}
 use Rattle.std.specs.List.{flat_map}
-use Rattle.capl_parser.specs.declared.tree.FileTree.{FileTree}
-use Rattle.capl_parser.specs.declared.tree.FileTree.TheVariants.{Empty, Start}
-use Rattle.capl_parser.specs.declared.tree.Statement.{Statement}
-use Rattle.capl_parser.specs.declared.tree.Statement.TheVariants.{Write, Output}
+use Rattle.sim_run.specs.declared.form.tree.FileTree.{FileTree}
+use Rattle.sim_run.specs.declared.form.tree.FileTree.TheVariants.{Empty, Start}
+use Rattle.sim_run.specs.declared.form.tree.Statement.{Statement}
+use Rattle.sim_run.specs.declared.form.tree.Statement.TheVariants.{Write, Output}
 use Rattle.sim_text.specs.Window.{window_line}
 
 -- the line of a statement, if it has one: it is of the start of the measurement

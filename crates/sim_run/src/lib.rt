@@ -15,6 +15,7 @@ pub use status::Status;
 mod answer;
 mod blame;
 mod command;
+mod form;
 mod inputs;
 pub mod laws;
 mod log;

@@ -2,13 +2,13 @@
 
 ghost use Rattle.std.specs.Prelude.{◌≡◌, ◌↔◌, List, IsTrue, Contains, IfOk, MatchOption};
 ghost use Rattle.can_frame.specs.declared.Ident.{Ident};
-ghost use Rattle.capl_parser.specs.declared.tree.Declaration.{Declaration};
+ghost use Rattle.sim_run.specs.declared.form.tree.Declaration.{Declaration};
 ghost use Rattle.items.specs.Search.{Finds};
 ghost use Rattle.sim_run.specs.Program.{IsProgram, IsFrameOf, IsIdentOf, IsPlainNumber, IsRemoteOf, AreVariables, RequestFrames, declarations_of, function_names};
 ghost use Rattle.sim_run.specs.Inside.Table.{IsTable};
 
+use crate::form::{Declaration, FileTree, Number, Statement};
 use can_frame::{Frame, Ident};
-use capl_parser::{Declaration, FileTree, Number, Statement};
 use indexmap::IndexMap;
 use items::Items;
 use sim_outside::NoMemory;

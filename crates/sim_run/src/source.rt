@@ -4,10 +4,10 @@ ghost use Rattle.std.specs.Prelude.{◌<◌, ◌^◌, length, IfOk};
 ghost use Rattle.items.specs.Search.{Finds};
 ghost use Rattle.sim_run.specs.Source.{IsSource};
 
+use crate::form::{FileTree, ParseRefusal, parse};
 use crate::program::requests_of;
 use can_frame::Frame;
 use capl_lexer::{LexRefusal, lex};
-use capl_parser::{FileTree, ParseRefusal, parse};
 use items::Items;
 use sim_outside::NoMemory;
 use std::alloc::Global;

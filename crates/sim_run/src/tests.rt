@@ -163,6 +163,7 @@ fn long_sources_are_refused(rt: HostRuntime) -> Result<(), Fail> {
     }
     laws::one_answer();
     laws::numbers_are_numerals();
+    laws::one_tree();
     Ok(())
 }
 

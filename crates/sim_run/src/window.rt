@@ -6,7 +6,7 @@ ghost use Rattle.sim_outside.specs.Fault.{HasRisen};
 ghost use Rattle.sim_outside.specs.Sink.{Writes};
 ghost use Rattle.sim_run.specs.Window.{statement_line, window_of};
 
-use capl_parser::{FileTree, Statement};
+use crate::form::{FileTree, Statement};
 use sim_outside::{Sink, SinkRefusal};
 use sim_text::window_line;
 use std::alloc::Global;

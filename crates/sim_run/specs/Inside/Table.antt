@@ -3,7 +3,7 @@ use Rattle.std.specs.Prelude.{◌≡◌, ℕ, List}
 use Rattle.std.specs.List.{AllZip}
 use Rattle.std.specs.Global.{Vec}
 use Rattle.can_frame.specs.Frame.{FrameFields}
-use Rattle.capl_parser.specs.declared.tree.Declaration.{Declaration}
+use Rattle.sim_run.specs.declared.form.tree.Declaration.{Declaration}
 use Rattle.sim_run.specs.Program.{IsFrameOf}
 
 -- a name and a frame are those of a declaration

@@ -1,6 +1,6 @@
 -- What stands between two statements.
 use Rattle.std.proofs.Common.{List, take}
-use Rattle.capl_parser.specs.declared.tree.Declaration.{Declaration}
+use Rattle.sim_run.specs.declared.form.tree.Declaration.{Declaration}
 use Rattle.sim_run.specs.Program.{RequestFrames}
 use Rattle.sim_run.specs.Inside.Table.{IsTable}
 use Rattle.sim_run.proofs.program.requests_in.Given as goal

@@ -1,6 +1,6 @@
 -- What decides whether a text is a source.
 use Rattle.std.proofs.Common.{sym, ap, subst, ◌∙◌}
-use Rattle.capl_parser.specs.Spelling.{kinds_of}
+use Rattle.sim_run.specs.Form.Spelling.{kinds_of}
 use Rattle.sim_run.specs.Program.{IsProgram}
 use Rattle.sim_run.specs.declared.source.Source.{Source}
 use Rattle.sim_run.proofs.source.source_of.Goals as goal

@@ -1,4 +1,0 @@
--- The definitions of this crate.
-pub mod Spelling
-pub mod Refusal
-pub mod Inside

@@ -1,0 +1,3 @@
+-- The form of a source that the program takes.
+pub mod Refusal
+pub mod Spelling
