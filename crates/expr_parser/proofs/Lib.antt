@@ -1,0 +1,5 @@
+-- The lemmas of this crate.
+pub mod Rows
+pub mod Lists
+pub mod Starts
+pub mod Complete

@@ -1,0 +1,4 @@
+-- The definitions of this crate.
+pub mod Operators
+pub mod Reading
+pub mod Expression
