@@ -5,4 +5,8 @@ pub mod Grammar
 pub mod Place
 pub mod Spelling
 pub mod Placed
+pub mod FileSpelling
+pub mod FilePlaced
+pub mod Tree
+pub mod Nesting
 pub mod Inside
