@@ -1,0 +1,8 @@
+-- The lemmas of this crate.
+mod ConversionLemmas
+mod FieldLemmas
+mod FrontLemmas
+mod LineLemmas
+mod PartLemmas
+mod ReadingLemmas
+mod ShortLemmas

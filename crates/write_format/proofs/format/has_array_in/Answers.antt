@@ -1,0 +1,15 @@
+-- Bytes have no array.
+use Rattle.std.proofs.Common.{rules, All, sym, ap, ◌∙◌, subst}
+use Rattle.std.specs.Prelude.{filter_map}
+use Rattle.std.proofs.lemmas.List.Elements.{All-nil}
+use Rattle.write_format.specs.Arrays.{IsCharArray}
+use Rattle.write_format.specs.Format.{array_of}
+use Rattle.write_format.specs.Inside.Parts.{elements_in}
+use Rattle.write_format.specs.declared.part.Part.{Part}
+use Rattle.write_format.proofs.PartLemmas.{text_no_arrays}
+use Rattle.write_format.proofs.format.has_array_in.Goals as goal
+
+pub returns-in-Text : goal.returns-in-Text
+returns-in-Text c =
+    let none = ap (λ (part : Part). filter_map array_of (elements_in part)) c.in-Text.is ∙ text_no_arrays c.in-Text.field-0 in
+    (λ _. subst (All (IsCharArray c.args.kinds.now)) (sym none) (All-nil (IsCharArray c.args.kinds.now)), λ _. search rules)

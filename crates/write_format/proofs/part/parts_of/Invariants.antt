@@ -1,0 +1,11 @@
+-- What is known after some pieces.
+use Rattle.std.proofs.Common.{length}
+use Rattle.write_format.specs.Inside.Parts.{all_elements}
+use Rattle.write_format.proofs.PartLemmas.{AreParts}
+use Rattle.write_format.proofs.part.parts_of.Given as goal
+
+abbrev pub invariant-loop-piece : goal.invariant-loop-piece
+invariant-loop-piece l = AreParts l.text l.args l.rest l.taken (all_elements l.parts.items)
+
+abbrev pub decreases-loop-piece : goal.decreases-loop-piece
+decreases-loop-piece l = length l.rest

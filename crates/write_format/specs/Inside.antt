@@ -1,0 +1,3 @@
+-- What the code goes by on its way to a format.
+pub mod Front
+pub mod Parts

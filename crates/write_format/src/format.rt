@@ -1,0 +1,165 @@
+// Formats.
+
+ghost use Rattle.std.specs.Prelude.{◌≡◌, ◌↔◌, ◌<◌, ◌^◌, ℕ, All, IfOk, IfErr, IsErrOf, IsTrue, Some, None, count_by, length};
+ghost use Rattle.write_format.specs.Arrays.{IsCharArray};
+ghost use Rattle.write_format.specs.Format.{IsFormatOf, IsShort, IsShortArgument, array_of, char_arrays, numbers_taken, takes_number};
+ghost use Rattle.write_format.specs.Inside.Parts.{all_elements, elements_in};
+ghost use Rattle.write_format.specs.Reading.{HasCodesFor, IsFirstUnfit};
+ghost use Rattle.std.specs.List.{filter_map};
+
+use crate::argument::ArgKind;
+use crate::part::{Part, is_short_part, numbers_in, part_len, parts_of};
+use crate::reading::look_over;
+use crate::refusal::FormatRefusal;
+use int_kinds::Kind;
+use sim_outside::NoMemory;
+use std::alloc::Global;
+use std::marker::Model;
+
+/// No list of code is as long as this.
+pub(crate) const LIMIT: usize = 0x1_0000_0000;
+
+/// A format with what is known of its arguments.
+#[derive(Debug, Drop)]
+pub struct Format {
+    parts: Vec<Part>,
+    numbers: usize,
+}
+
+impl Model for Format {
+    ghost use Rattle.std.specs.Prelude.{◌≡◌, count_by};
+    ghost use Rattle.write_format.specs.Format.{FormatText, takes_number};
+    ghost use Rattle.write_format.specs.Inside.Parts.{all_elements};
+
+    ghost Value = { FormatText };
+
+    ghost view = { λ format. record { elements = all_elements format.parts.items } };
+
+    ghost invariant = { λ format. format.numbers ≡ count_by takes_number (all_elements format.parts.items) };
+}
+
+impl Format {
+    /// The format of this text and these arguments. It is wrong exactly where the text is no format, or
+    /// has another number of codes than there are arguments, or an argument does not fit its code; the
+    /// first argument that does not is named. Takes time and memory linear in the text and in the
+    /// texts among the arguments.
+    pub fn read(alloc: Global, text: &[u8], args: &[ArgKind]) -> Result<Format, FormatRefusal>
+        ensures format { IfOk result (IsFormatOf text.now args.now) }
+        ensures wrong { IsErrOf result (FormatRefusal.Wrong None) ↔ ¬ (HasCodesFor text.now args.now) }
+        ensures unfit { (place : ℕ) →
+            IsErrOf result (FormatRefusal.Wrong (Some place)) ↔ IsFirstUnfit text.now args.now place }
+
+        // Short texts make a format that code can hold.
+        ensures short { IfOk result (λ format.
+            length text.now < 2 ^ 32 → All IsShortArgument args.now → IsShort format) }
+    {
+        let Some(survey) = look_over(text, args) else {
+            return Err(FormatRefusal::Wrong { arg: None });
+        };
+        if survey.codes != args.len() {
+            return Err(FormatRefusal::Wrong { arg: None });
+        }
+        if let Some(place) = survey.unfit {
+            return Err(FormatRefusal::Wrong { arg: Some(place) });
+        }
+        let parts = parts_of(alloc, text, args)?;
+        Ok(from_parts(parts))
+    }
+
+    /// The same format once more. Takes time and memory linear in its text and the texts in it.
+    pub fn copy(&self) -> Result<Format, NoMemory>
+        ensures { IfOk result (λ format. format ≡ self.now) }
+    {
+        let mut parts = Vec::new(*self.parts.allocator());
+        for part in self.parts() {
+            parts.push(part.copy()?)?;
+        }
+        Ok(from_parts(parts))
+    }
+
+    /// How many numbers a line of this format takes.
+    pub fn numbers_taken(&self) -> usize
+        ensures { result ≡ numbers_taken self.now }
+    {
+        self.numbers
+    }
+
+    /// Whether the arrays of characters that it reads are cells of kind char, where the cells have
+    /// these kinds. Takes time linear in the parts of the format and the cells of its arrays.
+    pub fn has_arrays_in(&self, kinds: &[Kind]) -> bool
+        ensures { IsTrue result ↔ All (IsCharArray kinds.now) (char_arrays self.now) }
+    {
+        for part in self.parts() {
+            if !has_array_in(part, kinds) {
+                return false;
+            }
+        }
+        true
+    }
+
+    /// Whether it is as short as the lists of code have to be: it has fewer than 2^32 parts, of which
+    /// each byte of its text is one, and so have the texts in it. Takes time linear in its parts.
+    pub fn is_short(&self) -> bool
+        ensures { IsTrue result ↔ IsShort self.now }
+    {
+        let mut count = 0;
+        for part in self.parts() {
+            let len = part_len(part);
+            if len >= LIMIT - count || !is_short_part(part) {
+                return false;
+            }
+            count += len;
+        }
+        true
+    }
+
+    /// The parts of its line.
+    pub(crate) fn parts(&self) -> &[Part]
+        ensures { self.now ≡ record { elements = all_elements result.now } }
+    {
+        self.parts.as_slice()
+    }
+}
+
+/// The format of these parts.
+fn from_parts(parts: Vec<Part>) -> Format
+    ensures { result ≡ record { elements = all_elements parts.items } }
+{
+    let numbers = count_numbers(&parts);
+    Format { parts, numbers }
+}
+
+/// How many parts show a number.
+fn count_numbers(parts: &[Part]) -> usize
+    ensures { result ≡ count_by takes_number (all_elements parts.now) }
+{
+    let mut count = 0;
+    for part in parts {
+        count += numbers_in(part);
+    }
+    count
+}
+
+/// Whether the array that a part reads, if it reads one, is cells of kind char.
+fn has_array_in(part: &Part, kinds: &[Kind]) -> bool
+    ensures { IsTrue result ↔ All (IsCharArray kinds.now) (filter_map array_of (elements_in part.now)) }
+{
+    match part {
+        Part::Chars { base, len, .. } => is_char_array(kinds, *base as usize, *len as usize),
+        Part::Text(_) => true,
+        Part::Number { .. } => true,
+        Part::Character { .. } => true,
+        Part::Str { .. } => true,
+    }
+}
+
+/// Whether an array is there and has the kind char throughout.
+fn is_char_array(kinds: &[Kind], base: usize, len: usize) -> bool
+    requires { (base < 2 ^ 32) × (len < 2 ^ 32) }
+    ensures { IsTrue result ↔ IsCharArray kinds.now (base, len) }
+{
+    base + len <= kinds.len()
+        && kinds[base..base + len]
+            .iter()
+            .all(|kind| *kind == Kind::Char)
+}

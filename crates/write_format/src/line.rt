@@ -1,0 +1,95 @@
+// Lines.
+
+ghost use Rattle.std.specs.Prelude.{◌≡◌, ◌≤◌, ◌≤ℤ◌, ◌+◌, ◌++◌, All, IfOk, OnOk, count_by, drop, length, map, pos, unsigned_abs};
+ghost use Rattle.std.specs.List.{filter_map};
+ghost use Rattle.write_format.specs.Arrays.{HoldsBytes, cells_of};
+ghost use Rattle.write_format.specs.Format.{array_of, char_arrays, numbers_taken, rendered, takes_number};
+ghost use Rattle.write_format.specs.Inside.Parts.{elements_in};
+ghost use Rattle.write_format.specs.Line.{line_of, text_in};
+
+use crate::field::{append_filled, append_number};
+use crate::format::Format;
+use crate::part::{Part, numbers_in};
+use int_kinds::{Kind, residue};
+use sim_outside::{NoMemory, Text};
+use std::alloc::{AllocError, Global};
+
+/// The line of a format with these numbers, in the order of its arguments, where its arrays of
+/// characters stand in these cells. Takes time linear in the format, its arrays and the line, and
+/// memory linear in the line.
+pub fn render(alloc: Global, f: &Format, numbers: &[i128], cells: &[i128]) -> Result<Text, NoMemory>
+    requires numbers { length numbers.now ≡ numbers_taken f.now }
+    requires arrays { All (HoldsBytes cells.now) (char_arrays f.now) }
+    ensures { IfOk result (λ text. text ≡ rendered f.now numbers.now cells.now) }
+{
+    let mut line = Vec::new(alloc);
+    let mut taken = 0;
+    for part in f.parts() {
+        append_part(alloc, &mut line, part, numbers_from(numbers, taken), cells)?;
+        taken += numbers_in(part);
+    }
+    Text::make(alloc, &line)
+}
+
+/// Appends what a part shows.
+fn append_part(
+    alloc: Global,
+    line: &mut Vec<u8>,
+    part: &Part,
+    numbers: &[i128],
+    cells: &[i128],
+) -> Result<(), AllocError>
+    requires numbers { count_by takes_number (elements_in part.now) ≤ length numbers.now }
+    requires arrays { All (HoldsBytes cells.now) (filter_map array_of (elements_in part.now)) }
+    ensures { OnOk result (
+        line.new.items ≡ line.old.items ++ line_of (elements_in part.now) numbers.now cells.now) }
+{
+    match part {
+        Part::Text(bytes) => line.extend_from_slice(bytes.as_slice()),
+        Part::Number {
+            field,
+            kind,
+            digits,
+        } => { append_number(alloc, line, *field, *kind, *digits, numbers[0]) }
+        Part::Character { field } => {
+            append_filled(line, *field, &[residue(Kind::Byte, numbers[0]) as u8])
+        }
+        Part::Chars { field, base, len } => {
+            let text = text_in(alloc, cells_at(cells, *base as usize, *len as usize))?;
+            append_filled(line, *field, &text)
+        }
+        Part::Str { field, text } => append_filled(line, *field, text.as_slice()),
+    }
+}
+
+/// The numbers from a place on.
+fn numbers_from(numbers: &[i128], place: usize) -> &[i128]
+    requires { place ≤ length numbers.now }
+    ensures { result.now ≡ drop place numbers.now }
+{
+    &numbers[place..]
+}
+
+/// So many cells from one on.
+fn cells_at(cells: &[i128], base: usize, len: usize) -> &[i128]
+    requires { base + len ≤ length cells.now }
+    ensures { result.now ≡ cells_of base len cells.now }
+{
+    &cells[base..base + len]
+}
+
+/// The text in cells.
+fn text_in(alloc: Global, cells: &[i128]) -> Result<Vec<u8>, AllocError>
+    requires { All (λ n. (pos 0 ≤ℤ n) × (n ≤ℤ pos 255)) cells.now }
+    ensures { IfOk result (λ text. text.items ≡ text_in cells.now) }
+{
+    let mut text = Vec::new(alloc);
+    for cell in cells {
+        let byte = *cell as u8;
+        if byte == 0 {
+            return Ok(text);
+        }
+        text.push(byte)?;
+    }
+    Ok(text)
+}

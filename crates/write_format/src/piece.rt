@@ -1,0 +1,43 @@
+// Pieces of the text of a format.
+
+ghost use Rattle.std.specs.Prelude.{◌≡◌};
+ghost use Rattle.std.specs.Option.{option_map};
+ghost use Rattle.write_format.specs.Inside.Front.{behind_percent, piece_at};
+
+use crate::code::{Code, code_at};
+
+/// A piece of the text of a format.
+#[derive(Clone, Copy, Debug)]
+pub(crate) enum Piece {
+    /// A byte that is written as it is. The byte `%` is spelled `%%`.
+    Byte(u8),
+    /// A code, which takes an argument.
+    Argument(Code),
+}
+
+/// The piece at the front of a text, and what stands behind it, or None where no piece stands there.
+pub(crate) fn next_piece(text: &[u8]) -> Option<(Piece, &[u8])>
+    ensures { option_map (λ found. (found.0, found.1.now)) result ≡ piece_at text.now }
+{
+    let (first, rest) = text.split_first()?;
+    if *first == b'%' {
+        piece_behind_percent(rest)
+    } else {
+        Some((Piece::Byte(*first), rest))
+    }
+}
+
+/// The piece that begins with a `%` before these bytes, and what stands behind it.
+fn piece_behind_percent(bytes: &[u8]) -> Option<(Piece, &[u8])>
+    ensures { option_map (λ found. (found.0, found.1.now)) result ≡ behind_percent bytes.now }
+{
+    if let Some((code, rest)) = code_at(bytes) {
+        return Some((Piece::Argument(code), rest));
+    }
+    let (first, rest) = bytes.split_first()?;
+    if *first == b'%' {
+        Some((Piece::Byte(b'%'), rest))
+    } else {
+        None
+    }
+}
