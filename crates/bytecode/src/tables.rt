@@ -29,7 +29,7 @@ pub(crate) fn keeps_tables(alloc: Global, code: &Code) -> Result<bool, NoMemory>
     let keeps_lists = begin_with_event(kinds)
         && starts_are_held(kinds, code.starts.as_slice())
         && units_are_known(code.timers.as_slice())
-        && arrays_exist(kinds, code.formats.as_slice());
+        && arrays_exist(code);
     Ok(keeps_lists)
 }
 
@@ -82,7 +82,15 @@ fn units_are_known(units: &[u64]) -> bool
 }
 
 /// Whether the arrays of characters of each format are there.
-fn arrays_exist(kinds: &[Kind], formats: &[Format]) -> bool
+fn arrays_exist(code: &Code) -> bool
+    ensures { IsTrue result ↔
+        All (λ format. All (IsCharArray code.now.cells) (char_arrays format)) code.now.formats }
+{
+    have_arrays_in(code.cells.as_slice(), code.formats.as_slice())
+}
+
+/// Whether the arrays of characters of each format are among cells of these kinds.
+fn have_arrays_in(kinds: &[Kind], formats: &[Format]) -> bool
     ensures { IsTrue result ↔ All (λ format. All (IsCharArray kinds.now) (char_arrays format)) formats.now }
 {
     formats.iter().all(|format| format.has_arrays_in(kinds))
