@@ -2,4 +2,5 @@
 pub mod Effect
 pub mod Event
 pub mod Host
+pub mod Record
 pub mod Duration
