@@ -87,7 +87,8 @@ abbrev mutual
 abbrev pub EachBefore : {A : Type 0} → (A → List Tok → List Tok) → (A → List Tok → Type 0) → List A → List Tok
     → Type 0
 EachBefore one Holds [] rest = ⊤
-EachBefore one Holds (first ∷ others) rest = Holds first (further one others rest) × EachBefore one Holds others rest
+EachBefore one Holds (first ∷ others) rest =
+    Holds first (further one others rest) × EachBefore one Holds others rest
 
 -- an item between the braces of an initialiser
 abbrev pub IsItemPlaced : ℕ → Item → List Tok → Type 0

@@ -42,6 +42,7 @@ reach _ = 15
 
 -- how many tokens an expression has
 abbrev mutual
+  -- an expression
   pub size : Expr → ℕ
   size (form.Paren inner at) = size inner + 2
   size (expr.Call' name shape args at) = sizes args + 3
@@ -59,10 +60,12 @@ abbrev mutual
   size (expr.This at) = 1
   size (expr.Name name at) = 1
 
+  -- a field
   pub field_size : Field → ℕ
   field_size (Named name at) = 1
   field_size (form.Bytes of index at) = size index + 3
 
+  -- expressions in a row
   pub sizes : {m : _} → Row_of-Expr m → ℕ
   sizes end_of-Expr = 0
   sizes (more_of-Expr first others) = size first + sizes others
@@ -78,8 +81,11 @@ abbrev mutual
   spelled_size (form.Paren inner at) rest = omega (arith, spelled_size inner (tok.Sign sign.CloseParen ∷ rest))
   spelled_size (expr.Call' name shape args at) rest = omega (arith, arguments_size args (tok.Sign sign.CloseParen ∷ rest))
   spelled_size (form.Index base index at) rest =
-      omega (arith, spelled_size base (tok.Sign sign.OpenBracket ∷ spelled.expression index (tok.Sign sign.CloseBracket ∷ rest)),
-      spelled_size index (tok.Sign sign.CloseBracket ∷ rest))
+      omega (
+        arith,
+        spelled_size base (tok.Sign sign.OpenBracket ∷ spelled.expression index (tok.Sign sign.CloseBracket ∷ rest)),
+        spelled_size index (tok.Sign sign.CloseBracket ∷ rest),
+      )
   spelled_size (form.Member base field at) rest =
       omega (arith, spelled_size base (tok.Sign sign.Dot ∷ spelled.field field rest), spelled_field_size field rest)
   spelled_size (form.Cast of inner at) rest = omega (arith, spelled_size inner rest)
@@ -88,8 +94,12 @@ abbrev mutual
   spelled_size (form.Binary of left right at) rest =
       omega (arith, spelled_size left (tok.Sign (operator_sign of) ∷ spelled.expression right rest), spelled_size right rest)
   spelled_size (form.Cond test one other at) rest =
-      omega (arith, spelled_size test (tok.Sign sign.Question ∷ spelled.expression one (tok.Sign sign.Colon ∷ spelled.expression other rest)),
-      spelled_size one (tok.Sign sign.Colon ∷ spelled.expression other rest), spelled_size other rest)
+      omega (
+        arith,
+        spelled_size test (tok.Sign sign.Question ∷ spelled.expression one (tok.Sign sign.Colon ∷ spelled.expression other rest)),
+        spelled_size one (tok.Sign sign.Colon ∷ spelled.expression other rest),
+        spelled_size other rest,
+      )
   spelled_size (form.Assign of left right at) rest =
       omega (arith, spelled_size left (tok.Sign (assignment_sign of) ∷ spelled.expression right rest), spelled_size right rest)
 
@@ -284,7 +294,7 @@ unary_read inner at un.Up ts = refl
 unary_read inner at un.Down ts = refl
 
 -- a row of arguments is spelled as its list
-row_list : {m : _} (row : Row_of-Expr m) (rest : List Tok) → further_arguments row rest ≡ further spelled.expression (items-the_row-Expr _ row) rest
+pub row_list : {m : _} (row : Row_of-Expr m) (rest : List Tok) → further_arguments row rest ≡ further spelled.expression (items-the_row-Expr _ row) rest
 row_list end_of-Expr rest = refl
 row_list (more_of-Expr first others) rest = ap (λ (ts : List Tok). tok.Sign sign.Comma ∷ spelled.expression first ts) (row_list others rest)
 
@@ -308,7 +318,8 @@ arguments_read inner (more_of-Expr first others) rest each =
     rw (some, row_list others close, all) refl
 
 abbrev mutual
-  unfolding read.operand read.named read.enclosed read.unary read.operated read.field read.field_at read.bytes after Rattle.capl_tree.specs.declared.expr.Expr.TheBlock.hidden-the_row-Expr-0 denote.Hole.Carrier.hidden
+  unfolding read.operand read.named read.enclosed read.unary read.operated read.assign read.choice read.binary read.index read.member read.field read.field_at read.named_field read.bytes after Rattle.capl_tree.specs.declared.expr.Expr.TheBlock.hidden-the_row-Expr-0 denote.Hole.Carrier.hidden
+
   holds : (total : ℕ) (e : Expr) → IsExpression e → Holds total e
   holds total (expr.Num value ext at) well depth least rest low small follows placed =
       let here : at ≡ total - length (tok.Num value ext ∷ rest) = omega (arith, placed) in
@@ -368,7 +379,7 @@ abbrev mutual
       let here : at ≡ expression_place left = omega (arith, placed.0, place_first total left _ placed.1) in
       let found = operator_found of in
       let bounds = operator_bounds of in
-      let inside = nested total right (holds total right well.2) depth (suc (operator_level of)) rest (omega arith) (omega arith) (omega arith) placed.2 in
+      let inside = nested total right (holds total right well.2) depth (operator_level of + 1) rest (omega arith) (omega arith) (omega arith) placed.2 in
       grows total depth least left (form.Binary of left right at) (tok.Sign (operator_sign of) ∷ spelled.expression right rest) rest _
       (holds total left well.0 depth least _ (omega arith) (omega arith) (rw found (left_reach left (operator_level of) bounds.0 (omega arith) well.1)) placed.1)
       (omega (arith, spelled_size right rest)) (rw found low) (rw (found, inside, here) refl)
@@ -403,7 +414,7 @@ abbrev mutual
   each_argument total end_of-Expr well depth rest small ends placed = tt
   each_argument total (more_of-Expr first others) well depth rest small ends placed =
       let one = nested total first (holds total first well.0) depth 1 (further_arguments others rest) (level_least first) (omega arith)
-        (omega (arith, further_binding others rest ends)) placed.0 in
+      (omega (arith, further_binding others rest ends)) placed.0 in
       (rw row_list at one, each_argument total others well.1 depth rest (omega arith) ends placed.1)
 
 -- A well formed and placed expression is read from its spelling, where no operator behind it goes on with it.

@@ -3,3 +3,8 @@ pub mod Rows
 pub mod Lists
 pub mod Starts
 pub mod Complete
+pub mod Steps
+pub mod ListsSound
+pub mod Back
+pub mod Sound
+pub mod Turns

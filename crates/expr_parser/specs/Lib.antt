@@ -2,3 +2,4 @@
 pub mod Operators
 pub mod Reading
 pub mod Expression
+pub mod Laws

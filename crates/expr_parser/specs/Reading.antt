@@ -62,7 +62,8 @@ next_item further found ts = if begins sign.Comma ts then further (behind ts) el
 unfoldable pub items_from : {A : Type 0} → (List Tok → Read A) → ℕ → List A → List Tok → Read (List A)
 items_from one zero found ts = None
 items_from one (suc n) found ts =
-    and_then (one ts) (λ item rest. next_item (items_from one n (found ++ item ∷ [])) (found ++ item ∷ []) rest)
+    and_then (one ts) (λ item rest.
+    next_item (items_from one n (found ++ item ∷ [])) (found ++ item ∷ []) rest)
 
 -- items with commas between them, at least one
 unfoldable pub items : {A : Type 0} → (List Tok → Read A) → List Tok → Read (List A)
