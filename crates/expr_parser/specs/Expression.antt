@@ -29,8 +29,8 @@ Reader = ℕ → List Tok → Read Expr
 unfoldable pub arguments : Reader → List Tok → Read (List Expr)
 arguments inner ts =
     if begins sign.CloseParen ts then Some ([], behind ts)
-    else and_then (items (inner assignment_level) ts) (λ found rest. and_then (after sign.CloseParen rest) (λ _ rest.
-    Some (found, rest)))
+    else and_then (items (inner assignment_level) ts) (λ found rest.
+    and_then (after sign.CloseParen rest) (λ _ rest. Some (found, rest)))
 
 -- behind a name: the arguments of a call, or nothing
 unfoldable pub named : Reader → ℕ → List ℕ → List Tok → Read Expr
