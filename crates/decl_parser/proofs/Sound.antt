@@ -32,7 +32,7 @@ use Rattle.expr_parser.proofs.Steps.{and_then_some, given, moved, begins_next, a
 use Rattle.expr_parser.proofs.ListsSound.{IsSoundFor, ReadsItems, items_sound}
 use Rattle.expr_parser.proofs.Back.{kind_next}
 use Rattle.expr_parser.proofs.Complete.{longer}
-use Rattle.expr_parser.proofs.Sound.{Reads, ReadsField, sound, field_sound}
+use Rattle.expr_parser.proofs.Sound.{sound, field_sound}
 use Rattle.decl_parser.specs.Declaration as read
 use Rattle.decl_parser.specs.Laws.{ReadsDeclaration}
 use Rattle.decl_parser.proofs.Complete.{item_longer, declarator_longer}

@@ -13,8 +13,10 @@ use int_kinds::Kind;
 use items::Items;
 use sim_outside::Text;
 
-/// A declaration, in a file of `total` tokens. Expressions nest in it less deep than `depth`. Takes time
-/// linear in its tokens.
+/// A declaration up to its semicolon. `total` is the number of tokens of the file, from which the places are
+/// counted. A depth above the number of tokens left refuses nothing for its depth. NotSpelled where the
+/// tokens do not begin with a declaration, and NoMemory for want of memory. Takes time linear in the tokens
+/// that it reads.
 #[tactic(auto, unfolding(crate::specs::Declaration::declaration, expr_parser::specs::Reading::after))]
 pub fn read_declaration(cursor: &mut Cursor<'_>, total: u32, depth: usize) -> Result<Decl, Refusal>
     ensures { Gives (read.declaration total depth cursor.old) result cursor.new }

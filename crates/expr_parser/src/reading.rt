@@ -14,8 +14,10 @@ use int_kinds::{BinOp, Kind, UnOp};
 use items::{Boxed, Items};
 use sim_outside::Text;
 
-/// An expression that binds at the level `least` or more strongly, in a file of `total` tokens. Expressions
-/// nest in it less deep than `depth`.
+/// An expression that binds at the level `least` or more strongly, from 1, an assignment, to 13, a prefix
+/// operator. `total` is the number of tokens of the file, from which the places are counted. A depth above
+/// the number of tokens left refuses nothing for its depth. NotSpelled where the tokens do not begin with
+/// such an expression, and NoMemory for want of memory. Takes time linear in the tokens that it reads.
 #[tactic(auto, unfolding(crate::specs::Expression::expression))]
 #[cycle(reading)]
 pub fn read_expression(
@@ -321,7 +323,8 @@ fn member(
     Ok(Expr::Member { base, field, at })
 }
 
-/// A field, in a file of `total` tokens. Expressions nest in it less deep than `depth`.
+/// A field: a name, or a kind and an index between parentheses. `total`, `depth` and the refusals are those
+/// of [`read_expression`].
 #[tactic(auto, unfolding(crate::specs::Expression::field, crate::specs::Expression::field_at))]
 #[cycle(reading)]
 pub fn read_field(cursor: &mut Cursor<'_>, total: u32, depth: usize) -> Result<Field, Refusal>
