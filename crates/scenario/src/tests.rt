@@ -132,6 +132,45 @@ fn the_first_broken_line_is_shown_with_its_least_rule(rt: HostRuntime) {
 }
 
 #[test]
+fn values_at_their_edges_are_taken(rt: HostRuntime) {
+    let rows: [&[u8]; 15] = [
+        b"scenario 1\nnode A a\nbitrate 10000\n",
+        b"scenario 1\nnode A a\nbitrate 1000000\n",
+        b"scenario 1\nnode A a\nuntil 0\n",
+        b"scenario 1\nnode A a\nuntil 00000000000086400000\n",
+        b"scenario 1\nnode A a\nturns 1\n",
+        b"scenario 1\nnode A a\nturns 10000000\n",
+        b"scenario 1\nnode A a\nepoch 0\n",
+        b"scenario 1\nnode A a\nepoch 4294967295\n",
+        b"scenario 1\nnode A a\ninterface .\n",
+        b"scenario 1\nnode A a\ninterface aZ09_-.89012345\n",
+        b"scenario 1\nnode A a\npicks 0\n",
+        b"scenario 1\nnode A a\npicks 4294967295\n",
+        b"scenario 1\nnode A a\nkey 0 !\n",
+        b"scenario 1\nnode A a\nkey 86400000 ~\n",
+        b"scenario 1\nnode a2345678901234567890123456789012 !~\n",
+    ];
+    for text in rows {
+        assert!(rt; text.len() < 100);
+        assert!(rt; read(rt.alloc(), text).is_ok());
+    }
+}
+
+#[test]
+fn a_file_name_has_255_bytes_at_most(rt: HostRuntime) -> Result<(), Fail> {
+    let mut text = String::from_str(rt.alloc(), "scenario 1\nnode A a\nreplay ")?;
+    for _ in 0..255u32 {
+        text.push('~')?;
+    }
+    assert!(rt; text.len() < 2_000);
+    assert!(rt; read(rt.alloc(), text.as_bytes()).is_ok());
+    text.push('~')?;
+    assert!(rt; text.len() < 2_000);
+    assert!(rt; is_refused_at(rt.alloc(), text.as_bytes(), 3, 10));
+    Ok(())
+}
+
+#[test]
 fn a_scenario_has_64_nodes_at_most(rt: HostRuntime) -> Result<(), Fail> {
     let mut text = String::from_str(rt.alloc(), "scenario 1\n")?;
     for number in 0..64u32 {
