@@ -14,7 +14,7 @@ use sim_outside::NoMemory;
 use std::alloc::Global;
 use typed_tree::{TFun, THandler, Typed};
 use vm_host::Event;
-use write_format::{Format, render};
+use write_format::Format;
 
 /// How many items a list may have.
 const MOST: usize = u32::MAX as usize;
@@ -120,40 +120,24 @@ fn have_few_selectors(handlers: &[THandler]) -> bool
         .all(|handler| has_few_selectors(&handler.event))
 }
 
-/// Whether the texts of a format have fewer than 2^32 bytes.
-fn is_short_format(alloc: Global, format: &Format) -> Result<bool, NoMemory>
-    ensures { IfOk result (λ short. IsTrue short ↔ IsShort format.now) }
-{
-    let text = render(alloc, format, &[], &[])?;
-    Ok(text.bytes().len() <= MOST)
-}
-
 /// Whether the texts of all formats are short.
-fn are_short_formats(alloc: Global, formats: &[Format]) -> Result<bool, NoMemory>
-    ensures { IfOk result (λ short. IsTrue short ↔ All IsShort formats.now) }
+fn are_short_formats(formats: &[Format]) -> bool
+    ensures { IsTrue result ↔ All IsShort formats.now }
 {
-    for format in formats {
-        if !is_short_format(alloc, format)? {
-            return Ok(false);
-        }
-    }
-    Ok(true)
+    formats.iter().all(|format| format.is_short())
 }
 
 /// Whether no list of a program itself has 2^32 items or more, and no text of its formats.
-fn is_short_program(alloc: Global, typed: &Typed) -> Result<bool, NoMemory>
-    ensures { IfOk result (λ short. IsTrue short ↔ IsShortProgram typed.now) }
+fn is_short_program(typed: &Typed) -> bool
+    ensures { IsTrue result ↔ IsShortProgram typed.now }
 {
-    let texts_short = are_short_formats(alloc, typed.formats.as_slice())?;
-    Ok(
-        texts_short
-            && typed.functions.len() <= MOST
-            && typed.handlers.len() <= MOST
-            && typed.cells.len() <= MOST
-            && typed.starts.len() <= MOST
-            && typed.timers.len() <= MOST
-            && typed.formats.len() <= MOST,
-    )
+    are_short_formats(typed.formats.as_slice())
+        && typed.functions.len() <= MOST
+        && typed.handlers.len() <= MOST
+        && typed.cells.len() <= MOST
+        && typed.starts.len() <= MOST
+        && typed.timers.len() <= MOST
+        && typed.formats.len() <= MOST
 }
 
 /// Whether a typed program is sound: all that the compiler asks of it.
@@ -164,7 +148,7 @@ fn is_short_program(alloc: Global, typed: &Typed) -> Result<bool, NoMemory>
 pub fn is_sound(alloc: Global, typed: &Typed) -> Result<bool, NoMemory>
     ensures { IfOk result (λ sound. IsTrue sound ↔ IsSound typed.now) }
 {
-    if !is_short_program(alloc, typed)? || !have_few_selectors(typed.handlers.as_slice()) {
+    if !is_short_program(typed) || !have_few_selectors(typed.handlers.as_slice()) {
         return Ok(false);
     }
     let functions_sound = are_sound_functions(alloc, typed)?;

@@ -15,7 +15,7 @@ AreSoundFunctions typed = (number : ℕ) (function : TFun) →
 pub returns-then-handlers_sound : goal.returns-then-handlers_sound
 returns-then-handlers_sound c =
     let typed = c.args.typed.now in
-    let short : IsTrue c.in_ok-is_short_program.field-0 ↔ IsShortProgram typed = c.in_ok-is_short_program.ensures in
+    let short : IsTrue c.is_short_program.result ↔ IsShortProgram typed = c.is_short_program.ensures in
     let functions : IsTrue c.in_ok-functions_sound.functions_sound ↔ AreSoundFunctions typed = c.in_ok-functions_sound.ensures in
     let handlers : IsTrue c.in_ok-handlers_sound.handlers_sound ↔ All (IsSoundHandler typed) typed.handlers = c.in_ok-handlers_sound.ensures in
     let tables : IsTrue c.in_ok-tables_kept.tables_kept ↔ KeepsTables typed = c.in_ok-tables_kept.ensures in (
