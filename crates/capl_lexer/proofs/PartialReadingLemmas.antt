@@ -1,19 +1,18 @@
 -- How a reading grows piece by piece, from the beginning of a text to its end or its bad place.
-use Rattle.std.proofs.Common.{◌≡◌, ◌<◌, ◌≤◌, ◌+◌, ◌-◌, ℕ, zero, suc, List, [], ◌∷◌, ◌++◌, length, get_or, take, drop, refl, sym, ap, subst, ◌∙◌, arith, eqb, length-drop}
+use Rattle.std.proofs.Common.{◌≡◌, ◌<◌, ◌≤◌, ◌+◌, ◌-◌, ℕ, List, [], ◌∷◌, ◌++◌, length, take, drop, inl, inr, Option, Some, None, refl, sym, ap, subst, ◌∙◌, arith, eqb, length-drop, length-append}
 use Rattle.std.specs.Prelude.{not}
+use Rattle.std.proofs.lemmas.Bool.{cases_lt}
 use Rattle.std.specs.List.{suffix_len}
 use Rattle.std.proofs.lemmas.List.Sums.{count_by-le-length}
-use Rattle.std.proofs.lemmas.List.{append_assoc, append-nil, take-append-drop, drop-drop, drop_all, drop_more, length-take-le}
-use Rattle.capl_lexer.specs.Bytes.{IsBlank}
-use Rattle.capl_lexer.specs.Spelling.{Spells}
-use Rattle.capl_lexer.specs.Reading.{Piece, Blank, Lexeme, IsFront, AreFront, IsLongest, start_of, line_at, column_at, tokens_at, IsReading, IsBadPlace}
-use Rattle.capl_lexer.specs.Inside.ByteClass.{IsFirstInClass}
-use Rattle.capl_lexer.specs.Inside.Front.{HasNoToken, IsTokenAt}
+use Rattle.std.proofs.lemmas.List.{append_assoc, append-nil, drop-drop, drop_all, take_all, take-append-le, length-take-le}
+use Rattle.capl_lexer.specs.Reading.{Piece, Blank, Comment, Lexeme, IsFront, AreFront, start_of, line_at, column_at, tokens_at, IsReading, IsBadPlace}
+use Rattle.capl_lexer.specs.Inside.Step.{IsStep, HasNoPiece, token_of}
 use Rattle.capl_lexer.specs.Inside.Position.{IsPositionIn}
-use Rattle.capl_lexer.specs.declared.byte_class.ByteClass.TheVariants as class
 use Rattle.capl_lexer.specs.declared.position.Position.{Position}
+use Rattle.capl_lexer.specs.declared.step.Step.{Step}
 use Rattle.capl_lexer.specs.declared.token.Tok.{Tok}
 use Rattle.capl_lexer.specs.declared.token.Token.{Token}
+use Rattle.capl_lexer.proofs.CommentLemmas.{comment-positive}
 use Rattle.capl_lexer.proofs.SpellingLemmas.{spelling-front}
 
 -- pieces that give these tokens lead from the beginning to the place
@@ -34,67 +33,174 @@ fronts_push (first ∷ pieces) piece text between rest (next, is, fronts) front 
 pub read_nothing : (text : List ℕ) → HasRead text (start_of text) []
 read_nothing text = record { pieces = []; fronts = refl; goes_on = λ more. refl; start = omega arith }
 
--- a blank is read
-pub read_blank : (text : List ℕ) (place : ℕ) (tokens : List Token) → HasRead text place tokens
-    → place < length text → IsFirstInClass class.Blank (drop place text)
-    → HasRead text (place + 1) tokens
-read_blank text place tokens read within blank =
-    let byte = get_or text place 0 in
-    let split : drop place text ≡ byte ∷ drop (place + 1) text = drop_more text place 0 within in
-    let is_blank : IsBlank byte = subst (IsFirstInClass class.Blank) split blank in
-    record {
-      pieces = read.pieces ++ Blank byte ∷ [];
-      fronts = fronts_push read.pieces (Blank byte) (drop (start_of text) text) (drop place text) (drop (place + 1) text) read.fronts (is_blank, split);
-      goes_on = λ more. ap (tokens_at text (start_of text)) (append_assoc read.pieces (Blank byte ∷ []) more) ∙ read.goes_on (Blank byte ∷ more);
-      start = let start = read.start in omega arith;
-    }
+-- how many bytes a piece has
+abbrev pub size_of : Piece → ℕ
+size_of (Blank byte) = 1
+size_of (Comment bytes) = length bytes
+size_of (Lexeme bytes tok) = length bytes
 
--- a spelled part of a text is not empty
-spelled-positive : (text : List ℕ) (count : ℕ) (token : Tok) → Spells (take count text) token
-    → 0 < count
-spelled-positive text zero token spells = let front = spelling-front [] token spells in let is = front.is in cc
-spelled-positive text (suc count) token spells = omega arith
+-- a piece and what follows it are the text
+pub front-size : (piece : Piece) (text rest : List ℕ) → IsFront piece text rest → size_of piece + length rest ≡ length text
+front-size (Blank byte) text rest (blank, split) = omega (arith, ap length split)
+front-size (Comment bytes) text rest (comment, split) = omega (arith, ap length split, length-append bytes rest)
+front-size (Lexeme bytes tok) text rest (spells, split, longest, no_comment) = omega (arith, ap length split, length-append bytes rest)
 
--- a token goes on
-pub token_at-positive : (text : List ℕ) (place : ℕ) (token : Token) → IsTokenAt text place token
-    → place < token.to
-token_at-positive text place token at =
-    let some = spelled-positive (drop place text) (token.to - place) token.tok at.spells in omega arith
+-- a piece has a byte
+pub piece-positive : (piece : Piece) (text rest : List ℕ) → IsFront piece text rest → 0 < size_of piece
+piece-positive (Blank byte) text rest front = omega arith
+piece-positive (Comment bytes) text rest (comment, split) = comment-positive bytes rest comment
+piece-positive (Lexeme bytes tok) text rest (spells, split, longest, no_comment) =
+    let front = spelling-front bytes tok spells in omega (arith, ap length front.is)
 
--- a token by its parts
-token_is : (token : Token) (from to line column : ℕ) → token.from ≡ from → token.to ≡ to
-    → token.line ≡ line → token.column ≡ column
-    → token ≡ record { tok = token.tok; from = from; to = to; line = line; column = column }
-token_is token from to line column e f g h = λ i. record { tok = token.tok; from = e i; to = f i; line = g i; column = h i }
+-- the tokens of a piece, and then those of the pieces behind it
+tokens_at-step : (text : List ℕ) (place : ℕ) (piece : Piece) (more : List Piece)
+    → tokens_at text place (piece ∷ more) ≡ tokens_at text place (piece ∷ []) ++ tokens_at text (place + size_of piece) more
+tokens_at-step text place (Blank byte) more = refl
+tokens_at-step text place (Comment bytes) more = refl
+tokens_at-step text place (Lexeme bytes tok) more = refl
 
--- a token is read
-pub read_token : (text : List ℕ) (place : ℕ) (tokens : List Token) (token : Token)
-    → HasRead text place tokens → IsTokenAt text place token
-    → HasRead text token.to (tokens ++ token ∷ [])
-read_token text place tokens token read at =
-    let count = token.to - place in
-    let bytes = take count (drop place text) in
-    let after = at.after in
-    let to = at.to in
-    let sum : place + count ≡ token.to = omega arith in
-    let split : drop place text ≡ bytes ++ drop token.to text =
-    sym (take-append-drop count (drop place text)) ∙ ap (λ b. bytes ++ b) (drop-drop count place text ∙ ap (λ n. drop n text) sum) in
-    let size : length bytes ≡ count = length-take-le count (drop place text) (omega (arith, length-drop place text)) in
-    let piece = Lexeme bytes token.tok in
-    let ends : place + length bytes ≡ token.to = omega arith in
-    let is_token : token ≡ record { tok = token.tok; from = place; to = place + length bytes; line = line_at text place; column = column_at text place } =
-    token_is token place (place + length bytes) (line_at text place) (column_at text place) at.from (sym ends) at.line at.column in
+-- a step goes as far as its piece
+step-size : (text : List ℕ) (place : ℕ) (step : Step) → (is : IsStep (drop place text) step)
+    → size_of is.piece ≡ step.length
+step-size text place step is =
+    let within = is.within in
+    omega (arith, front-size is.piece (drop place text) (drop step.length (drop place text)) is.front, length-drop step.length (drop place text))
+
+-- a step goes on
+pub step-positive : (text : List ℕ) (place : ℕ) (step : Step) → IsStep (drop place text) step → 0 < step.length
+step-positive text place step is =
+    omega (arith, step-size text place step is, piece-positive is.piece (drop place text) (drop step.length (drop place text)) is.front)
+
+-- a step stays in the text
+pub step-within : (text : List ℕ) (place : ℕ) (step : Step) → place ≤ length text → IsStep (drop place text) step
+    → place + step.length ≤ length text
+step-within text place step within is = omega (arith, is.within, length-drop place text)
+
+-- a piece is read
+read_piece : (text : List ℕ) (place : ℕ) (tokens : List Token) (step : Step) → HasRead text place tokens
+    → (is : IsStep (drop place text) step)
+    → HasRead text (place + step.length) (tokens ++ tokens_at text place (is.piece ∷ []))
+read_piece text place tokens step read is =
+    let piece = is.piece in
+    let own = tokens_at text place (piece ∷ []) in
+    let ends : place + size_of piece ≡ place + step.length = ap (λ n. place + n) (step-size text place step is) in
     record {
       pieces = read.pieces ++ piece ∷ [];
-      fronts = fronts_push read.pieces piece (drop (start_of text) text) (drop place text) (drop token.to text) read.fronts
-          (at.spells, split, subst (IsLongest (drop place text)) (sym size) at.longest);
+      fronts = fronts_push read.pieces piece (drop (start_of text) text) (drop place text) (drop (place + step.length) text) read.fronts
+          (subst (IsFront piece (drop place text)) (drop-drop step.length place text) is.front);
       goes_on = λ more.
           ap (tokens_at text (start_of text)) (append_assoc read.pieces (piece ∷ []) more) ∙ read.goes_on (piece ∷ more)
-          ∙ ap (λ t. tokens ++ t ∷ tokens_at text (place + length bytes) more) (sym is_token)
-          ∙ ap (λ n. tokens ++ token ∷ tokens_at text n more) ends
-          ∙ sym (append_assoc tokens (token ∷ []) (tokens_at text token.to more));
+          ∙ ap (λ t. tokens ++ t) (tokens_at-step text place piece more)
+          ∙ ap (λ n. tokens ++ (own ++ tokens_at text n more)) ends
+          ∙ sym (append_assoc tokens own (tokens_at text (place + step.length) more));
       start = let start = read.start in omega arith;
     }
+
+no_tokens : (text : List ℕ) (place : ℕ) (piece : Piece) → None ≡ token_of piece → tokens_at text place (piece ∷ []) ≡ []
+no_tokens text place (Blank byte) none = refl
+no_tokens text place (Comment bytes) none = refl
+no_tokens text place (Lexeme bytes tok) none = cc
+
+one_token : (text : List ℕ) (place size : ℕ) (piece : Piece) (token : Token) → Some token.tok ≡ token_of piece
+    → size_of piece ≡ size
+    → token.from ≡ place → token.to ≡ place + size → token.line ≡ line_at text place → token.column ≡ column_at text place
+    → tokens_at text place (piece ∷ []) ≡ token ∷ []
+one_token text place size (Blank byte) token some is from to line column = cc
+one_token text place size (Comment bytes) token some is from to line column = cc
+one_token text place size (Lexeme bytes tok) token some is from to line column =
+    let kind : tok ≡ token.tok = cc in
+    let ends : place + length bytes ≡ token.to = ap (λ n. place + n) is ∙ sym to in
+    λ i. record { tok = kind i; from = sym from i; to = ends i; line = sym line i; column = sym column i } ∷ []
+
+-- a blank or a comment is read
+pub read_passed : (text : List ℕ) (place : ℕ) (tokens : List Token) (step : Step) → HasRead text place tokens
+    → IsStep (drop place text) step → step.tok ≡ None → HasRead text (place + step.length) tokens
+read_passed text place tokens step read is none =
+    let same : tokens ++ tokens_at text place (is.piece ∷ []) ≡ tokens =
+    ap (λ t. tokens ++ t) (no_tokens text place is.piece (sym none ∙ is.tok)) ∙ append-nil tokens in
+    subst (HasRead text (place + step.length)) same (read_piece text place tokens step read is)
+
+-- a token is read
+pub read_token : (text : List ℕ) (place : ℕ) (tokens : List Token) (step : Step) (token : Token) → HasRead text place tokens
+    → IsStep (drop place text) step → step.tok ≡ Some token.tok
+    → token.from ≡ place → token.to ≡ place + step.length → token.line ≡ line_at text place → token.column ≡ column_at text place
+    → HasRead text (place + step.length) (tokens ++ token ∷ [])
+read_token text place tokens step token read is some from to line column =
+    let same = one_token text place step.length is.piece token (sym some ∙ is.tok) (step-size text place step is) from to line column in
+    subst (λ t. HasRead text (place + step.length) (tokens ++ t)) same (read_piece text place tokens step read is)
+
+-- of the tokens up to the place these are kept: all, or more than the limit
+pub record HasKept (limit : ℕ) (text : List ℕ) (place : ℕ) (tokens : List Token) : Type 0 where
+  pub all : List Token
+  pub read : HasRead text place all
+  pub kept : tokens ≡ take (limit + 1) all
+
+-- where no more are kept than the limit, they are all
+pub kept_all : (limit : ℕ) (text : List ℕ) (place : ℕ) (tokens : List Token) → (has : HasKept limit text place tokens)
+    → length tokens ≤ limit → tokens ≡ has.all
+kept_all limit text place tokens has within =
+    elim (cases_lt limit (length has.all)) [
+      | inl long ↦ absurd (omega (arith, ap length has.kept, length-take-le (limit + 1) has.all (omega arith)))
+      | inr short ↦ has.kept ∙ take_all (limit + 1) has.all (omega arith)
+    ]
+
+-- where more are kept than the limit, there are more
+pub kept_many : (limit : ℕ) (text : List ℕ) (place : ℕ) (tokens : List Token) → (has : HasKept limit text place tokens)
+    → limit < length tokens → limit < length has.all
+kept_many limit text place tokens has many =
+    elim (cases_lt limit (length has.all)) [
+      | inl long ↦ long
+      | inr short ↦ absurd (omega (arith, ap length (has.kept ∙ take_all (limit + 1) has.all (omega arith))))
+    ]
+
+-- nothing is kept at the beginning
+pub keep_nothing : (limit : ℕ) (text : List ℕ) → HasKept limit text (start_of text) []
+keep_nothing limit text = record { all = []; read = read_nothing text; kept = sym (take_all (limit + 1) [] (omega arith)) }
+
+-- a blank or a comment is passed over
+pub keep_passed : (limit : ℕ) (text : List ℕ) (place : ℕ) (tokens : List Token) (step : Step) → HasKept limit text place tokens
+    → IsStep (drop place text) step → step.tok ≡ None → HasKept limit text (place + step.length) tokens
+keep_passed limit text place tokens step has is none =
+    record { all = has.all; read = read_passed text place has.all step has.read is none; kept = has.kept }
+
+-- a token is kept
+pub keep_token : (limit : ℕ) (text : List ℕ) (place : ℕ) (tokens : List Token) (step : Step) (token : Token) → HasKept limit text place tokens
+    → IsStep (drop place text) step → step.tok ≡ Some token.tok
+    → token.from ≡ place → token.to ≡ place + step.length → token.line ≡ line_at text place → token.column ≡ column_at text place
+    → length tokens ≤ limit → HasKept limit text (place + step.length) (tokens ++ token ∷ [])
+keep_token limit text place tokens step token has is some from to line column within =
+    let same = kept_all limit text place tokens has within in
+    let whole : tokens ++ token ∷ [] ≡ has.all ++ token ∷ [] = ap (λ t. t ++ token ∷ []) same in
+    record {
+      all = has.all ++ token ∷ [];
+      read = read_token text place has.all step token has.read is some from to line column;
+      kept = whole ∙ sym (take_all (limit + 1) (has.all ++ token ∷ []) (omega (arith, ap length same, length-append has.all (token ∷ []))));
+    }
+
+-- a token behind too many is not kept
+pub keep_enough : (limit : ℕ) (text : List ℕ) (place : ℕ) (tokens : List Token) (step : Step) (token : Token) → HasKept limit text place tokens
+    → IsStep (drop place text) step → step.tok ≡ Some token.tok
+    → token.from ≡ place → token.to ≡ place + step.length → token.line ≡ line_at text place → token.column ≡ column_at text place
+    → limit < length tokens → HasKept limit text (place + step.length) tokens
+keep_enough limit text place tokens step token has is some from to line column many = record {
+  all = has.all ++ token ∷ [];
+  read = read_token text place has.all step token has.read is some from to line column;
+  kept = has.kept ∙ sym (take-append-le (limit + 1) has.all (token ∷ []) (omega (arith, kept_many limit text place tokens has many)));
+}
+
+-- a token is kept, where it is not behind too many
+pub keep_one : (limit : ℕ) (text : List ℕ) (place : ℕ) (tokens more : List Token) (step : Step) (token : Token) → HasKept limit text place tokens
+    → IsStep (drop place text) step → step.tok ≡ Some token.tok
+    → token.from ≡ place → token.to ≡ place + step.length → token.line ≡ line_at text place → token.column ≡ column_at text place
+    → (length tokens ≤ limit → more ≡ tokens ++ token ∷ []) → (limit < length tokens → more ≡ tokens)
+    → HasKept limit text (place + step.length) more
+keep_one limit text place tokens more step token has is some from to line column kept enough =
+    elim (cases_lt limit (length tokens)) [
+      | inl many ↦ subst (HasKept limit text (place + step.length)) (sym (enough many))
+          (keep_enough limit text place tokens step token has is some from to line column many)
+      | inr few ↦ subst (HasKept limit text (place + step.length)) (sym (kept few))
+          (keep_token limit text place tokens step token has is some from to line column few)
+    ]
 
 -- at the end of the text all of it is read
 pub reading_from : (text : List ℕ) (place : ℕ) (tokens : List Token) → HasRead text place tokens
@@ -107,18 +213,12 @@ reading_from text place tokens read end = (
 
 -- a place that is reached and at which no piece begins is bad
 pub bad_place_from : (text : List ℕ) (place : ℕ) (tokens : List Token) → HasRead text place tokens
-    → place < length text
-    → (IsFirstInClass class.Blank (drop place text) → ⊥) → HasNoToken (drop place text)
-    → IsBadPlace text place
-bad_place_from text place tokens read within no_blank no_token = record {
+    → place < length text → HasNoPiece (drop place text) → IsBadPlace text place
+bad_place_from text place tokens read within none = record {
   before = (read.pieces, read.fronts);
   within = (read.start, within);
-  no_piece = nothing;
+  no_piece = none;
 }
-  where
-    nothing : (piece : Piece) (rest : List ℕ) → IsFront piece (drop place text) rest → ⊥
-    nothing (Blank byte) rest (blank, split) = no_blank (subst (IsFirstInClass class.Blank) (sym split) blank)
-    nothing (Lexeme bytes tok) rest (spells, split, longest) = no_token bytes rest tok split spells
 
 -- a line is at most one more than the place
 pub line-le : (text : List ℕ) (position : Position) → IsPositionIn text position

@@ -1,32 +1,35 @@
 -- A text has at most one reading, and none where it has a bad place.
-use Rattle.std.proofs.Common.{◌≡◌, ℕ, List, [], ◌∷◌, ◌++◌, length, take, drop, refl, sym, ap, subst, ◌∙◌, arith, length-drop}
-use Rattle.std.proofs.lemmas.List.{append_cancel_left, take_at}
+use Rattle.std.proofs.Common.{◌≡◌, ◌<◌, ◌≤◌, ◌+◌, ℕ, List, [], ◌∷◌, ◌++◌, length, take, drop, refl, sym, ap, subst, ◌∙◌, arith, length-append, length-drop}
+use Rattle.std.specs.Prelude.{◌⊎◌}
+use Rattle.std.proofs.lemmas.Bool.Decides.{nat_tests}
+use Rattle.std.proofs.lemmas.List.{append_cancel_left}
 use Rattle.capl_lexer.specs.Bytes.{IsBlank}
 use Rattle.capl_lexer.specs.Spelling.{Spells}
-use Rattle.capl_lexer.specs.Reading.{Piece, Blank, Lexeme, IsFront, AreFront, start_of, tokens_at, IsReading, IsBadPlace}
+use Rattle.capl_lexer.specs.Reading.{Piece, Blank, Comment, Lexeme, IsFront, AreFront, OpensComment, IsLineComment, IsBlockComment, start_of, tokens_at, IsReading, IsBadPlace}
+use Rattle.capl_lexer.specs.Inside.Step.{HasNoPiece}
+use Rattle.capl_lexer.specs.declared.token.Sign.{Sign}
 use Rattle.capl_lexer.specs.declared.token.Sign.TheVariants as sign
 use Rattle.capl_lexer.specs.declared.token.Tok.{Tok}
 use Rattle.capl_lexer.specs.declared.token.Tok.TheVariants as tok
 use Rattle.capl_lexer.specs.declared.token.Token.{Token}
-use Rattle.capl_lexer.proofs.SpellingLemmas.{Begins, spelling-front, spelling-unique}
+use Rattle.capl_lexer.proofs.SplitLemmas.{front_injective}
+use Rattle.capl_lexer.proofs.SignLemmas.{sign_first}
+use Rattle.capl_lexer.proofs.CommentLemmas.{comment-unique, comment-opens, opens-front, comment-positive}
+use Rattle.capl_lexer.proofs.SpellingLemmas.{Begins, spelling-front, spelling-unique, class_of, class_of_token, begins-class}
 
--- no piece stands at the front of the text
-abbrev pub HasNoFront : List ℕ → Type 0
-HasNoFront text = (piece : Piece) (rest : List ℕ) → IsFront piece text rest → ⊥
+-- a blank is of the class of signs, and no sign
+blank_class : (byte : ℕ) → IsBlank byte → (class_of byte ≡ 1) × (byte ≤ 32)
+blank_class byte blank = (grind (arith, nat_tests), grind arith)
+
+sign_above : (some : Sign) → 32 < sign_first some
+sign_above sign.OpenBrace = omega arith
+sign_above _ = omega arith
 
 -- no token begins with a blank
 pub blank-begins : (token : Tok) (byte : ℕ) → IsBlank byte → Begins token byte → ⊥
-blank-begins (tok.Name text) byte blank begins = grind arith
-blank-begins (tok.Word reserved) byte blank begins = grind arith
-blank-begins (tok.Sign sign.OpenBrace) byte blank begins = let is : 123 ≡ byte = cc in grind arith
-blank-begins (tok.Sign sign.CloseBrace) byte blank begins = let is : 125 ≡ byte = cc in grind arith
-blank-begins (tok.Sign sign.OpenParen) byte blank begins = let is : 40 ≡ byte = cc in grind arith
-blank-begins (tok.Sign sign.CloseParen) byte blank begins = let is : 41 ≡ byte = cc in grind arith
-blank-begins (tok.Sign sign.Semi) byte blank begins = let is : 59 ≡ byte = cc in grind arith
-blank-begins (tok.Sign sign.Comma) byte blank begins = let is : 44 ≡ byte = cc in grind arith
-blank-begins (tok.Sign sign.Assign) byte blank begins = let is : 61 ≡ byte = cc in grind arith
-blank-begins (tok.Num value ext) byte blank begins = grind arith
-blank-begins (tok.Str text) byte blank begins = grind arith
+blank-begins (tok.Sign some) byte blank is = omega (arith, sign_above some, (blank_class byte blank).1, is)
+blank-begins token byte blank begins =
+    let same = sym (blank_class byte blank).0 ∙ begins-class token byte begins in absurd (omega (arith, same))
 
 -- no token's spelling begins with a blank
 pub blank-spelling : (bytes : List ℕ) (token : Tok) (byte : ℕ) (rest after : List ℕ) → IsBlank byte
@@ -37,11 +40,14 @@ blank-spelling bytes token byte rest after blank spells split =
     let same : byte ≡ front.first = cc in
     blank-begins token byte blank (subst (Begins token) (sym same) front.begins)
 
--- two fronts of one length are one
-front_injective : (xs ys rest other : List ℕ) → xs ++ rest ≡ ys ++ other → length xs ≡ length ys
-    → xs ≡ ys
-front_injective xs ys rest other same lengths =
-    sym (take_at xs rest (length xs) refl) ∙ ap (take (length xs)) same ∙ take_at ys other (length xs) (sym lengths)
+-- no comment begins with a blank
+blank-comment : (text bytes rest : List ℕ) (byte : ℕ) (after : List ℕ) → IsBlank byte → text ≡ byte ∷ after
+    → text ≡ bytes ++ rest → IsLineComment bytes rest ⊎ IsBlockComment bytes → ⊥
+blank-comment text bytes rest byte after blank first split comment =
+    let (others, is) = opens-front text (comment-opens text bytes rest split comment) in
+    let same : byte ∷ after ≡ 47 ∷ others = sym first ∙ is in
+    let slash : byte ≡ 47 = cc in
+    omega (arith, (blank_class byte blank).1, slash)
 
 -- two pieces at the front of one text are one, and leave one rest
 pub record IsSamePiece (piece other : Piece) (rest after : List ℕ) : Type 0 where
@@ -53,30 +59,43 @@ pub front-unique : (text : List ℕ) (piece other : Piece) (rest after : List �
     → IsFront piece text rest → IsFront other text after → IsSamePiece piece other rest after
 front-unique text (Blank byte) (Blank same) rest after (blank, split) (also, again) =
     let one : byte ∷ rest ≡ same ∷ after = sym split ∙ again in record { one_piece = ap Blank (cc); one_rest = cc }
-front-unique text (Blank byte) (Lexeme bytes token) rest after (blank, split) (spells, again, longest) =
+front-unique text (Blank byte) (Lexeme bytes token) rest after (blank, split) (spells, again, longest, open_end) =
     absurd (blank-spelling bytes token byte rest after blank spells (sym split ∙ again))
-front-unique text (Lexeme bytes token) (Blank byte) rest after (spells, split, longest) (blank, again) =
+front-unique text (Lexeme bytes token) (Blank byte) rest after (spells, split, longest, open_end) (blank, again) =
     absurd (blank-spelling bytes token byte after rest blank spells (sym again ∙ split))
-front-unique text (Lexeme bytes token) (Lexeme others another) rest after (spells, split, longest) (also, again, furthest) =
+front-unique text (Lexeme bytes token) (Lexeme others another) rest after (spells, split, longest, open_end) (also, again, furthest, open_too) =
     let lengths : length bytes ≡ length others = omega (arith, longest others after another again also, furthest bytes rest token split spells) in
     let whole : bytes ++ rest ≡ others ++ after = sym split ∙ again in
     let same : bytes ≡ others = front_injective bytes others rest after whole lengths in
     let token_same : token ≡ another = spelling-unique others token another (subst (λ b. Spells b token) same spells) also in
     let rest_same : rest ≡ after = append_cancel_left others rest after (ap (λ b. b ++ rest) (sym same) ∙ whole) in
     record { one_piece = cc; one_rest = rest_same }
+front-unique text (Blank byte) (Comment bytes) rest after (blank, split) (comment, again) =
+    absurd (blank-comment text bytes after byte rest blank split again comment)
+front-unique text (Comment bytes) (Blank byte) rest after (comment, split) (blank, again) =
+    absurd (blank-comment text bytes rest byte after blank again split comment)
+front-unique text (Comment bytes) (Comment others) rest after (comment, split) (also, again) =
+    let one = comment-unique bytes others rest after comment also (sym split ∙ again) in
+    record { one_piece = ap Comment one.0; one_rest = one.1 }
+front-unique text (Comment bytes) (Lexeme others token) rest after (comment, split) (spells, again, longest, no_comment) =
+    absurd (no_comment (comment-opens text bytes rest split comment))
+front-unique text (Lexeme others token) (Comment bytes) rest after (spells, split, longest, no_comment) (comment, again) =
+    absurd (no_comment (comment-opens text bytes after again comment))
 
 -- no piece stands at the front of nothing
-pub front-nil : HasNoFront []
+pub front-nil : HasNoPiece []
 front-nil (Blank byte) rest (blank, split) = cc
-front-nil (Lexeme bytes token) rest (spells, split, longest) =
+front-nil (Comment bytes) rest (comment, split) =
+    omega (arith, comment-positive bytes rest comment, ap length split, length-append bytes rest)
+front-nil (Lexeme bytes token) rest (spells, split, longest, open_end) =
     let front = spelling-front bytes token spells in
     let whole : [] ≡ front.first ∷ front.others ++ rest = split ∙ ap (λ b. b ++ rest) front.is in cc
 
 -- pieces that lead as far as pieces go are the same, and lead to one place
 pub fronts-unique : (text : List ℕ) (pieces others : List Piece) (rest after : List ℕ)
     → AreFront pieces text rest → AreFront others text after
-    → HasNoFront rest → HasNoFront after → (pieces ≡ others) × (rest ≡ after)
-fronts-unique text [] [] rest after first second none nothingthing = (refl, sym first ∙ second)
+    → HasNoPiece rest → HasNoPiece after → (pieces ≡ others) × (rest ≡ after)
+fronts-unique text [] [] rest after first second none nothing = (refl, sym first ∙ second)
 fronts-unique text [] (other ∷ others) rest after first (between, front, fronts) none nothing =
     absurd (none other between (subst (λ t. IsFront other t between) first front))
 fronts-unique text (piece ∷ pieces) [] rest after (between, front, fronts) second none nothing =

@@ -2,4 +2,7 @@
 pub mod ByteClass
 pub mod Base
 pub mod Front
+pub mod Directive
+pub mod Item
+pub mod Step
 pub mod Position

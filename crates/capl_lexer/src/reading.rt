@@ -1,22 +1,26 @@
 // The tokens of a whole text.
 
-ghost use Rattle.std.specs.Prelude.{◌≡◌, ◌<◌, ◌^◌, List, IfOk, IfErr, MatchOption, drop, length};
-ghost use Rattle.capl_lexer.specs.Reading.{IsReading};
-ghost use Rattle.capl_lexer.specs.Inside.Position.{IsPositionIn};
-ghost use Rattle.capl_lexer.specs.Inside.Front.{HasNoToken, IsTokenAt};
+ghost use Rattle.std.specs.Prelude.{◌≡◌, ◌<◌, ◌≤◌, ◌^◌, ◌++◌, ◌∷◌, [], List, IfOk, IfErr, OnOk, OnErr, length};
+ghost use Rattle.capl_lexer.specs.Reading.{IsReading, token_limit};
 ghost use Rattle.capl_lexer.specs.Refusal.{IsRefusalOf, RefusesAllReadings};
 ghost use Rattle.capl_lexer.specs.declared.token.Token.{Token};
 
-use crate::byte_class::ByteClass;
-use crate::front::token_front;
 use crate::position::Position;
 use crate::refusal::LexRefusal;
+use crate::step::next_step;
 use crate::token::Token;
-use sim_outside::NoMemory;
 use std::alloc::Global;
 
-/// The tokens of the text, in order, with their places, lines and columns. Refuses the text at the
-/// first place at which no piece begins. Takes time and memory linear in the bytes.
+/// How many tokens a text may have.
+pub const TOKEN_LIMIT: usize = 300_000;
+
+/// The tokens of the text, in order, with their places, lines and columns. Blanks and comments are
+/// passed over. Takes time linear in the bytes, and memory linear in the bytes of at most 300,001
+/// tokens.
+///
+/// Bad comes exactly where at some place no blank, comment or token begins, and names the first such
+/// place. Many comes exactly where there is none and there are more than 300,000 tokens, and NoMemory
+/// only where the system gives no memory.
 pub fn lex(alloc: Global, bytes: &[u8]) -> Result<Vec<Token>, LexRefusal>
     requires { length bytes.now < 2 ^ 32 }
 
@@ -24,48 +28,52 @@ pub fn lex(alloc: Global, bytes: &[u8]) -> Result<Vec<Token>, LexRefusal>
     ensures reading { IfOk result (λ tokens. IsReading bytes.now tokens.items) }
     ensures only { IfOk result (λ tokens.
         (others : List Token) → IsReading bytes.now others → others ≡ tokens.items) }
+    ensures within_limit { IfOk result (λ tokens. length tokens.items ≤ token_limit) }
 
-    // A text is refused at its bad place, and then it has no reading.
+    // A text is refused at its bad place, and then it has no reading; or by the length of its reading.
     ensures refusal { IfErr result (IsRefusalOf bytes.now) }
     ensures no_reading { IfErr result (RefusesAllReadings bytes.now) }
 {
     let mut tokens = Vec::new(alloc);
     let mut position = Position::start(bytes);
     while position.place < bytes.len() {
-        if ByteClass::Blank.begins(&bytes[position.place..]) {
-            position = position.after(bytes, 1);
-            continue;
-        }
-        let Some(token) = token_at(alloc, bytes, position)? else {
+        let Some(step) = next_step(alloc, &bytes[position.place..])? else {
             return Err(LexRefusal::Bad {
                 line: position.line as u32,
                 column: position.column as u32,
             });
         };
-        position = position.after(bytes, (token.to - token.from) as usize);
-        tokens.push(token)?;
+        let next = position.after(bytes, step.length);
+        if let Some(tok) = step.tok {
+            let token = Token {
+                tok,
+                from: position.place as u32,
+                to: next.place as u32,
+                line: position.line as u32,
+                column: position.column as u32,
+            };
+            keep(&mut tokens, token)?;
+        }
+        position = next;
+    }
+    if tokens.len() > TOKEN_LIMIT {
+        return Err(LexRefusal::Many);
     }
     Ok(tokens)
 }
 
-/// The longest token at the position, or None where none stands there.
-fn token_at(alloc: Global, bytes: &[u8], position: Position) -> Result<Option<Token>, NoMemory>
-    requires fits { length bytes.now < 2 ^ 32 }
-    requires at { IsPositionIn bytes.now position }
-    requires within { position.place < length bytes.now }
-    ensures { IfOk result (λ found. MatchOption found
-        (HasNoToken (drop position.place bytes.now)) (IsTokenAt bytes.now position.place)) }
+/// Keeps the token, unless there are more than the limit already.
+fn keep(tokens: &mut Vec<Token>, token: Token) -> Result<(), LexRefusal>
+    ensures kept { OnOk result
+        (length tokens.old.items ≤ token_limit → tokens.new.items ≡ tokens.old.items ++ token ∷ []) }
+    ensures enough { OnOk result
+        (token_limit < length tokens.old.items → tokens.new.items ≡ tokens.old.items) }
+    ensures memory { OnErr result (result ≡ Err LexRefusal.NoMemory) }
 {
-    let Some(front) = token_front(alloc, &bytes[position.place..])? else {
-        return Ok(None);
-    };
-    Ok(Some(Token {
-        tok: front.tok,
-        from: position.place as u32,
-        to: (position.place + front.length) as u32,
-        line: position.line as u32,
-        column: position.column as u32,
-    }))
+    if tokens.len() <= TOKEN_LIMIT {
+        tokens.push(token)?;
+    }
+    Ok(())
 }
 
 #[cfg(test)]

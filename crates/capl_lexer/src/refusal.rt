@@ -9,7 +9,7 @@ use std::alloc::AllocFailed;
 /// Why a text was not read.
 #[derive(Debug, Drop)]
 pub enum LexRefusal {
-    /// No blank and no token begins at this line and column, both counted from 1. A column counts
+    /// No blank, comment or token begins at this line and column, both counted from 1. A column counts
     /// bytes.
     Bad {
         /// The line.
@@ -17,6 +17,8 @@ pub enum LexRefusal {
         /// The column.
         column: u32,
     },
+    /// All is blanks, comments and tokens, and there are more than 300,000 tokens.
+    Many,
     /// There was no memory for the tokens.
     NoMemory,
 }

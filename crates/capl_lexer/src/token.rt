@@ -20,7 +20,8 @@ pub struct Token {
     pub column: u32,
 }
 
-/// What a token is.
+/// What a token is (CAPL manual, lexical elements). The bytes of a character and of a text are those
+/// that it stands for: its escapes are read.
 #[derive(Debug, Drop)]
 pub enum Tok {
     /// A letter or `_` and then letters, digits and `_`, other than a reserved word.
@@ -30,10 +31,19 @@ pub enum Tok {
     /// A sign.
     Sign(Sign),
     /// A number, decimal or hexadecimal with `0x`; None where it is above 2^64 - 1. A trailing `x`
-    /// marks an extended identifier.
+    /// marks an extended identifier, and `0x` alone is the extended identifier 0.
     Num { value: Option<u64>, ext: bool },
-    /// The bytes between two double quotes.
+    /// Decimal digits, a `.` and decimal digits, of which those after it may be missing.
+    Float,
+    /// `'` and `'` with a byte between them, which an escape may stand for.
+    Char(u8),
+    /// The bytes between two double quotes, where escapes stand for some of them.
     Str(Text),
+    /// `#include` and, after any blanks in its line, a file's name between two double quotes, which
+    /// has no escapes.
+    Include(Text),
+    /// `#` and letters.
+    Directive,
 }
 
 /// The reserved words.
@@ -178,11 +188,98 @@ impl Word {
 /// The signs.
 #[derive(Clone, Copy, Debug, PartialEq, Eq)]
 pub enum Sign {
+    /// `{`
     OpenBrace,
+    /// `}`
     CloseBrace,
+    /// `(`
     OpenParen,
+    /// `)`
     CloseParen,
+    /// `[`
+    OpenBracket,
+    /// `]`
+    CloseBracket,
+    /// `;`
     Semi,
+    /// `,`
     Comma,
+    /// `:`
+    Colon,
+    /// `::`
+    Scope,
+    /// `?`
+    Question,
+    /// `.`
+    Dot,
+    /// `$`
+    Dollar,
+    /// `@`
+    At,
+    /// `~`
+    Tilde,
+    /// `!`
+    Bang,
+    /// `=`
     Assign,
+    /// `==`
+    Equal,
+    /// `!=`
+    NotEqual,
+    /// `<`
+    Less,
+    /// `<=`
+    LessEqual,
+    /// `>`
+    Greater,
+    /// `>=`
+    GreaterEqual,
+    /// `<<`
+    ShiftLeft,
+    /// `>>`
+    ShiftRight,
+    /// `+`
+    Plus,
+    /// `-`
+    Minus,
+    /// `*`
+    Star,
+    /// `/`
+    Slash,
+    /// `%`
+    Percent,
+    /// `&`
+    Amp,
+    /// `|`
+    Bar,
+    /// `^`
+    Caret,
+    /// `&&`
+    AndAnd,
+    /// `||`
+    OrOr,
+    /// `++`
+    PlusPlus,
+    /// `--`
+    MinusMinus,
+    /// `+=`
+    PlusAssign,
+    /// `-=`
+    MinusAssign,
+    /// `*=`
+    StarAssign,
+    /// `/=`
+    SlashAssign,
+    /// `%=`
+    PercentAssign,
+    /// `&=`
+    AmpAssign,
+    /// `|=`
+    BarAssign,
+    /// `^=`
+    CaretAssign,
+    /// `<<=`
+    ShiftLeftAssign,
+    /// `>>=`
+    ShiftRightAssign,
 }

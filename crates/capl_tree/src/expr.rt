@@ -18,12 +18,12 @@ pub enum Expr {
         ext: bool,
         at: u32,
     },
-    /// `'CHAR'`, by its byte.
+    /// `'CHAR'`, by the byte that it stands for: its escape is read.
     Char {
         value: u8,
         at: u32,
     },
-    /// `"TEXT"`, by the bytes between the quotes as they stand in the source.
+    /// `"TEXT"`, by the bytes that it stands for: its escapes are read.
     Str {
         text: Text,
         at: u32,

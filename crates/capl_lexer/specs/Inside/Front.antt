@@ -1,9 +1,10 @@
--- The token at the front of a text, and at a place of it.
-use Rattle.std.specs.Prelude.{◌≡◌, ◌≤◌, ◌-◌, ℕ, List, ◌++◌, length, take, drop}
-use Rattle.capl_lexer.specs.Spelling.{Spells}
-use Rattle.capl_lexer.specs.Reading.{IsLongest, line_at, column_at}
+-- The token at the front of a text.
+use Rattle.std.specs.Prelude.{◌≡◌, ◌≢◌, ◌≤◌, ⊤, ℕ, List, [], ◌∷◌, ◌++◌, length, take}
+use Rattle.text_parts.specs.Number.{IsDigit}
+use Rattle.capl_lexer.specs.Bytes.{IsNameStart}
+use Rattle.capl_lexer.specs.Spelling.{Spells, IsFloat}
+use Rattle.capl_lexer.specs.Reading.{IsLongest}
 use Rattle.capl_lexer.specs.declared.token.Tok.{Tok}
-use Rattle.capl_lexer.specs.declared.token.Token.{Token}
 use Rattle.capl_lexer.specs.declared.front.Front.{Front}
 
 -- the bytes of the front spell its token, and no token there has more bytes
@@ -16,12 +17,19 @@ pub record IsTokenFront (text : List ℕ) (front : Front) : Type 0 where
 abbrev pub HasNoToken : List ℕ → Type 0
 HasNoToken text = (bytes after : List ℕ) (tok : Tok) → text ≡ bytes ++ after → Spells bytes tok → ⊥
 
--- the token stands at the place, is the longest there, and tells its line and its column
-pub record IsTokenAt (text : List ℕ) (place : ℕ) (token : Token) : Type 0 where
-  pub from : token.from ≡ place
-  pub to : token.to ≤ length text
-  pub after : place ≤ token.to
-  pub spells : Spells (take (token.to - place) (drop place text)) token.tok
-  pub longest : IsLongest (drop place text) (token.to - place)
-  pub line : token.line ≡ line_at text place
-  pub column : token.column ≡ column_at text place
+-- a byte with which no token but a sign begins
+pub record IsOther (byte : ℕ) : Type 0 where
+  pub no_name : IsNameStart byte → ⊥
+  pub no_digit : IsDigit byte → ⊥
+  pub no_quote : byte ≢ 34
+  pub no_apostrophe : byte ≢ 39
+  pub no_hash : byte ≢ 35
+
+-- the first byte, if there is one, is such a byte
+abbrev pub IsOtherFront : List ℕ → Type 0
+IsOtherFront [] = ⊤
+IsOtherFront (byte ∷ bytes) = IsOther byte
+
+-- no floating point number stands at the front
+abbrev pub HasNoFloat : List ℕ → Type 0
+HasNoFloat text = (bytes after : List ℕ) → text ≡ bytes ++ after → IsFloat bytes → ⊥

@@ -1,25 +1,23 @@
 -- Each piece extends the reading, and at the end of the text it is whole.
-use Rattle.std.proofs.Common.{◌≡◌, ◌++◌, [], ◌∷◌, drop, sym, subst, arith, Option, MatchOption}
+use Rattle.std.proofs.Common.{◌≡◌, ◌<◌, ◌≤◌, ◌+◌, ◌-◌, ◌++◌, ℕ, List, [], ◌∷◌, length, take, drop, refl, sym, ap, ◌∙◌, subst, arith, rules, Option, Some, MatchOption}
 use Rattle.std.proofs.lemmas.List.{take_rest}
-use Rattle.std.proofs.lemmas.Bool.{iff_false}
-use Rattle.capl_lexer.specs.Inside.ByteClass.{IsFirstInClass}
-use Rattle.capl_lexer.specs.Inside.Front.{HasNoToken, IsTokenAt}
-use Rattle.capl_lexer.specs.declared.byte_class.ByteClass.TheVariants as class
+use Rattle.capl_lexer.specs.Reading.{IsReading, token_limit}
+use Rattle.capl_lexer.specs.Inside.Step.{IsStep, HasNoPiece}
+use Rattle.capl_lexer.specs.declared.step.Step.{Step}
+use Rattle.capl_lexer.specs.declared.token.Tok.{Tok}
 use Rattle.capl_lexer.specs.declared.token.Token.{Token}
 use Rattle.capl_lexer.proofs.ReadingLemmas.{reading-unique, bad_place-reading}
-use Rattle.capl_lexer.proofs.PartialReadingLemmas.{HasRead, read_blank, read_token, token_at-positive, reading_from, bad_place_from, line-le, column-le}
+use Rattle.capl_lexer.proofs.PartialReadingLemmas.{HasKept, keep_passed, keep_one, kept_all, kept_many, step-positive, reading_from, bad_place_from, line-le, column-le}
 use Rattle.capl_lexer.proofs.reading.lex.Goals as goal
 
-pub loop-position-preserved-then-begins : goal.loop-position-preserved-then-begins
-loop-position-preserved-then-begins c =
-    let text = c.args.bytes.now in
-    let place = c.loop-position.position.place in
-    let blank = subst (IsFirstInClass class.Blank) (take_rest text place) (c.begins.ensures.0 c.if-begins.true) in
-    record {
-      at = c.after-position.ensures.at;
-      read = subst (λ n. HasRead text n c.loop-position.tokens.items) (sym c.after-position.ensures.place)
-          (read_blank text place c.loop-position.tokens.items c.loop-position.invariant.read c.loop-position-test.true blank);
-    }
+-- the step that was found at the place
+found_step : (text : List ℕ) (place : ℕ) (found : Option Step) (step : Step) → found ≡ Some step
+    → MatchOption found (HasNoPiece (take (length text - place) (drop place text))) (IsStep (take (length text - place) (drop place text)))
+    → IsStep (drop place text) step
+found_step text place found step is ensures =
+    let here = take (length text - place) (drop place text) in
+    subst (λ t. IsStep t step) (take_rest text place)
+    (subst (λ (f : Option Step). MatchOption f (HasNoPiece here) (IsStep here)) is ensures)
 
 pub overflow_cast-result : goal.overflow_cast-result
 overflow_cast-result c = omega (arith, line-le c.args.bytes.now c.loop-position.position c.loop-position.invariant.at, c.loop-position-test.true, c.requires)
@@ -31,39 +29,91 @@ pub returns-in_default-clause-no_reading : goal.returns-in_default-clause-no_rea
 returns-in_default-clause-no_reading c = λ tokens reading.
     let text = c.args.bytes.now in
     let place = c.loop-position.position.place in
-    let no_blank = λ (blank : IsFirstInClass class.Blank (drop place text)).
-    iff_false c.begins.ensures c.if-begins.false (subst (IsFirstInClass class.Blank) (sym (take_rest text place)) blank) in
-    let no_token = subst (λ (found : Option Token). MatchOption found (HasNoToken (drop place text)) (IsTokenAt text place)) c.in_default.is c.in_ok-token.ensures in
-    bad_place-reading text place tokens
-    (bad_place_from text place c.loop-position.tokens.items c.loop-position.invariant.read c.loop-position-test.true no_blank no_token) reading
+    let here = take (length text - place) (drop place text) in
+    let none = subst HasNoPiece (take_rest text place)
+    (subst (λ (f : Option Step). MatchOption f (HasNoPiece here) (IsStep here)) c.in_default.is c.in_ok-step.ensures) in
+    let has = c.loop-position.invariant.read in
+    bad_place-reading text place tokens (bad_place_from text place has.all has.read c.loop-position-test.true none) reading
+
+pub loop-position-smaller-in_ok-keep : goal.loop-position-smaller-in_ok-keep
+loop-position-smaller-in_ok-keep c =
+    let text = c.args.bytes.now in
+    let place = c.loop-position.position.place in
+    let is = found_step text place c.in_ok-step.field-0 c.in-Some.step c.in-Some.is c.in_ok-step.ensures in
+    omega (arith, step-positive text place c.in-Some.step is, c.after-next.ensures.place, c.loop-position-test.true)
+
+pub loop-position-preserved-in_ok-keep : goal.loop-position-preserved-in_ok-keep
+loop-position-preserved-in_ok-keep c =
+    let text = c.args.bytes.now in
+    let place = c.loop-position.position.place in
+    let step = c.in-Some.step in
+    let is = found_step text place c.in_ok-step.field-0 step c.in-Some.is c.in_ok-step.ensures in
+    let token : Tok → Token = λ tok. record {
+      tok = tok;
+      from = place;
+      to = c.after-next.result.place;
+      line = c.loop-position.position.line;
+      column = c.loop-position.position.column;
+    } in
+    let same = ap (λ (tok : Tok). c.loop-position.tokens.items ++ token tok ∷ []) c.in-Some-tok.tok-is in
+    let at = c.loop-position.invariant.at in
+    record {
+      at = c.after-next.ensures.at;
+      read = subst (λ n. HasKept token_limit text n c.keep.new.tokens.items) (sym c.after-next.ensures.place)
+          (keep_one token_limit text place c.loop-position.tokens.items c.keep.new.tokens.items step (token c.in-Some-tok.tok) c.loop-position.invariant.read is
+          c.in-Some-tok.is refl c.after-next.ensures.place at.line at.column (λ few. c.in_ok-keep.ensures.kept few ∙ same) c.in_ok-keep.ensures.enough);
+    }
 
 pub loop-position-smaller : goal.loop-position-smaller
 loop-position-smaller c =
     let text = c.args.bytes.now in
     let place = c.loop-position.position.place in
-    let at = subst (λ (found : Option Token). MatchOption found (HasNoToken (drop place text)) (IsTokenAt text place)) c.in-Some.is c.in_ok-token.ensures in
-    omega (arith, token_at-positive text place c.in-Some.token at, at.from, at.to, c.after-position-in-loop-position.ensures.place, c.loop-position-test.true)
+    let is = found_step text place c.in_ok-step.field-0 c.in-Some.step c.in-Some.is c.in_ok-step.ensures in
+    omega (arith, step-positive text place c.in-Some.step is, c.after-next.ensures.place, c.loop-position-test.true)
 
 pub loop-position-preserved : goal.loop-position-preserved
 loop-position-preserved c =
     let text = c.args.bytes.now in
     let place = c.loop-position.position.place in
-    let token = c.in-Some.token in
-    let at = subst (λ (found : Option Token). MatchOption found (HasNoToken (drop place text)) (IsTokenAt text place)) c.in-Some.is c.in_ok-token.ensures in
-    let to : c.after-position-in-loop-position.result.place ≡ token.to =
-    omega (arith, token_at-positive text place token at, at.from, c.after-position-in-loop-position.ensures.place) in
-    let read = read_token text place c.loop-position.tokens.items token c.loop-position.invariant.read at in
+    let is = found_step text place c.in_ok-step.field-0 c.in-Some.step c.in-Some.is c.in_ok-step.ensures in
     record {
-      at = c.after-position-in-loop-position.ensures.at;
-      read = subst (HasRead text c.after-position-in-loop-position.result.place) (sym c.in_ok-push.ensures.items)
-          (subst (λ n. HasRead text n (c.loop-position.tokens.items ++ token ∷ [])) (sym to) read);
+      at = c.after-next.ensures.at;
+      read = subst (λ n. HasKept token_limit text n c.loop-position.tokens.items) (sym c.after-next.ensures.place)
+          (keep_passed token_limit text place c.loop-position.tokens.items c.in-Some.step c.loop-position.invariant.read is c.in_default-tok.is);
     }
+
+pub returns-then-len-gt-TOKEN_LIMIT-clause-refusal : goal.returns-then-len-gt-TOKEN_LIMIT-clause-refusal
+returns-then-len-gt-TOKEN_LIMIT-clause-refusal c =
+    let text = c.args.bytes.now in
+    let place = c.loop-position.position.place in
+    let has = c.loop-position.invariant.read in
+    let many : token_limit < length c.loop-position.tokens.items = first_of (omega arith, search rules) in
+    (has.all, reading_from text place has.all has.read c.loop-position-test.false, kept_many token_limit text place c.loop-position.tokens.items has many)
+
+pub returns-then-len-gt-TOKEN_LIMIT-clause-no_reading : goal.returns-then-len-gt-TOKEN_LIMIT-clause-no_reading
+returns-then-len-gt-TOKEN_LIMIT-clause-no_reading c = λ tokens reading.
+    let text = c.args.bytes.now in
+    let place = c.loop-position.position.place in
+    let has = c.loop-position.invariant.read in
+    let many : token_limit < length c.loop-position.tokens.items = first_of (omega arith, search rules) in
+    subst (λ (t : List Token). token_limit < length t)
+    (reading-unique text has.all tokens (reading_from text place has.all has.read c.loop-position-test.false) reading)
+    (kept_many token_limit text place c.loop-position.tokens.items has many)
 
 pub returns-clause-reading : goal.returns-clause-reading
 returns-clause-reading c =
-    reading_from c.args.bytes.now c.loop-position.position.place c.loop-position.tokens.items c.loop-position.invariant.read c.loop-position-test.false
+    let text = c.args.bytes.now in
+    let place = c.loop-position.position.place in
+    let has = c.loop-position.invariant.read in
+    let few : length c.loop-position.tokens.items ≤ token_limit = first_of (omega arith, search rules) in
+    subst (IsReading text) (sym (kept_all token_limit text place c.loop-position.tokens.items has few))
+    (reading_from text place has.all has.read c.loop-position-test.false)
 
 pub returns-clause-only : goal.returns-clause-only
 returns-clause-only c = λ others reading.
-    reading-unique c.args.bytes.now others c.loop-position.tokens.items reading
-    (reading_from c.args.bytes.now c.loop-position.position.place c.loop-position.tokens.items c.loop-position.invariant.read c.loop-position-test.false)
+    let text = c.args.bytes.now in
+    let place = c.loop-position.position.place in
+    let has = c.loop-position.invariant.read in
+    let few : length c.loop-position.tokens.items ≤ token_limit = first_of (omega arith, search rules) in
+    reading-unique text others has.all reading (reading_from text place has.all has.read c.loop-position-test.false)
+    ∙ sym (kept_all token_limit text place c.loop-position.tokens.items has few)

@@ -1,5 +1,5 @@
 -- What decides whether a text is a source.
-use Rattle.std.proofs.Common.{sym, ap, subst, ◌∙◌}
+use Rattle.std.proofs.Common.{sym, ap, subst, ◌∙◌, arith}
 use Rattle.sim_run.specs.Form.Spelling.{kinds_of}
 use Rattle.sim_run.specs.Program.{IsProgram}
 use Rattle.sim_run.specs.declared.source.Source.{Source}
@@ -8,6 +8,12 @@ use Rattle.sim_run.proofs.source.source_of.Goals as goal
 -- a source has a reading
 pub returns-in-Err-Bad : goal.returns-in-Err-Bad
 returns-in-Err-Bad c = λ (source : Source) is. (rw c.in-Err-Bad.field-0-is at c.in-Err-Bad.ensures.no_reading) is.spelled.0 is.spelled.1
+
+-- with few enough tokens
+pub returns-in-Err-Many : goal.returns-in-Err-Many
+returns-in-Err-Many c = λ (source : Source) is.
+    let many = (rw c.in-Err-Many.field-0-is at c.in-Err-Many.ensures.no_reading) is.spelled.0 is.spelled.1 in
+    absurd (omega (arith, many, is.spelled.3))
 
 -- its tokens are the spelling of a tree
 pub returns-in-Err-NotSpelled : goal.returns-in-Err-NotSpelled

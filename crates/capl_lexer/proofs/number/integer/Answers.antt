@@ -8,8 +8,8 @@ use Rattle.capl_lexer.specs.Inside.Front.{IsTokenFront}
 use Rattle.capl_lexer.specs.declared.byte_class.ByteClass.{ByteClass}
 use Rattle.capl_lexer.specs.declared.byte_class.ByteClass.TheVariants as class
 use Rattle.capl_lexer.specs.declared.token.Tok.TheVariants as tok
-use Rattle.capl_lexer.proofs.FrontLemmas.{number_front}
-use Rattle.capl_lexer.proofs.front.number.Goals as goal
+use Rattle.capl_lexer.proofs.NumberFronts.{number_front}
+use Rattle.capl_lexer.proofs.number.integer.Goals as goal
 
 from_bool-cond : (ext : Bool) → from_bool ext ≡ cond ext 1 0
 from_bool-cond true = refl
@@ -33,7 +33,7 @@ returns c =
     omega (arith, c.prefix-prefix.ensures, c.from.ensures, from_bool-cond ext) in
     let found = number_front text base behind (take count behind) (drop count behind) count ext (prefix + count + c.from.result) size
     record {
-      start = c.requires;
+      start = c.requires.digit;
       is_base = c.at_front-base.ensures;
       is_behind = take_rest text prefix ∙ ap (λ n. drop n text) c.prefix-prefix.ensures;
       run = subst (λ kind. IsRun kind behind count) c.digits.ensures c.run-count.ensures;
@@ -41,6 +41,6 @@ returns c =
       is_rest = refl;
       has_mark = λ first. c.begins-ext.ensures.1 (subst (IsFirstInClass class.Mark) (sym rest_is) first);
       is_marked = λ marked. subst (IsFirstInClass class.Mark) rest_is (c.begins-ext.ensures.0 marked);
-    } in
+    } c.requires.no_point in
     subst (λ (value : Option ℕ). IsTokenFront text (record { tok = tok.Num value ext; length = prefix + count + c.from.result }))
     (sym c.number-value.ensures) found
