@@ -41,7 +41,7 @@ AllByRecursion-drop P (suc n) [] h = tt
 AllByRecursion-drop P (suc n) (x ∷ xs) h = AllByRecursion-drop P n xs h.1
 
 -- the arrays of a format lie in the cells, where they are arrays of characters
-arrays_there : (kinds : List Kind) (cells : List ℤ) → length cells ≡ length kinds → (arrays : List (ℕ × ℕ)) → All (IsCharArray kinds) arrays →
+pub arrays_there : (kinds : List Kind) (cells : List ℤ) → length cells ≡ length kinds → (arrays : List (ℕ × ℕ)) → All (IsCharArray kinds) arrays →
     list_all (λ array. nat_le (array.0 + array.1) (length cells)) arrays ≡ true
 arrays_there kinds cells same [] h = refl
 arrays_there kinds cells same (a ∷ arrays) h =

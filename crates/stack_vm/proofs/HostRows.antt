@@ -90,12 +90,13 @@ send_row code closed moment m at stack e =
 abbrev pub line_of : FormatText → List ℤ → List ℤ → Effect
 line_of format stack cells = effect.Line (rendered format (reverse (take (numbers_taken format) stack)) cells)
 
--- a line is written, where its numbers are there
+-- a line is written, where its numbers and its arrays are there
 pub write_row : (code : Code) (closed : Bool) (moment : ℕ) (m : Machine) (f : ℕ) (format : FormatText) (stack : List ℤ) → slice_get code.formats f ≡ Some format →
-    numbers_taken format ≤ length stack →
+    numbers_taken format ≤ length stack → list_all (λ array. nat_le (array.0 + array.1) (length m.cells)) (char_arrays format) ≡ true →
     row code closed moment m (Write f) stack ≡ goes_on (after_effect (line_of format stack m.cells) m) (drop (numbers_taken format) stack)
-write_row code closed moment m f format stack e enough =
+write_row code closed moment m f format stack e enough arrays =
     let there : Bool = list_all (λ array. nat_le (array.0 + array.1) (length m.cells)) (char_arrays format) in
     let goes : Next = goes_on (after_effect (line_of format stack m.cells) m) (drop (numbers_taken format) stack) in
     let is : nat_le (numbers_taken format) (length stack) ≡ true = le-leb (numbers_taken format) (length stack) enough in
     ap (λ (o : Option FormatText). needing o (λ (x : FormatText). writes x m stack)) e ∙ ap (λ (b : Bool). if b && there then goes else Stuck) is
+    ∙ ap (λ (b : Bool). if b then goes else Stuck) arrays

@@ -1,4 +1,5 @@
 -- Lemmas that several proofs use.
+mod ArrayLemmas
 pub mod ListLemmas
 pub mod NumberLemmas
 pub mod StackLemmas

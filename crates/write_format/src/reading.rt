@@ -49,8 +49,9 @@ fn is_fit(conversion: Conversion, arg: &ArgKind) -> bool
     ensures { result ≡ is_fit conversion arg.now }
 {
     match (conversion, arg) {
-        (Conversion::Number { kind, .. }, ArgKind::Number(given)) => is_wide(*given)
-            == is_wide(kind),
+        (Conversion::Number { kind, .. }, ArgKind::Number(given)) => {
+            is_wide(kind) == is_wide(*given)
+        }
         (Conversion::Character, ArgKind::Number(given)) => !is_wide(*given),
         (Conversion::Text, ArgKind::Chars { .. } | ArgKind::Str(_)) => true,
         _ => false,

@@ -5,9 +5,27 @@ use Rattle.vm_host.specs.Effect as effect
 use Rattle.write_format.specs.Format.{FormatText, numbers_taken}
 use Rattle.bytecode.specs.declared.instr.Instr.TheVariants.{Write}
 use Rattle.stack_vm.specs.Inside.State.{RunState, machine}
+use Rattle.stack_vm.proofs.ArrayLemmas.{arrays_hold, arrays_lie}
 use Rattle.stack_vm.proofs.HostRows.{does_effect, line_of, write_row}
 use Rattle.stack_vm.proofs.ListLemmas.{item_read}
 use Rattle.stack_vm.proofs.effects.write.Goals as goal
+
+-- the format of the instruction
+pub line-requires-clause-arrays : goal.line-requires-clause-arrays
+line-requires-clause-arrays g c =
+    let code = c.args.code.now in
+    let r = c.requires.ready in
+    let format : FormatText = c.index-as_slice-f.result in
+    let is : slice_get code.formats c.args.f ≡ Some format = item_read code.formats c.as_slice.ensures refl r.named format ∙ ap Some (sym c.index-as_slice-f.is) in
+    arrays_hold code c.requires.verified c.args.f format is r.named c.args.state.now.cells r.cells_held
+
+pub forget-requires-clause-there : goal.forget-requires-clause-there
+forget-requires-clause-there g c =
+    let code = c.args.code.now in
+    let r = c.requires.ready in
+    let format : FormatText = c.index-as_slice-f.result in
+    let is : slice_get code.formats c.args.f ≡ Some format = item_read code.formats c.as_slice.ensures refl r.named format ∙ ap Some (sym c.index-as_slice-f.is) in
+    omega (arith, r.taken, ap (λ (o : Option FormatText). option_map_or numbers_taken o 0) is, c.numbers_taken.ensures)
 
 pub returns-clause-does : goal.returns-clause-does
 returns-clause-does g c =
@@ -24,6 +42,6 @@ returns-clause-does g c =
     let enough : numbers_taken format ≤ length s.stack = omega (arith, r.taken, ap (λ (o : Option FormatText). option_map_or numbers_taken o 0) is) in
     does_effect host code (Write f) s stands c.forget.new.self c.line-2.new.self (after (numbers_taken format)) refl refl
     (c.forget.ensures ∙ ap after c.numbers_taken.ensures) (line_of format s.stack s.cells) timers (host.is_closed stands) (host.moment stands) refl refl
-    (λ effects. write_row code (host.is_closed stands) (host.moment stands) (machine s timers effects) f format s.stack is enough)
+    (λ effects. write_row code (host.is_closed stands) (host.moment stands) (machine s timers effects) f format s.stack is enough (arrays_lie code c.requires.verified f format is r.named s.cells r.cells_held))
     c.line-2.ensures.timers_stay
     (subst (λ (text : List ℕ). host.takes stands (effect.Line text) c.line-2.new.self) (c.bytes.ensures ∙ c.in_ok-text.ensures) c.in_ok-line.ensures.taken)
