@@ -22,6 +22,7 @@ item_cases kind rest None outside none = λ value after item. no_item value afte
     no_item value after (inr escape) = none value after escape
 item_cases kind rest (Some item) outside front = record { within = front.within; is = inr front.is }
 
+-- where a text begins with `\`, its item is the escape at its front
 pub item_from_escape : (kind : ByteClass) (text : List ℕ) (byte : ℕ) (rest : List ℕ) (found : Option Item)
     → text ≡ byte ∷ rest → byte ≡ 92 → (IsInClass kind byte → ⊥)
     → MatchOption found (HasNoEscape (92 ∷ rest)) (IsEscapeFront (92 ∷ rest))

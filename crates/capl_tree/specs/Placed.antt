@@ -42,7 +42,7 @@ abbrev mutual
   IsPlaced total (form.Index base index at) rest =
       IsAt total at (expression (form.Index base index at) rest)
       × IsPlaced total base
-        (tok.Sign sign.OpenBracket ∷ expression index (tok.Sign sign.CloseBracket ∷ rest))
+      (tok.Sign sign.OpenBracket ∷ expression index (tok.Sign sign.CloseBracket ∷ rest))
       × IsPlaced total index (tok.Sign sign.CloseBracket ∷ rest)
   IsPlaced total (form.Member base inner at) rest =
       IsAt total at (expression (form.Member base inner at) rest)
@@ -62,7 +62,7 @@ abbrev mutual
   IsPlaced total (form.Cond test one other at) rest =
       IsAt total at (expression (form.Cond test one other at) rest)
       × IsPlaced total test
-        (tok.Sign sign.Question ∷ expression one (tok.Sign sign.Colon ∷ expression other rest))
+      (tok.Sign sign.Question ∷ expression one (tok.Sign sign.Colon ∷ expression other rest))
       × IsPlaced total one (tok.Sign sign.Colon ∷ expression other rest)
       × IsPlaced total other rest
   IsPlaced total (form.Assign operator left right at) rest =

@@ -10,6 +10,6 @@ use Rattle.sim_run.specs.Program.{IsProgram}
 -- that requests the source's frames
 pub record IsSource (text : List ℕ) (source : Source) : Type 0 where
   pub spelled :
-    (tokens : List Token) × IsReading text tokens × (kinds_of tokens ≡ spelling source.tree)
-    × (length tokens ≤ token_limit)
+      (tokens : List Token) × IsReading text tokens × (kinds_of tokens ≡ spelling source.tree)
+      × (length tokens ≤ token_limit)
   pub program : IsProgram source.tree source.frames
