@@ -1,0 +1,2 @@
+-- What the fields of public structs keep.
+pub mod Selectors

@@ -1,0 +1,2 @@
+-- What private functions mean. No public clause speaks of it.
+pub mod Selectors
