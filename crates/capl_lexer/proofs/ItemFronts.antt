@@ -8,7 +8,7 @@ use Rattle.capl_lexer.specs.declared.byte_class.ByteClass.{ByteClass}
 use Rattle.capl_lexer.specs.declared.byte_class.ByteClass.TheVariants as class
 use Rattle.capl_lexer.specs.declared.quoted.Item.{Item}
 
--- where `\` does not stand for itself, what is at the front is an escape
+-- behind `\` what is at the front is an escape
 item_cases : (kind : ByteClass) (rest : List ℕ) (found : Option Item) → (IsInClass kind 92 → ⊥)
     → MatchOption found (HasNoEscape (92 ∷ rest)) (IsEscapeFront (92 ∷ rest))
     → MatchOption found (HasNoItem kind (92 ∷ rest)) (IsItemFront kind (92 ∷ rest))
@@ -22,7 +22,7 @@ item_cases kind rest None outside none = λ value after item. no_item value afte
     no_item value after (inr escape) = none value after escape
 item_cases kind rest (Some item) outside front = record { within = front.within; is = inr front.is }
 
--- where a text begins with `\`, its item is the escape at its front
+-- where the first byte is `\` and stands for itself nowhere, what is at the front is an escape
 pub item_from_escape : (kind : ByteClass) (text : List ℕ) (byte : ℕ) (rest : List ℕ) (found : Option Item)
     → text ≡ byte ∷ rest → byte ≡ 92 → (IsInClass kind byte → ⊥)
     → MatchOption found (HasNoEscape (92 ∷ rest)) (IsEscapeFront (92 ∷ rest))

@@ -104,7 +104,7 @@ escape_none text none value rest (inr (digit ∷ digits, is, all, value_is, coun
 pub escape_short : (letter value : ℕ) (rest : List ℕ) → escaped letter ≡ Some value → IsEscape value (92 ∷ letter ∷ rest) rest
 escape_short letter value rest is = inl (letter, refl, is)
 
--- `\` and a letter that neither is `x` nor stands for a byte are no escape
+-- `\` and a byte with which it stands for nothing
 pub escape_other : (letter : ℕ) (text : List ℕ) → (letter ≡ 120 → ⊥) → escaped letter ≡ None → (value : ℕ) (rest : List ℕ)
     → IsEscape value (92 ∷ letter ∷ text) rest → ⊥
 escape_other letter text no_x none value rest (inl (another, is, escape)) =
@@ -182,11 +182,11 @@ item-cut P text value rest after (inr (inr (digits, is, all, value_is, count))) 
 quote-outside : IsPlain 34 → ⊥
 quote-outside plain = plain.0 refl
 
--- `\` stands for itself neither in a string nor in a character
+-- `\` does not stand for itself in a string
 pub backslash-outside : IsPlain 92 → ⊥
 backslash-outside plain = plain.1 refl
 
--- the same in a character
+-- `\` does not stand for itself in a character
 pub backslash-outside_char : IsPlainInChar 92 → ⊥
 backslash-outside_char plain = plain.2 refl
 

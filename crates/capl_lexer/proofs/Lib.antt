@@ -21,3 +21,4 @@ mod PartialReadingLemmas
 mod CommentFronts
 mod StepLemmas
 mod ItemFronts
+mod ScreeningLemmas

@@ -4,7 +4,7 @@ use Rattle.std.proofs.lemmas.List.{take_at}
 use Rattle.std.proofs.lemmas.List.Elements.{All-tail}
 
 -- two fronts of one length are one
-pub front_injective : (xs ys rest other : List ℕ) → xs ++ rest ≡ ys ++ other → length xs ≡ length ys
+pub front_injective : {A : Type 0} (xs ys rest other : List A) → xs ++ rest ≡ ys ++ other → length xs ≡ length ys
     → xs ≡ ys
 front_injective xs ys rest other same lengths =
     sym (take_at xs rest (length xs) refl) ∙ ap (take (length xs)) same ∙ take_at ys other (length xs) (sym lengths)

@@ -6,3 +6,4 @@ pub mod Directive
 pub mod Item
 pub mod Step
 pub mod Position
+pub mod Screening
