@@ -1,0 +1,5 @@
+-- The lemmas of this crate.
+mod VisitLemmas
+mod StepLemmas
+mod UniqueLemmas
+mod AnswerLemmas

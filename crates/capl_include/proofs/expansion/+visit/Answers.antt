@@ -1,0 +1,154 @@
+-- Each way in which a visit ends, and how its includes go on.
+use Rattle.std.proofs.Common.{◌≡◌, ◌<◌, ◌≤◌, ◌+◌, ◌++◌, ◌∷◌, [], ℕ, List, Option, Bool, length, true, false, refl, sym, subst, ◌∙◌, ap, arith, Ok, Err, nat_le}
+use Rattle.std.specs.Prelude.{IfSome, IfErr}
+use Rattle.std.proofs.lemmas.Bool.Decides.{nat_tests}
+use Rattle.capl_lexer.specs.Reading.{token_limit}
+use Rattle.capl_lexer.specs.declared.token.Token.{Token}
+use Rattle.capl_include.specs.Expansion.{Contents, Expansion, Outcome, Went, appending, file_limit}
+use Rattle.capl_include.specs.Inside.Visit.{IsRead, ReadAgrees, StepAgrees, IsVisitAt, IsVisitRefusal}
+use Rattle.capl_include.specs.declared.expanded.SourceFile.{SourceFile}
+use Rattle.capl_include.proofs.VisitLemmas.{GoesFrom, goes_past, goes_through, whole_ends, full_refusal, read_refusal, step_refusal, inside_refusal, told_always, told_from, told_from_two, told_from_three, passed_on}
+use Rattle.capl_include.proofs.expansion.+visit.Goals.{in-Some+in_ok-visit, in_default}
+use Rattle.capl_include.proofs.expansion.+visit.Goals as goal
+
+many_files : (count : ℕ) (full : Bool) → full ≡ nat_le file_limit count → full ≡ true → file_limit ≤ count
+many_files count full is holds = grind (arith, nat_tests)
+
+few_files : (count : ℕ) (full : Bool) → full ≡ nat_le file_limit count → full ≡ false → count < file_limit
+few_files count full is fails = grind (arith, nat_tests)
+
+read_here : (contents : Contents) (name : List ℕ) (n count : ℕ) (tokens list : List Token) → IsRead contents name n tokens
+    → n ≡ count → list ≡ tokens → IsRead contents name count list
+read_here contents name n count tokens list read same is =
+    subst (IsRead contents name count) (sym is) (subst (λ m. IsRead contents name m tokens) same read)
+
+pub returns-then-is_full-clause-stopped : goal.returns-then-is_full-clause-stopped
+returns-then-is_full-clause-stopped g t c =
+    let root = c.args.root.now in
+    let name = c.args.name.now in
+    let old = c.args.progress.now in
+    told_always (g.F.Files.held c.args.files.now) (λ contents. IsVisitRefusal contents root name old c.blamed.result)
+    (λ contents. full_refusal contents root name old c.blamed.result (many_files (length old.met) c.is_full.result c.is_full.ensures c.if-is_full.true) c.blamed.ensures)
+
+pub returns-in_err-tokens-clause-stopped : goal.returns-in_err-tokens-clause-stopped
+returns-in_err-tokens-clause-stopped g t c =
+    let root = c.args.root.now in
+    let name = c.args.name.now in
+    let old = c.args.progress.now in
+    let refusal = c.in_err-tokens.field-0.0 in
+    let few = few_files (length old.met) c.is_full.result c.is_full.ensures c.if-is_full.false in
+    told_from (g.F.Files.held c.args.files.now) (λ contents. ReadAgrees contents name c.count.result (Err refusal))
+    (λ contents. IfErr c.from_residual.result (IsVisitRefusal contents root name old))
+    (λ contents agrees. passed_on c.from_residual.result refusal (IsVisitRefusal contents root name old) c.from_residual.ensures.1
+    (read_refusal contents root name old refusal few (subst (λ n. ReadAgrees contents name n (Err refusal)) c.count.ensures agrees)))
+    c.in_err-tokens.ensures.told
+
+pub returns-in_err-next-clause-stopped : goal.returns-in_err-next-clause-stopped
+returns-in_err-next-clause-stopped g t c =
+    let root = c.args.root.now in
+    let name = c.args.name.now in
+    let old = c.args.progress.now in
+    let at = c.loop-token.progress in
+    let place = c.loop-token.token-index in
+    let list = c.deref-token-items.result.now in
+    let refusal = c.in_err-next.field-0.0 in
+    let few = few_files (length old.met) c.is_full.result c.is_full.ensures c.if-is_full.false in
+    told_from_two (g.F.Files.held c.args.files.now) (λ contents. IsRead contents name c.count.result c.in_ok-tokens.tokens.items)
+    (λ contents. GoesFrom contents root name list old place at)
+    (λ contents. IfErr c.from_residual-in_err-next.result (IsVisitRefusal contents root name old))
+    (λ contents read goes. passed_on c.from_residual-in_err-next.result refusal (IsVisitRefusal contents root name old) c.from_residual-in_err-next.ensures.1
+    (step_refusal contents root name list old place at c.token-item.result refusal few
+    (read_here contents name c.count.result old.count c.in_ok-tokens.tokens.items list read c.count.ensures c.deref-token-items.ensures.value)
+    c.loop-token-test.true c.token-item.is goes c.in_err-next.ensures.told))
+    c.in_ok-tokens.ensures.told c.loop-token.invariant.told
+
+pub returns-in_err-visit-clause-stopped : goal.returns-in_err-visit-clause-stopped
+returns-in_err-visit-clause-stopped g t c =
+    let root = c.args.root.now in
+    let name = c.args.name.now in
+    let next = c.in-Some.next in
+    let old = c.args.progress.now in
+    let at = c.loop-token.progress in
+    let place = c.loop-token.token-index in
+    let list = c.deref-token-items.result.now in
+    let refusal = c.in_err-visit.field-0.0 in
+    let few = few_files (length old.met) c.is_full.result c.is_full.ensures c.if-is_full.false in
+    let step = subst (λ (n : Option (List ℕ)). StepAgrees name c.token-item.result at.met (Ok n)) c.in-Some.is c.in_ok-next.ensures.told in
+    told_from_three (g.F.Files.held c.args.files.now) (λ contents. IsRead contents name c.count.result c.in_ok-tokens.tokens.items)
+    (λ contents. GoesFrom contents root name list old place at)
+    (λ contents. IsVisitRefusal contents root next at refusal)
+    (λ contents. IfErr c.from_residual-in_err-visit.result (IsVisitRefusal contents root name old))
+    (λ contents read goes inside. passed_on c.from_residual-in_err-visit.result refusal (IsVisitRefusal contents root name old) c.from_residual-in_err-visit.ensures.1
+    (inside_refusal contents root name next list old place at c.token-item.result refusal few
+    (read_here contents name c.count.result old.count c.in_ok-tokens.tokens.items list read c.count.ensures c.deref-token-items.ensures.value)
+    c.loop-token-test.true c.token-item.is c.loop-token.invariant.grows goes step inside))
+    c.in_ok-tokens.ensures.told c.loop-token.invariant.told
+    (subst (λ (h : Option Contents). IfSome h (λ contents. IsVisitRefusal contents root next at refusal)) c.loop-token.invariant.contents_stay c.in_err-visit.ensures.stopped)
+
+pub loop-token-preserved : goal.loop-token-preserved
+loop-token-preserved g t c =
+    let root = c.args.root.now in
+    let name = c.args.name.now in
+    let old = c.args.progress.now in
+    let at = c.loop-token.progress in
+    let place = c.loop-token.token-index in
+    let list = c.deref-token-items.result.now in
+    let held = g.F.Files.held c.args.files.now in
+    let before = c.loop-token.invariant in
+    elim c.match-branch-4.branch [
+      | in-Some+in_ok-visit w ↦
+          let next = w.in-Some.next in
+          let new = w.visit.new.progress in
+          let done = w.in_ok-visit.ensures in
+          let step = subst (λ (n : Option (List ℕ)). StepAgrees name c.token-item.result at.met (Ok n)) w.in-Some.is c.in_ok-next.ensures.told in
+          let went = subst (λ (h : Option Contents). IfSome h (λ contents. IsVisitAt contents root next at (Went new))) before.contents_stay done.went in
+          record {
+            grows = subst (λ (p : Expansion). length old.met < length p.met) (sym w.progress-is) (omega (arith, before.grows, done.grows));
+            few = subst (λ (p : Expansion). p.count ≤ token_limit) (sym w.progress-is) done.within_limit;
+            faults_stay = subst (λ f. g.F.Files.faults c.args.files.now ≤ g.F.Files.faults f) (sym w.files-is) (omega (arith, before.faults_stay, done.faults_stay));
+            contents_stay = subst (λ f. g.F.Files.held f ≡ held) (sym w.files-is) (done.contents_stay ∙ before.contents_stay);
+            told = subst (λ (p : Expansion). IfSome held (λ contents. GoesFrom contents root name list old (place + 1) p)) (sym w.progress-is)
+                (told_from_two held (λ contents. GoesFrom contents root name list old place at) (λ contents. IsVisitAt contents root next at (Went new))
+                (λ contents. GoesFrom contents root name list old (place + 1) new)
+                (λ contents goes visit. goes_through contents root name next list old place at new c.token-item.result
+                c.loop-token-test.true c.token-item.is before.grows goes step visit)
+                before.told went);
+          }
+      | in_default w ↦
+          let step = subst (λ (n : Option (List ℕ)). StepAgrees name c.token-item.result at.met (Ok n)) w.in_default.is c.in_ok-next.ensures.told in
+          record {
+            grows = subst (λ (p : Expansion). length old.met < length p.met) (sym w.progress-is) before.grows;
+            few = subst (λ (p : Expansion). p.count ≤ token_limit) (sym w.progress-is) before.few;
+            faults_stay = subst (λ f. g.F.Files.faults c.args.files.now ≤ g.F.Files.faults f) (sym w.files-is) before.faults_stay;
+            contents_stay = subst (λ f. g.F.Files.held f ≡ held) (sym w.files-is) before.contents_stay;
+            told = subst (λ (p : Expansion). IfSome held (λ contents. GoesFrom contents root name list old (place + 1) p)) (sym w.progress-is)
+                (told_from held (λ contents. GoesFrom contents root name list old place at) (λ contents. GoesFrom contents root name list old (place + 1) at)
+                (λ contents goes. goes_past contents root name list old place at c.token-item.result c.loop-token-test.true c.token-item.is goes step)
+                before.told);
+          }
+    ]
+
+pub returns-clause-went : goal.returns-clause-went
+returns-clause-went g t c =
+    let root = c.args.root.now in
+    let name = c.args.name.now in
+    let old = c.args.progress.now in
+    let at = c.loop-token.progress in
+    let place = c.loop-token.token-index in
+    let list = c.deref-token-items.result.now in
+    let new = c.append.new.self in
+    let few = few_files (length old.met) c.is_full.result c.is_full.ensures c.if-is_full.false in
+    let named : c.in_ok-make.field-0 ≡ name = c.in_ok-make.ensures ∙ c.bytes.ensures in
+    let listed : c.from_list.result ≡ list = c.from_list.ensures ∙ sym c.deref-token-items.ensures.value in
+    let file : (n : List ℕ) → List Token → SourceFile = λ n tokens. record { name = n; tokens = tokens } in
+    let same : file c.in_ok-make.field-0 c.from_list.result ≡ file name list = λ i. file (named i) (listed i) in
+    let is : Went new ≡ appending name list (Went at) =
+    ap Went (c.in_ok-append.ensures.appended
+    ∙ ap (λ (f : SourceFile). record { met = at.met; count = at.count; files = at.files ++ f ∷ [] }) same) in
+    told_from_two (g.F.Files.held c.args.files.now) (λ contents. IsRead contents name c.count.result c.in_ok-tokens.tokens.items)
+    (λ contents. GoesFrom contents root name list old place at)
+    (λ contents. IsVisitAt contents root name old (Went new))
+    (λ contents read goes. whole_ends contents root name list old place at new few
+    (read_here contents name c.count.result old.count c.in_ok-tokens.tokens.items list read c.count.ensures c.deref-token-items.ensures.value)
+    c.loop-token-test.false goes is)
+    c.in_ok-tokens.ensures.told c.loop-token.invariant.told

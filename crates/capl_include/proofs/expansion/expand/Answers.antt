@@ -1,0 +1,40 @@
+-- The visit of the first file is the answer.
+use Rattle.std.proofs.Common.{◌≡◌, ℕ, List, Ok, Err}
+use Rattle.capl_include.specs.Expansion.{Contents, Went}
+use Rattle.capl_include.specs.Answer.{IsAnswer, IsOnly}
+use Rattle.capl_include.specs.Inside.Visit.{IsVisitAt, IsVisitRefusal}
+use Rattle.capl_include.proofs.VisitLemmas.{told_from}
+use Rattle.capl_include.proofs.AnswerLemmas.{refused_answer, refused_only, went_answer, went_only}
+use Rattle.capl_include.proofs.expansion.expand.Goals as goal
+
+pub returns-in_err-visit-clause-told : goal.returns-in_err-visit-clause-told
+returns-in_err-visit-clause-told g c =
+    let name = c.args.name.now in
+    let old = c.new-progress.result in
+    let refusal = c.in_err-visit.field-0.0 in
+    told_from (g.F.Files.held c.args.files.now) (λ contents. IsVisitRefusal contents name name old refusal) (λ contents. IsAnswer contents name c.from_residual.result)
+    (λ contents visit. refused_answer contents name old c.from_residual.result refusal c.new-progress.ensures c.from_residual.ensures.1 visit) c.in_err-visit.ensures.stopped
+
+pub returns-in_err-visit-clause-only : goal.returns-in_err-visit-clause-only
+returns-in_err-visit-clause-only g c =
+    let name = c.args.name.now in
+    let old = c.new-progress.result in
+    let refusal = c.in_err-visit.field-0.0 in
+    told_from (g.F.Files.held c.args.files.now) (λ contents. IsVisitRefusal contents name name old refusal) (λ contents. IsOnly contents name c.from_residual.result)
+    (λ contents visit. refused_only contents name old c.from_residual.result refusal c.new-progress.ensures c.from_residual.ensures.1 visit) c.in_err-visit.ensures.stopped
+
+pub returns-clause-told : goal.returns-clause-told
+returns-clause-told g c =
+    let name = c.args.name.now in
+    let old = c.new-progress.result in
+    let new = c.visit.new.progress in
+    told_from (g.F.Files.held c.args.files.now) (λ contents. IsVisitAt contents name name old (Went new)) (λ contents. IsAnswer contents name (Ok c.into_expanded.result))
+    (λ contents visit. went_answer contents name old new c.into_expanded.result c.new-progress.ensures c.into_expanded.ensures visit) c.in_ok-visit.ensures.went
+
+pub returns-clause-only : goal.returns-clause-only
+returns-clause-only g c =
+    let name = c.args.name.now in
+    let old = c.new-progress.result in
+    let new = c.visit.new.progress in
+    told_from (g.F.Files.held c.args.files.now) (λ contents. IsVisitAt contents name name old (Went new)) (λ contents. IsOnly contents name (Ok c.into_expanded.result))
+    (λ contents visit. went_only contents name old new c.into_expanded.result c.new-progress.ensures c.into_expanded.ensures visit) c.in_ok-visit.ensures.went

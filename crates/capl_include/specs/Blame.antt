@@ -1,0 +1,20 @@
+-- The rules that the files of a program may break, and their places.
+use Rattle.std.specs.Prelude.{ℕ, List, Option, Some, None}
+use Rattle.sim_outside.specs.declared.blame.Blame.{Blame}
+use Rattle.sim_outside.specs.declared.blame.Rule.{Rule}
+
+-- a rule on sources
+abbrev pub source_rule : ℕ → Rule
+source_rule number = record { group = 69; number = number }
+
+-- a file has more bytes than a file may
+abbrev pub too_long_rule : Rule
+too_long_rule = record { group = 70; number = 2 }
+
+-- a whole file is to blame
+abbrev pub file_blame : List ℕ → Rule → Blame
+file_blame name rule = record { file = name; line = None; column = None; rule = rule }
+
+-- a place of a file is to blame
+abbrev pub place_blame : List ℕ → ℕ → ℕ → Rule → Blame
+place_blame name line column rule = record { file = name; line = Some line; column = Some column; rule = rule }

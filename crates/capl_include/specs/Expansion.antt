@@ -1,0 +1,145 @@
+-- The expansion of a file over what the files hold: a recursion on the names that it names (CAPL manual,
+-- includes). It ends at the first rule that is broken.
+use Rattle.std.specs.Prelude.{◌≡◌, ◌+◌, ◌^◌, ◌⊎◌, ℕ, zero, suc, Bool, true, false, List, [], ◌∷◌, ◌++◌, length, Option, Some, None, nat_lt, nat_le, if◌then◌else◌}
+use Rattle.std.specs.List.{list_any}
+use Rattle.std.specs.Str.{bytes_eq}
+use Rattle.sim_outside.specs.declared.blame.Blame.{Blame}
+use Rattle.capl_lexer.specs.Reading.{IsReading, IsBadPlace, line_at, column_at, token_limit}
+use Rattle.capl_lexer.specs.declared.token.Tok.{Tok}
+use Rattle.capl_lexer.specs.declared.token.Tok.TheVariants as tok
+use Rattle.capl_lexer.specs.declared.token.Token.{Token}
+use Rattle.capl_include.specs.Blame.{source_rule, too_long_rule, file_blame, place_blame}
+use Rattle.capl_include.specs.Name.{included_name, is_included_name}
+use Rattle.capl_include.specs.declared.expanded.SourceFile.{SourceFile}
+
+-- what each name holds, or that it holds nothing
+abbrev pub Contents : Type 0
+Contents = List ℕ → Option (List ℕ)
+
+-- how many files a program may have
+abbrev pub file_limit : ℕ
+file_limit = 32
+
+-- how many bytes a file may have
+abbrev pub byte_limit : ℕ
+byte_limit = 2 ^ 20
+
+-- where an expansion stands: the names of the files met so far, how many tokens they have, and the files
+-- that are appended
+pub record Expansion : Type 0 where
+  pub met : List (List ℕ)
+  pub count : ℕ
+  pub files : List SourceFile
+
+-- where an expansion begins
+abbrev pub nothing_met : Expansion
+nothing_met = record { met = []; count = 0; files = [] }
+
+-- an expansion went on to here, or stopped at its first blame
+pub data Outcome : Type 0 where
+  Went : Expansion → Outcome
+  Stopped : Blame → Outcome
+
+-- an INCLUDE token: the name in it, and where it stands
+pub record Include : Type 0 where
+  pub own : List ℕ
+  pub line : ℕ
+  pub column : ℕ
+
+-- the include that a token is, before further ones
+abbrev pub include_then : Token → Tok → List Include → List Include
+include_then token (tok.Include own) more = record { own = own; line = token.line; column = token.column } ∷ more
+include_then token _ more = more
+
+-- the includes of a file, in order
+abbrev pub includes_of : List Token → List Include
+includes_of [] = []
+includes_of (token ∷ tokens) = include_then token token.tok (includes_of tokens)
+
+-- whether a file of this name was met
+abbrev pub has_met : List (List ℕ) → List ℕ → Bool
+has_met met name = list_any (λ other. bytes_eq other name) met
+
+-- what comes of an include: a blame, nothing, or the visit of a file
+pub data Step : Type 0 where
+  Refused : Blame → Step
+  Passed : Step
+  Visited : List ℕ → Step
+
+-- a name that is none is refused, a file that was met is passed over, and another one is visited
+abbrev pub step_of : List ℕ → Include → List (List ℕ) → Step
+step_of naming include met =
+    let name = included_name naming include.own in
+    if is_included_name include.own name then (if has_met met name then Passed else Visited name)
+    else Refused (place_blame naming include.line include.column (source_rule 8))
+
+-- how a visit of the file of a name goes, from where an expansion stands
+abbrev pub Visits : Type 1
+Visits = List ℕ → Expansion → Outcome → Type 0
+
+-- where a part of an expansion went on, this holds from there; where it stopped, all of it stops so
+abbrev pub GoesOn : Outcome → Outcome → (Expansion → Type 0) → Type 0
+GoesOn (Went next) outcome Rest = Rest next
+GoesOn (Stopped blame) outcome Rest = outcome ≡ Stopped blame
+
+-- an include goes so, and this holds from there
+abbrev pub IsIncluded : Visits → Step → Expansion → Outcome → (Expansion → Type 0) → Type 0
+IsIncluded IsVisited (Refused blame) at outcome Rest = outcome ≡ Stopped blame
+IsIncluded IsVisited Passed at outcome Rest = Rest at
+IsIncluded IsVisited (Visited name) at outcome Rest =
+    (after : Outcome) × IsVisited name at after × GoesOn after outcome Rest
+
+-- the includes of a file go so, one after another
+abbrev pub AreIncluded : Visits → List ℕ → List Include → Expansion → Outcome → Type 0
+AreIncluded IsVisited naming [] at outcome = outcome ≡ Went at
+AreIncluded IsVisited naming (include ∷ includes) at outcome =
+    IsIncluded IsVisited (step_of naming include at.met) at outcome
+    (λ next. AreIncluded IsVisited naming includes next outcome)
+
+-- where the test holds the expansion stops at the blame, and else this holds
+abbrev pub StopsIf : Bool → Blame → Outcome → Type 0 → Type 0
+StopsIf true blame outcome Rest = outcome ≡ Stopped blame
+StopsIf false blame outcome Rest = Rest
+
+-- a file with these tokens is met
+abbrev pub meeting : List ℕ → List Token → Expansion → Expansion
+meeting name tokens at = record { met = at.met ++ name ∷ []; count = at.count + length tokens; files = at.files }
+
+-- a file with these tokens is appended, where the expansion went on
+abbrev pub appending : List ℕ → List Token → Outcome → Outcome
+appending name tokens (Went at) =
+    Went (record { met = at.met; count = at.count; files = at.files ++ record { name = name; tokens = tokens } ∷ [] })
+appending name tokens (Stopped blame) = Stopped blame
+
+-- a file with these tokens is visited: it is met, its includes are visited, and it is appended
+abbrev pub VisitsTokens : Visits → List ℕ → List Token → Expansion → Outcome → Type 0
+VisitsTokens IsVisited name tokens at outcome =
+    StopsIf (nat_lt token_limit (at.count + length tokens)) (file_blame name (source_rule 4)) outcome
+    ((inner : Outcome) × AreIncluded IsVisited name (includes_of tokens) (meeting name tokens at) inner
+    × (outcome ≡ appending name tokens inner))
+
+-- a file with these bytes is visited: it has a bad place, or the tokens of its reading
+abbrev pub VisitsText : Visits → List ℕ → List ℕ → Expansion → Outcome → Type 0
+VisitsText IsVisited name text at outcome =
+    ((place : ℕ) × IsBadPlace text place
+    × (outcome ≡ Stopped (place_blame name (line_at text place) (column_at text place) (source_rule 1))))
+    ⊎ ((tokens : List Token) × IsReading text tokens × VisitsTokens IsVisited name tokens at outcome)
+
+-- a file that holds this is visited: it is missing, too long, or has bytes
+abbrev pub VisitsHeld : Visits → List ℕ → Option (List ℕ) → Expansion → Outcome → Type 0
+VisitsHeld IsVisited name None at outcome = outcome ≡ Stopped (file_blame name (source_rule 7))
+VisitsHeld IsVisited name (Some text) at outcome =
+    StopsIf (nat_lt byte_limit (length text)) (file_blame name too_long_rule) outcome
+    (VisitsText IsVisited name text at outcome)
+
+-- the file of a name is visited, with so many files inside one another at most: there are too many already,
+-- for which the first file is to blame, or it is visited as what it holds
+abbrev pub IsVisit : Contents → List ℕ → ℕ → Visits
+IsVisit contents root zero name at outcome = outcome ≡ Stopped (file_blame root (source_rule 29))
+IsVisit contents root (suc deeper) name at outcome =
+    StopsIf (nat_le file_limit (length at.met)) (file_blame root (source_rule 29)) outcome
+    (VisitsHeld (IsVisit contents root deeper) name (contents name) at outcome)
+
+-- the expansion of the file of this name: a file inside more than the limit is met when there are too many
+abbrev pub IsExpansion : Contents → List ℕ → Outcome → Type 0
+IsExpansion contents name outcome = IsVisit contents name file_limit name nothing_met outcome

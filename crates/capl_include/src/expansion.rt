@@ -1,0 +1,141 @@
+// The expansion of a file.
+
+ghost use Rattle.std.specs.Prelude.{◌≡◌, ◌+◌, ◌<◌, ◌≤◌, IfOk, IfErr, OnOk, IfSome, IsErrOf, length};
+ghost use Rattle.capl_lexer.specs.Reading.{token_limit};
+ghost use Rattle.sim_outside.specs.Fault.{HasRisen};
+ghost use Rattle.capl_include.specs.Expansion.{Went};
+ghost use Rattle.capl_include.specs.Answer.{IsAnswer, IsOnly};
+ghost use Rattle.capl_include.specs.Inside.Visit.{IsVisitAt, IsVisitRefusal, ReadAgrees, StepAgrees};
+
+use crate::blames::{
+    MISSING, NO_NAME, NO_TOKEN, TOO_LONG, TOO_MANY_FILES, TOO_MANY_TOKENS, blamed, blamed_at,
+};
+use crate::expanded::{Expanded, SourceFile};
+use crate::names::{included_name, is_included_name};
+use crate::progress::Progress;
+use crate::refusal::ExpandRefusal;
+use capl_lexer::{LexRefusal, TOKEN_LIMIT, Tok, Token, lex};
+use items::Items;
+use sim_outside::{FileRefusal, Files, Text};
+use std::alloc::Global;
+
+/// The most bytes of a file.
+const BYTE_LIMIT: usize = 1 << 20;
+
+/// The file of this name and the files that it includes, in program order: a file is read and met, the
+/// files that it names are visited in order where they were not met before, and then it is appended. No
+/// file is read twice. Takes time and memory linear in the bytes that are read.
+///
+/// Blamed comes exactly where a rule is broken, and names the first place. In the visit of a file E29
+/// comes first, for the file of `name`, where 32 files are met already; then E07 where the file is
+/// missing, F02 where it has more than 1 MiB, E01 where no token begins, and E04 where the files met so
+/// far have more than 300,000 tokens; then, include by include, E08 where the joined name has more than
+/// 255 bytes or one outside 32 to 126, or the name itself is empty, and what the visit of the included
+/// file brings. Failed comes only where a read failed, and NoMemory only where the system gives no memory.
+pub fn expand<F: Files>(
+    alloc: Global,
+    files: &mut F,
+    name: &Text,
+) -> Result<Expanded, ExpandRefusal>
+    // Where the contents are told, the answer is what they come to, and they come to nothing else.
+    ensures told { IfSome (F.held files.old) (λ contents. IsAnswer contents name.now result) }
+    ensures only { IfSome (F.held files.old) (λ contents. IsOnly contents name.now result) }
+    ensures failed { IsErrOf result ExpandRefusal.Failed → HasRisen (F.faults files.old) (F.faults files.new) }
+    ensures faults_stay { F.faults files.old ≤ F.faults files.new }
+    ensures contents_stay { F.held files.new ≡ F.held files.old }
+{
+    let mut progress = Progress::new(alloc);
+    visit(alloc, files, name, name, &mut progress)?;
+    Ok(progress.into_expanded())
+}
+
+/// Visits the file of this name: it is met, the files that it names are visited, and it is appended.
+fn visit<F: Files>(
+    alloc: Global,
+    files: &mut F,
+    root: &Text,
+    name: &Text,
+    progress: &mut Progress,
+) -> Result<(), ExpandRefusal>
+    requires { progress.old.count ≤ token_limit }
+    ensures went { IfSome (F.held files.old) (λ contents.
+        OnOk result (IsVisitAt contents root.now name.now progress.old (Went progress.new))) }
+    ensures stopped { IfSome (F.held files.old) (λ contents.
+        IfErr result (IsVisitRefusal contents root.now name.now progress.old)) }
+    ensures within_limit { OnOk result (progress.new.count ≤ token_limit) }
+    ensures grows { OnOk result (length progress.old.met < length progress.new.met) }
+    ensures failed { IsErrOf result ExpandRefusal.Failed → HasRisen (F.faults files.old) (F.faults files.new) }
+    ensures faults_stay { F.faults files.old ≤ F.faults files.new }
+    ensures contents_stay { F.held files.new ≡ F.held files.old }
+{
+    if progress.is_full() {
+        return Err(blamed(alloc, root, TOO_MANY_FILES));
+    }
+    let tokens = read_tokens(alloc, files, name, progress.count())?;
+    progress.meet(alloc, name, tokens.len())?;
+    for token in &tokens {
+        if let Some(next) = next_name(alloc, name, token, progress)? {
+            visit(alloc, files, root, &next, progress)?;
+        }
+    }
+    progress.append(SourceFile {
+        name: Text::make(alloc, name.bytes())?,
+        tokens: Items::from_list(tokens),
+    })?;
+    Ok(())
+}
+
+/// The tokens of the file of this name, where so many tokens were met before.
+fn read_tokens<F: Files>(
+    alloc: Global,
+    files: &mut F,
+    name: &Text,
+    count: usize,
+) -> Result<Vec<Token>, ExpandRefusal>
+    requires { count ≤ token_limit }
+    ensures told { IfSome (F.held files.old) (λ contents. ReadAgrees contents name.now count result) }
+    ensures few { IfOk result (λ tokens. count + length tokens.items ≤ token_limit) }
+    ensures failed { IsErrOf result ExpandRefusal.Failed → HasRisen (F.faults files.old) (F.faults files.new) }
+    ensures faults_stay { F.faults files.old ≤ F.faults files.new }
+    ensures contents_stay { F.held files.new ≡ F.held files.old }
+{
+    let bytes = match files.read(alloc, name, BYTE_LIMIT) {
+        Ok(bytes) => bytes,
+        Err(FileRefusal::Missing) => return Err(blamed(alloc, name, MISSING)),
+        Err(FileRefusal::TooLong) => return Err(blamed(alloc, name, TOO_LONG)),
+        Err(FileRefusal::Failed) => return Err(ExpandRefusal::Failed),
+        Err(FileRefusal::NoMemory) => return Err(ExpandRefusal::NoMemory),
+    };
+    match lex(alloc, &bytes) {
+        Ok(tokens) if tokens.len() <= TOKEN_LIMIT - count => Ok(tokens),
+        Ok(_) | Err(LexRefusal::Many) => Err(blamed(alloc, name, TOO_MANY_TOKENS)),
+        Err(LexRefusal::Bad { line, column }) => {
+            Err(blamed_at(alloc, name, line, column, NO_TOKEN))
+        }
+        Err(LexRefusal::NoMemory) => Err(ExpandRefusal::NoMemory),
+    }
+}
+
+/// The name of the file to visit for the token of a file, or None where it names none or one that was
+/// met.
+fn next_name(
+    alloc: Global,
+    naming: &Text,
+    token: &Token,
+    progress: &Progress,
+) -> Result<Option<Text>, ExpandRefusal>
+    ensures told { StepAgrees naming.now token.now progress.now.met result }
+    ensures no_fault { IsErrOf result ExpandRefusal.Failed → ⊥ }
+{
+    let Tok::Include(own) = &token.tok else {
+        return Ok(None);
+    };
+    let name = included_name(alloc, naming.bytes(), own.bytes())?;
+    if !is_included_name(own.bytes(), name.bytes()) {
+        return Err(blamed_at(alloc, naming, token.line, token.column, NO_NAME));
+    }
+    if progress.has_met(name.bytes()) {
+        return Ok(None);
+    }
+    Ok(Some(name))
+}
