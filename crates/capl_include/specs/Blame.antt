@@ -17,4 +17,5 @@ file_blame name rule = record { file = name; line = None; column = None; rule = 
 
 -- a place of a file is to blame
 abbrev pub place_blame : List ℕ → ℕ → ℕ → Rule → Blame
-place_blame name line column rule = record { file = name; line = Some line; column = Some column; rule = rule }
+place_blame name line column rule =
+    record { file = name; line = Some line; column = Some column; rule = rule }

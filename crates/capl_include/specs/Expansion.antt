@@ -48,7 +48,8 @@ pub record Include : Type 0 where
 
 -- the include that a token is, before further ones
 abbrev pub include_then : Token → Tok → List Include → List Include
-include_then token (tok.Include own) more = record { own = own; line = token.line; column = token.column } ∷ more
+include_then token (tok.Include own) more =
+    record { own = own; line = token.line; column = token.column } ∷ more
 include_then token _ more = more
 
 -- the includes of a file, in order
@@ -103,12 +104,17 @@ StopsIf false blame outcome Rest = Rest
 
 -- a file with these tokens is met
 abbrev pub meeting : List ℕ → List Token → Expansion → Expansion
-meeting name tokens at = record { met = at.met ++ name ∷ []; count = at.count + length tokens; files = at.files }
+meeting name tokens at =
+    record { met = at.met ++ name ∷ []; count = at.count + length tokens; files = at.files }
 
 -- a file with these tokens is appended, where the expansion went on
 abbrev pub appending : List ℕ → List Token → Outcome → Outcome
 appending name tokens (Went at) =
-    Went (record { met = at.met; count = at.count; files = at.files ++ record { name = name; tokens = tokens } ∷ [] })
+    Went (record {
+      met = at.met;
+      count = at.count;
+      files = at.files ++ record { name = name; tokens = tokens } ∷ [];
+    })
 appending name tokens (Stopped blame) = Stopped blame
 
 -- a file with these tokens is visited: it is met, its includes are visited, and it is appended

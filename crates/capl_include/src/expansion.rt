@@ -40,7 +40,7 @@ pub fn expand<F: Files>(
     // Where the contents are told, the answer is what they come to, and they come to nothing else.
     ensures told { IfSome (F.held files.old) (λ contents. IsAnswer contents name.now result) }
     ensures only { IfSome (F.held files.old) (λ contents. IsOnly contents name.now result) }
-    ensures failed { IsErrOf result ExpandRefusal.Failed → HasRisen (F.faults files.old) (F.faults files.new) }
+    ensures rose { IsErrOf result ExpandRefusal.Failed → HasRisen (F.faults files.old) (F.faults files.new) }
     ensures faults_stay { F.faults files.old ≤ F.faults files.new }
     ensures contents_stay { F.held files.new ≡ F.held files.old }
 {
@@ -64,7 +64,7 @@ fn visit<F: Files>(
         IfErr result (IsVisitRefusal contents root.now name.now progress.old)) }
     ensures within_limit { OnOk result (progress.new.count ≤ token_limit) }
     ensures grows { OnOk result (length progress.old.met < length progress.new.met) }
-    ensures failed { IsErrOf result ExpandRefusal.Failed → HasRisen (F.faults files.old) (F.faults files.new) }
+    ensures rose { IsErrOf result ExpandRefusal.Failed → HasRisen (F.faults files.old) (F.faults files.new) }
     ensures faults_stay { F.faults files.old ≤ F.faults files.new }
     ensures contents_stay { F.held files.new ≡ F.held files.old }
 {
@@ -95,7 +95,7 @@ fn read_tokens<F: Files>(
     requires { count ≤ token_limit }
     ensures told { IfSome (F.held files.old) (λ contents. ReadAgrees contents name.now count result) }
     ensures few { IfOk result (λ tokens. count + length tokens.items ≤ token_limit) }
-    ensures failed { IsErrOf result ExpandRefusal.Failed → HasRisen (F.faults files.old) (F.faults files.new) }
+    ensures rose { IsErrOf result ExpandRefusal.Failed → HasRisen (F.faults files.old) (F.faults files.new) }
     ensures faults_stay { F.faults files.old ≤ F.faults files.new }
     ensures contents_stay { F.held files.new ≡ F.held files.old }
 {

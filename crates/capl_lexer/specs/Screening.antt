@@ -56,7 +56,8 @@ IsOutsideSign before _ = ⊥
 -- the name of an event procedure
 abbrev pub IsEventName : List ℕ → Type 0
 IsEventName name =
-    (name ≡ codes "preStart") ⊎ (name ≡ codes "start") ⊎ (name ≡ codes "stopMeasurement") ⊎ (name ≡ codes "key")
+    (name ≡ codes "preStart") ⊎ (name ≡ codes "start")
+    ⊎ (name ≡ codes "stopMeasurement") ⊎ (name ≡ codes "key")
 
 -- a name behind `on` that no event procedure has, or one behind `on key`
 abbrev pub IsOutsideName : List Tok → List ℕ → Type 0

@@ -45,7 +45,8 @@ abbrev pub IsReadBlame : Contents → List ℕ → ℕ → Blame → Type 0
 IsReadBlame contents name count blame =
     ((contents name ≡ None) × (blame ≡ file_blame name (source_rule 7)))
     ⊎ (IsTooLong contents name × (blame ≡ file_blame name too_long_rule))
-    ⊎ ((line column : ℕ) × HasBadPlace contents name line column × (blame ≡ place_blame name line column (source_rule 1)))
+    ⊎ ((line column : ℕ) × HasBadPlace contents name line column
+    × (blame ≡ place_blame name line column (source_rule 1)))
     ⊎ (HasTooMany contents name count × (blame ≡ file_blame name (source_rule 4)))
 
 -- reading a file behind so many tokens gives its tokens or its blame

@@ -36,15 +36,18 @@ abbrev pub behind_name : Bool → Behind
 behind_name true = behind.OnKey
 behind_name false = behind.Other
 
+-- what a sign makes of them
 abbrev pub behind_sign : Sign → Behind
 behind_sign sign.Dot = behind.Point
 behind_sign sign.CloseBracket = behind.Bracket
 behind_sign _ = behind.Other
 
+-- what a reserved word makes of them
 abbrev pub behind_word : Word → Behind
 behind_word word.On = behind.On
 behind_word _ = behind.Other
 
+-- what a token makes of them
 abbrev pub behind_token : Tok → Bool → Behind
 behind_token (tok.Sign mark) after_on = behind_sign mark
 behind_token (tok.Word reserved) after_on = behind_word reserved
@@ -57,6 +60,7 @@ is_float_word word.Float = true
 is_float_word word.Double = true
 is_float_word _ = false
 
+-- whether a `.` stands before
 abbrev pub is_point : Behind → Bool
 is_point behind.Point = true
 is_point _ = false
@@ -82,6 +86,7 @@ is_outside_word word.FrFrame = true
 is_outside_word word.EthernetPacket = true
 is_outside_word _ = false
 
+-- whether a `]` stands before
 abbrev pub is_bracket : Behind → Bool
 is_bracket behind.Bracket = true
 is_bracket _ = false
@@ -97,8 +102,8 @@ is_outside_sign place _ = false
 -- whether the name is one of an event procedure
 abbrev pub is_event_name : List ℕ → Bool
 is_event_name name =
-    bytes_eq name (codes "preStart") || bytes_eq name (codes "start") || bytes_eq name (codes "stopMeasurement")
-    || bytes_eq name (codes "key")
+    bytes_eq name (codes "preStart") || bytes_eq name (codes "start")
+    || bytes_eq name (codes "stopMeasurement") || bytes_eq name (codes "key")
 
 -- whether the name is outside there
 abbrev pub is_outside_name : Behind → List ℕ → Bool
