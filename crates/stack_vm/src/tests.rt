@@ -1,8 +1,7 @@
 // Runs over a host in memory.
 
-ghost use Rattle.std.specs.Prelude.{All, IfOk, IsTrue};
+ghost use Rattle.std.specs.Prelude.{IfOk, IsTrue};
 ghost use Rattle.bytecode.specs.Verified.{IsShortCode, IsVerified};
-ghost use Rattle.write_format.specs.Format.{IsShort};
 
 use super::*;
 use bytecode::{Code, Fun, Handler, Instr, Verified, VerifyRefusal, verify};
@@ -89,9 +88,7 @@ fn empty_bench(alloc: Global, lines: u32) -> Bench {
 
 /// Code of one function, which runs when the measurement begins. After the event's cells there are a
 /// long, which begins with 7, and a message from cell 16 on. Format 0 is the line `go`.
-fn code(alloc: Global, instrs: &[Instr], depths: &[u32]) -> Result<Code, AllocError>
-    ensures { IfOk result (λ code. All IsShort code.formats) }
-{
+fn code(alloc: Global, instrs: &[Instr], depths: &[u32]) -> Result<Code, AllocError> {
     let end = u32::try_from(instrs.len()).unwrap_or(u32::MAX);
     let mut cells = MESSAGE_KINDS.to_vec(alloc)?;
     cells.extend_from_slice(&[Kind::Char, Kind::Long])?;
@@ -127,7 +124,6 @@ const LIMIT: usize = 0x1_0000_0000;
 
 /// Whether no list of the code is too long for the verifier.
 fn is_short(code: &Code) -> bool
-    requires { All IsShort code.now.formats }
     ensures { IsTrue result → IsShortCode code.now }
 {
     code.instrs.len() < LIMIT
@@ -143,6 +139,11 @@ fn is_short(code: &Code) -> bool
         && code.starts.len() < LIMIT
         && code.timers.len() < LIMIT
         && code.formats.len() < LIMIT
+        && code
+            .formats
+            .as_slice()
+            .iter()
+            .all(|format| format.is_short())
 }
 
 /// The code of these instructions and depths, or the place at which it is refused.
