@@ -139,3 +139,6 @@ fn next_name(
     }
     Ok(Some(name))
 }
+
+#[cfg(test)]
+mod tests;
