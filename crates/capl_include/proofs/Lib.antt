@@ -3,3 +3,4 @@ mod VisitLemmas
 mod StepLemmas
 mod UniqueLemmas
 mod AnswerLemmas
+mod OnceLemmas

@@ -1,5 +1,6 @@
 -- What an answer tells of the expansion.
-use Rattle.std.specs.Prelude.{◌≡◌, ℕ, List, [], ◌∷◌, ◌++◌, map, length, Result, Ok, Err, ⊤}
+use Rattle.std.specs.Prelude.{◌≡◌, ◌≢◌, ℕ, List, Result, Ok, Err, ⊤}
+use Rattle.std.specs.List.{AllPairs}
 use Rattle.capl_include.specs.Expansion.{Contents, Expansion, Went, Stopped, Outcome, IsExpansion}
 use Rattle.capl_include.specs.declared.expanded.Expanded.{Expanded}
 use Rattle.capl_include.specs.declared.expanded.SourceFile.{SourceFile}
@@ -23,3 +24,7 @@ IsOnly contents name (Err (Blamed blame)) =
     (outcome : Outcome) → IsExpansion contents name outcome → outcome ≡ Stopped blame
 IsOnly contents name (Err Failed) = ⊤
 IsOnly contents name (Err NoMemory) = ⊤
+
+-- no two files have one name
+abbrev pub HaveDifferentNames : List SourceFile → Type 0
+HaveDifferentNames files = AllPairs (λ one other. one.name ≢ other.name) files

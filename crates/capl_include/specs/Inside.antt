@@ -1,3 +1,4 @@
 -- What this crate's own functions are proved by; no contract of a public function rests on it.
+pub mod Once
 pub mod Refusal
 pub mod Visit

@@ -16,6 +16,6 @@ pub struct SourceFile {
 /// The files of a program, in program order: each stands behind the files that it includes.
 #[derive(Debug, Drop)]
 pub struct Expanded {
-    /// The files. No two have one name.
+    /// The files, of which [`crate::expand`] gives no two of one name.
     pub files: Items<SourceFile>,
 }

@@ -1,10 +1,11 @@
 // The expansion of a file.
 
-ghost use Rattle.std.specs.Prelude.{◌≡◌, ◌+◌, ◌<◌, ◌≤◌, IfOk, IfErr, OnOk, IfSome, IsErrOf, length};
+ghost use Rattle.std.specs.Prelude.{◌≡◌, ◌+◌, ◌<◌, ◌≤◌, false, IfOk, IfErr, OnOk, IfSome, IsErrOf, length};
 ghost use Rattle.capl_lexer.specs.Reading.{token_limit};
 ghost use Rattle.sim_outside.specs.Fault.{HasRisen};
-ghost use Rattle.capl_include.specs.Expansion.{Went};
-ghost use Rattle.capl_include.specs.Answer.{IsAnswer, IsOnly};
+ghost use Rattle.capl_include.specs.Expansion.{Went, has_met};
+ghost use Rattle.capl_include.specs.Answer.{IsAnswer, IsOnly, HaveDifferentNames};
+ghost use Rattle.capl_include.specs.Inside.Once.{GoesOnce};
 ghost use Rattle.capl_include.specs.Inside.Visit.{IsVisitAt, IsVisitRefusal, ReadAgrees, StepAgrees};
 
 use crate::blames::{
@@ -40,6 +41,7 @@ pub fn expand<F: Files>(
     // Where the contents are told, the answer is what they come to, and they come to nothing else.
     ensures told { IfSome (F.held files.old) (λ contents. IsAnswer contents name.now result) }
     ensures only { IfSome (F.held files.old) (λ contents. IsOnly contents name.now result) }
+    ensures once { IfOk result (λ expanded. HaveDifferentNames expanded.files) }
     ensures rose { IsErrOf result ExpandRefusal.Failed → HasRisen (F.faults files.old) (F.faults files.new) }
     ensures faults_stay { F.faults files.old ≤ F.faults files.new }
     ensures contents_stay { F.held files.new ≡ F.held files.old }
@@ -57,12 +59,14 @@ fn visit<F: Files>(
     name: &Text,
     progress: &mut Progress,
 ) -> Result<(), ExpandRefusal>
-    requires { progress.old.count ≤ token_limit }
+    requires within_limit { progress.old.count ≤ token_limit }
+    requires not_met { has_met progress.old.met name.now ≡ false }
     ensures went { IfSome (F.held files.old) (λ contents.
         OnOk result (IsVisitAt contents root.now name.now progress.old (Went progress.new))) }
     ensures stopped { IfSome (F.held files.old) (λ contents.
         IfErr result (IsVisitRefusal contents root.now name.now progress.old)) }
     ensures within_limit { OnOk result (progress.new.count ≤ token_limit) }
+    ensures once { OnOk result (GoesOnce progress.old progress.new) }
     ensures grows { OnOk result (length progress.old.met < length progress.new.met) }
     ensures rose { IsErrOf result ExpandRefusal.Failed → HasRisen (F.faults files.old) (F.faults files.new) }
     ensures faults_stay { F.faults files.old ≤ F.faults files.new }
@@ -125,6 +129,7 @@ fn next_name(
     progress: &Progress,
 ) -> Result<Option<Text>, ExpandRefusal>
     ensures told { StepAgrees naming.now token.now progress.now.met result }
+    ensures not_met { IfOk result (λ found. IfSome found (λ name. has_met progress.now.met name ≡ false)) }
     ensures no_fault { IsErrOf result ExpandRefusal.Failed → ⊥ }
 {
     let Tok::Include(own) = &token.tok else {

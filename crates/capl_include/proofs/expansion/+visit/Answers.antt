@@ -1,13 +1,15 @@
 -- Each way in which a visit ends, and how its includes go on.
-use Rattle.std.proofs.Common.{◌≡◌, ◌<◌, ◌≤◌, ◌+◌, ◌++◌, ◌∷◌, [], ℕ, List, Option, Bool, length, true, false, refl, sym, subst, ◌∙◌, ap, arith, Ok, Err, nat_le}
+use Rattle.std.proofs.Common.{◌≡◌, ◌<◌, ◌≤◌, ◌+◌, ◌++◌, ◌∷◌, [], ℕ, List, Option, Bool, length, true, false, refl, sym, subst, ◌∙◌, ap, arith, Ok, Err, nat_le, length-append}
 use Rattle.std.specs.Prelude.{IfSome, IfErr}
 use Rattle.std.proofs.lemmas.Bool.Decides.{nat_tests}
 use Rattle.capl_lexer.specs.Reading.{token_limit}
 use Rattle.capl_lexer.specs.declared.token.Token.{Token}
-use Rattle.capl_include.specs.Expansion.{Contents, Expansion, Outcome, Went, appending, file_limit}
+use Rattle.capl_include.specs.Expansion.{Contents, Expansion, Outcome, Went, appending, file_limit, has_met, meeting}
+use Rattle.capl_include.specs.Inside.Once.{GoesOnce}
 use Rattle.capl_include.specs.Inside.Visit.{IsRead, ReadAgrees, StepAgrees, IsVisitAt, IsVisitRefusal}
 use Rattle.capl_include.specs.declared.expanded.SourceFile.{SourceFile}
-use Rattle.capl_include.proofs.VisitLemmas.{GoesFrom, goes_past, goes_through, whole_ends, full_refusal, read_refusal, step_refusal, inside_refusal, told_always, told_from, told_from_two, told_from_three, passed_on}
+use Rattle.capl_include.proofs.VisitLemmas.{GoesFrom, goes_first, goes_past, goes_through, whole_ends, full_refusal, read_refusal, step_refusal, inside_refusal, told_always, told_from, told_from_two, told_from_three, passed_on}
+use Rattle.capl_include.proofs.OnceLemmas.{once_nothing, once_then, once_visit}
 use Rattle.capl_include.proofs.expansion.+visit.Goals.{in-Some+in_ok-visit, in_default}
 use Rattle.capl_include.proofs.expansion.+visit.Goals as goal
 
@@ -85,6 +87,28 @@ returns-in_err-visit-clause-stopped g t c =
     c.in_ok-tokens.ensures.told c.loop-token.invariant.told
     (subst (λ (h : Option Contents). IfSome h (λ contents. IsVisitRefusal contents root next at refusal)) c.loop-token.invariant.contents_stay c.in_err-visit.ensures.stopped)
 
+pub loop-token-init : goal.loop-token-init
+loop-token-init g t c =
+    let root = c.args.root.now in
+    let name = c.args.name.now in
+    let old = c.args.progress.now in
+    let list = c.deref-token-items.result.now in
+    let done = c.in_ok-tokens.ensures in
+    let sized : c.len.result ≡ length list = omega (arith, c.len.ensures, ap length c.deref-token-items.ensures.value) in
+    let is : c.meet.new.self ≡ meeting name list old =
+    c.in_ok-meet.ensures.met
+    ∙ ap (λ n. record { met = old.met ++ name ∷ []; count = old.count + n; files = old.files }) sized in
+    record {
+      once = once_nothing (meeting name list old) c.meet.new.self is;
+      grows = subst (λ (p : Expansion). length old.met < length p.met) (sym is) (omega (arith, length-append old.met (name ∷ [])));
+      few = subst (λ (p : Expansion). p.count ≤ token_limit) (sym is)
+          (omega (arith, done.few, c.count.ensures, ap length c.deref-token-items.ensures.value));
+      faults_stay = done.faults_stay;
+      contents_stay = done.contents_stay;
+      told = told_always (g.F.Files.held c.args.files.now) (λ contents. GoesFrom contents root name list old 0 c.meet.new.self)
+          (λ contents. goes_first contents root name list old c.meet.new.self is);
+    }
+
 pub loop-token-preserved : goal.loop-token-preserved
 loop-token-preserved g t c =
     let root = c.args.root.now in
@@ -103,6 +127,7 @@ loop-token-preserved g t c =
           let step = subst (λ (n : Option (List ℕ)). StepAgrees name c.token-item.result at.met (Ok n)) w.in-Some.is c.in_ok-next.ensures.told in
           let went = subst (λ (h : Option Contents). IfSome h (λ contents. IsVisitAt contents root next at (Went new))) before.contents_stay done.went in
           record {
+            once = subst (GoesOnce (meeting name list old)) (sym w.progress-is) (once_then (meeting name list old) at new before.once done.once);
             grows = subst (λ (p : Expansion). length old.met < length p.met) (sym w.progress-is) (omega (arith, before.grows, done.grows));
             few = subst (λ (p : Expansion). p.count ≤ token_limit) (sym w.progress-is) done.within_limit;
             faults_stay = subst (λ f. g.F.Files.faults c.args.files.now ≤ g.F.Files.faults f) (sym w.files-is) (omega (arith, before.faults_stay, done.faults_stay));
@@ -117,6 +142,7 @@ loop-token-preserved g t c =
       | in_default w ↦
           let step = subst (λ (n : Option (List ℕ)). StepAgrees name c.token-item.result at.met (Ok n)) w.in_default.is c.in_ok-next.ensures.told in
           record {
+            once = subst (GoesOnce (meeting name list old)) (sym w.progress-is) before.once;
             grows = subst (λ (p : Expansion). length old.met < length p.met) (sym w.progress-is) before.grows;
             few = subst (λ (p : Expansion). p.count ≤ token_limit) (sym w.progress-is) before.few;
             faults_stay = subst (λ f. g.F.Files.faults c.args.files.now ≤ g.F.Files.faults f) (sym w.files-is) before.faults_stay;
@@ -152,3 +178,13 @@ returns-clause-went g t c =
     (read_here contents name c.count.result old.count c.in_ok-tokens.tokens.items list read c.count.ensures c.deref-token-items.ensures.value)
     c.loop-token-test.false goes is)
     c.in_ok-tokens.ensures.told c.loop-token.invariant.told
+
+pub returns-clause-once : goal.returns-clause-once
+returns-clause-once g t c =
+    let name = c.args.name.now in
+    let old = c.args.progress.now in
+    let at = c.loop-token.progress in
+    let list = c.deref-token-items.result.now in
+    let file : SourceFile = record { name = c.in_ok-make.field-0; tokens = c.from_list.result } in
+    once_visit name list old at c.append.new.self file c.requires.not_met (c.in_ok-make.ensures ∙ c.bytes.ensures)
+    c.loop-token.invariant.once c.in_ok-append.ensures.appended

@@ -2,12 +2,14 @@
 use Rattle.std.proofs.Common.{◌≡◌, ◌<◌, ◌≤◌, ◌-◌, length}
 use Rattle.std.specs.Prelude.{IfSome}
 use Rattle.capl_lexer.specs.Reading.{token_limit}
-use Rattle.capl_include.specs.Expansion.{file_limit}
+use Rattle.capl_include.specs.Expansion.{file_limit, meeting}
+use Rattle.capl_include.specs.Inside.Once.{GoesOnce}
 use Rattle.capl_include.proofs.VisitLemmas.{GoesFrom}
 use Rattle.capl_include.proofs.expansion.+visit.Given as goal
 
 abbrev pub invariant-loop-token : goal.invariant-loop-token
 invariant-loop-token g l = record {
+  once : GoesOnce (meeting l.name l.token-items l.fn.progress) l.progress;
   grows : length l.fn.progress.met < length l.progress.met;
   few : l.progress.count ≤ token_limit;
   faults_stay : g.F.Files.faults l.fn.files ≤ g.F.Files.faults l.files;

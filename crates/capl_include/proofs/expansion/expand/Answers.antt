@@ -1,10 +1,11 @@
 -- The visit of the first file is the answer.
-use Rattle.std.proofs.Common.{◌≡◌, ℕ, List, Ok, Err}
-use Rattle.capl_include.specs.Expansion.{Contents, Went}
-use Rattle.capl_include.specs.Answer.{IsAnswer, IsOnly}
+use Rattle.std.proofs.Common.{◌≡◌, ℕ, List, Ok, Err, sym, ap, subst}
+use Rattle.capl_include.specs.Expansion.{Contents, Expansion, Went}
+use Rattle.capl_include.specs.Answer.{IsAnswer, IsOnly, HaveDifferentNames}
 use Rattle.capl_include.specs.Inside.Visit.{IsVisitAt, IsVisitRefusal}
 use Rattle.capl_include.proofs.VisitLemmas.{told_from}
 use Rattle.capl_include.proofs.AnswerLemmas.{refused_answer, refused_only, went_answer, went_only}
+use Rattle.capl_include.proofs.OnceLemmas.{once_all}
 use Rattle.capl_include.proofs.expansion.expand.Goals as goal
 
 pub returns-in_err-visit-clause-told : goal.returns-in_err-visit-clause-told
@@ -38,3 +39,9 @@ returns-clause-only g c =
     let new = c.visit.new.progress in
     told_from (g.F.Files.held c.args.files.now) (λ contents. IsVisitAt contents name name old (Went new)) (λ contents. IsOnly contents name (Ok c.into_expanded.result))
     (λ contents visit. went_only contents name old new c.into_expanded.result c.new-progress.ensures c.into_expanded.ensures visit) c.in_ok-visit.ensures.went
+
+pub returns-clause-once : goal.returns-clause-once
+returns-clause-once g c =
+    let none = ap (λ (e : Expansion). e.files) c.new-progress.ensures in
+    subst HaveDifferentNames (sym c.into_expanded.ensures)
+    (once_all c.new-progress.result c.visit.new.progress none c.in_ok-visit.ensures.once)
