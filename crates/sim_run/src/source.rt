@@ -28,7 +28,8 @@ pub(crate) fn source_of(alloc: Global, text: &[u8]) -> Result<Option<Source>, No
 {
     let tokens = match lex(alloc, text) {
         Ok(tokens) => tokens,
-        Err(LexRefusal::Bad { .. } | LexRefusal::Many) => return Ok(None),
+        Err(LexRefusal::Bad { .. }) => return Ok(None),
+        Err(LexRefusal::Many) => return Ok(None),
         Err(LexRefusal::NoMemory) => return Err(NoMemory),
     };
     let tree = match parse(alloc, &tokens) {
