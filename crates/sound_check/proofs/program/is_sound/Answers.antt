@@ -22,7 +22,7 @@ returns-then-handlers_sound c =
       λ t.
           let kept = tables.0 t in
           record {
-            short = short.0 c.if-not-branch.false;
+            short = short.0 c.if-not-is_short_program.false;
             functions = functions.0 c.if-handlers_sound.true.0;
             handlers = handlers.0 c.if-handlers_sound.true.1;
             event_cells = kept.event_cells;
