@@ -1,0 +1,157 @@
+-- Where one reaction follows another, it has the same tasks in a round.
+use Rattle.std.proofs.Common.{◌≡◌, ℕ, List, [], ◌∷◌, ◌++◌, Option, None, Some, refl, ap, sym, subst, ◌∙◌}
+use Rattle.std.specs.Option.{option_map, MatchOption}
+use Rattle.vm_host.specs.Effect.{Effect}
+use Rattle.vm_host.specs.declared.event.Event.{Event}
+use Rattle.vm_host.specs.declared.outcome.Outcome.{Outcome}
+use Rattle.timer_queue.specs.Timers.{Timers, active_timers}
+use Rattle.rounds.specs.declared.occurrence.Occurrence.{Occurrence}
+use Rattle.rounds.specs.declared.occurrence.Trigger.{Trigger}
+use Rattle.rounds.specs.declared.round.Round.{Round}
+use Rattle.rounds.specs.declared.round.Seen.{Seen}
+use Rattle.std.specs.List.{All}
+use Rattle.rounds.specs.Effects.{IsTimerEffect, halt_lines, halts, lines_of, requests_of, stops_of, timers_after}
+use Rattle.rounds.specs.Follows.{DoneAlike, DoingAlike, EndAlike, Follows, NodesAlike, RunsFollow}
+use Rattle.rounds.specs.Procedures.{procedures_for}
+use Rattle.rounds.specs.Reaction.{Done, DoesProcedure, NodeState, Reacts, RunEnd, Runner, due_timer, reaction_of, timers_at_begin, with_procedure, without_procedure}
+use Rattle.rounds.specs.Round.{Doing, DoesNext, IsDone, IsPart, PartOf, Rest, Task, at_begin, next_of, next_trigger, rest_of, task_of, timer_trigger}
+
+-- ---- parts of rounds
+
+-- the same is next
+next_alike : {S T : Type 0} {related : S → T → Type 0} {r : Reacts S} {q : Reacts T} → Follows related r q → (now : ℕ) (d : Doing S) (e : Doing T)
+    → DoingAlike related d e → next_of q now e ≡ next_of r now d
+next_alike {related} {r} {q} follows now d e alike =
+    ap (λ b. next_trigger b (option_map (timer_trigger (q.procedures e.node)) (due_timer (q.timers e.node) now)) e.rest) (follows.is_halted d.node e.node alike.node)
+    ∙ ap (λ (f : Occurrence → List ℕ). next_trigger (r.is_halted d.node) (option_map (timer_trigger f) (due_timer (q.timers e.node) now)) e.rest) (follows.procedures d.node e.node alike.node)
+    ∙ ap (λ (t : Timers). next_trigger (r.is_halted d.node) (option_map (timer_trigger (r.procedures d.node)) (due_timer t now)) e.rest) (follows.timers d.node e.node alike.node)
+    ∙ ap (λ (rest : Rest). next_trigger (r.is_halted d.node) (option_map (timer_trigger (r.procedures d.node)) (due_timer (r.timers d.node) now)) rest) alike.rest
+
+-- the same done is the same task
+task_alike : {S T : Type 0} (related : S → T → Type 0) (trigger : Trigger) (d : Done S) (e : Done T) → DoneAlike related d e → task_of trigger e ≡ task_of trigger d
+task_alike related trigger d e alike = let a = alike.lines in let b = alike.requests in let c = alike.stops in let t = alike.turns in cc
+
+-- the next task is the next task of the other
+pub next_follows : {S T : Type 0} {related : S → T → Type 0} {r : Reacts S} {q : Reacts T} → Follows related r q → (now : ℕ) (d : Doing S) (e : Doing T) (task : Task) (between : Doing S)
+    → DoingAlike related d e → DoesNext r now d task between → (to : Doing T) × DoesNext q now e task to × DoingAlike related between to
+next_follows {related} {r} {q} follows now d e task between alike next =
+    let other = follows.does d.node e.node alike.node next.trigger now next.done next.does in (
+      record { node = other.0.after; rest = between.rest },
+      record {
+        trigger = next.trigger;
+        done = other.0;
+        is_next = next_alike follows now d e alike ∙ next.is_next;
+        does = other.1;
+        is_task = next.is_task ∙ sym (task_alike related next.trigger next.done other.0 other.2);
+        stands = refl;
+      },
+      record { node = subst (λ x. related x other.0.after) (sym next.stands) other.2.after; rest = refl },
+    )
+
+part_follows : {X Y : Type 0} (related : X → Y → Type 0) (does : X → Task → X → Type 0) (is_done : X → Type 0) (does' : Y → Task → Y → Type 0) (is_done' : Y → Type 0)
+    (each : (d : X) (e : Y) (task : Task) (between : X) → related d e → does d task between → (to : Y) × does' e task to × related between to)
+    (ends : (d : X) (e : Y) → related d e → is_done d → is_done' e)
+    (d : X) (e : Y) (tasks : List Task) (after : X) → related d e → PartOf does is_done d tasks after → (end : Y) × PartOf does' is_done' e tasks end × related after end
+part_follows related does is_done does' is_done' each ends d e [] after alike part =
+    (e, (ends d e alike part.0, refl), subst (λ x. related x e) (sym part.1) alike)
+part_follows related does is_done does' is_done' each ends d e (task ∷ tasks) after alike part =
+    let one = each d e task part.0 alike part.1 in
+    let more = part_follows related does is_done does' is_done' each ends part.0 one.0 tasks after one.2 part.2 in
+    (more.0, (one.0, one.1, more.1), more.2)
+
+begins_alike : {S T : Type 0} {related : S → T → Type 0} {r : Reacts S} {q : Reacts T} → Follows related r q → (round : Round) (seen : Option Seen) (keys : List ℕ) (s : S) (t : T)
+    → related s t → DoingAlike related (at_begin r round seen keys s) (at_begin q round seen keys t)
+begins_alike follows round seen keys s t alike =
+    record { node = alike; rest = ap (λ (f : Occurrence → List ℕ). rest_of f round seen keys) (follows.procedures s t alike) }
+
+-- the part of a node in a round is that of the other
+pub parts_follow : {S T : Type 0} {related : S → T → Type 0} {r : Reacts S} {q : Reacts T} → Follows related r q → (round : Round) (now : ℕ) (seen : Option Seen) (keys : List ℕ)
+    (s : S) (t : T) (tasks : List Task) (after : S) → related s t → IsPart r round now seen keys s tasks after → (end : T) × IsPart q round now seen keys t tasks end × related after end
+parts_follow {related} {r} {q} follows round now seen keys s t tasks after alike part =
+    let other = part_follows (DoingAlike related) (DoesNext r now) (IsDone r now) (DoesNext q now) (IsDone q now)
+    (λ d e task between k next. next_follows follows now d e task between k next)
+    (λ d e k done. next_alike follows now d e k ∙ done)
+    (at_begin r round seen keys s) (at_begin q round seen keys t) tasks part.end (begins_alike follows round seen keys s t alike) part.part in
+    (other.0.node, record { end = other.0; part = other.1; stands = refl }, subst (λ x. related x other.0.node) (sym part.stands) other.2.node)
+
+-- ---- reactions of runners
+
+-- a task without a procedure is done alike
+without_alike : {M N : Type 0} (related : M → N → Type 0) (s : NodeState M) (t : NodeState N) → NodesAlike related s t → (occurrence : Occurrence) (now : ℕ)
+    → DoneAlike (NodesAlike related) (without_procedure s occurrence now) (without_procedure t occurrence now)
+without_alike related s t alike occurrence now = record {
+  lines = refl;
+  requests = refl;
+  stops = refl;
+  turns = refl;
+  after = record { memory = alike.memory; timers = ap (timers_at_begin occurrence now) alike.timers; is_halted = alike.is_halted };
+}
+
+-- the timers after the same effects
+timers_alike : (now : ℕ) (occurrence : Occurrence) (a b : Timers) (xs ys : List Effect) → b ≡ a → ys ≡ xs
+    → timers_after now (timers_at_begin occurrence now b) ys ≡ timers_after now (timers_at_begin occurrence now a) xs
+timers_alike now occurrence a b xs ys same equal =
+    ap (λ (t : Timers). timers_after now (timers_at_begin occurrence now t) ys) same ∙ ap (timers_after now (timers_at_begin occurrence now a)) equal
+
+-- a task with a procedure is done alike
+with_alike : {M N : Type 0} (related : M → N → Type 0) (s : NodeState M) (t : NodeState N) → NodesAlike related s t → (occurrence : Occurrence) (now : ℕ)
+    (d : RunEnd M) (e : RunEnd N) → EndAlike related d e → DoneAlike (NodesAlike related) (with_procedure s occurrence now d) (with_procedure t occurrence now e)
+with_alike related s t alike occurrence now d e end = record {
+  lines = ap (λ (xs : List Effect). lines_of xs ++ halt_lines e.outcome) end.effects ∙ ap (λ (o : Outcome). lines_of d.effects ++ halt_lines o) end.outcome;
+  requests = ap requests_of end.effects;
+  stops = ap stops_of end.effects;
+  turns = end.turns;
+  after = record {
+    memory = end.memory;
+    timers = timers_alike now occurrence s.timers t.timers d.effects e.effects alike.timers end.effects;
+    is_halted = ap halts end.outcome;
+  };
+}
+
+-- effects on as many timers
+timer_effects_alike : (a b : Timers) (xs ys : List Effect) → b ≡ a → ys ≡ xs → All (IsTimerEffect a.count) xs → All (IsTimerEffect b.count) ys
+timer_effects_alike a b xs ys same equal all =
+    subst (λ (t : Timers). All (IsTimerEffect t.count) ys) (sym same) (subst (All (IsTimerEffect a.count)) (sym equal) all)
+
+-- the end of a run is what it is for the same active timers
+procedure_alike : {M N : Type 0} {related : M → N → Type 0} {first : Runner M} {second : Runner N} → RunsFollow related first second → (s : NodeState M) (t : NodeState N)
+    → NodesAlike related s t → (procedure : ℕ) (occurrence : Occurrence) (now : ℕ) (done : Done (NodeState M)) → DoesProcedure first s procedure occurrence now done
+    → (other : Done (NodeState N)) × DoesProcedure second t procedure occurrence now other × DoneAlike (NodesAlike related) done other
+procedure_alike {related} {first} {second} follows s t alike procedure occurrence now done does =
+    let active : active_timers (timers_at_begin occurrence now t.timers) ≡ active_timers (timers_at_begin occurrence now s.timers) =
+    ap (λ (x : Timers). active_timers (timers_at_begin occurrence now x)) alike.timers in
+    let other = follows.ends s.memory t.memory alike.memory procedure occurrence now (active_timers (timers_at_begin occurrence now s.timers)) does.end does.ends in (
+      with_procedure t occurrence now other.0,
+      record {
+        end = other.0;
+        ends = subst (λ x. second.ends t.memory procedure occurrence now x other.0) (sym active) other.1;
+        timers = timer_effects_alike s.timers t.timers does.end.effects other.0.effects alike.timers other.2.effects does.timers;
+        is = refl;
+      },
+      subst (λ x. DoneAlike (NodesAlike related) x (with_procedure t occurrence now other.0)) (sym does.is)
+          (with_alike related s t alike occurrence now does.end other.0 other.2),
+    )
+
+trigger_alike : {M N : Type 0} {related : M → N → Type 0} {first : Runner M} {second : Runner N} → RunsFollow related first second → (s : NodeState M) (t : NodeState N)
+    → NodesAlike related s t → (procedure : Option ℕ) (occurrence : Occurrence) (now : ℕ) (done : Done (NodeState M))
+    → MatchOption procedure (done ≡ without_procedure s occurrence now) (λ p. DoesProcedure first s p occurrence now done)
+    → (other : Done (NodeState N)) × MatchOption procedure (other ≡ without_procedure t occurrence now) (λ p. DoesProcedure second t p occurrence now other)
+    × DoneAlike (NodesAlike related) done other
+trigger_alike {related} follows s t alike None occurrence now done does = (
+  without_procedure t occurrence now,
+  refl,
+  subst (λ x. DoneAlike (NodesAlike related) x (without_procedure t occurrence now)) (sym does) (without_alike related s t alike occurrence now),
+)
+trigger_alike follows s t alike (Some procedure) occurrence now done does = procedure_alike follows s t alike procedure occurrence now done does
+
+-- where runs follow, the reactions do
+pub reactions_follow : {M N : Type 0} {related : M → N → Type 0} {first : Runner M} {second : Runner N} → RunsFollow related first second
+    → Follows (NodesAlike related) (reaction_of first) (reaction_of second)
+reactions_follow follows =
+    let procedures : List Event → Occurrence → List ℕ = λ events occurrence. procedures_for events occurrence in
+    record {
+      is_halted = λ s t alike. alike.is_halted;
+      procedures = λ s t alike. ap procedures (follows.events s.memory t.memory alike.memory);
+      timers = λ s t alike. alike.timers;
+      does = λ s t alike trigger now done does. trigger_alike follows s t alike trigger.procedure trigger.occurrence now done does;
+    }

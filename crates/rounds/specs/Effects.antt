@@ -1,0 +1,56 @@
+-- What the effects of a run come to (CAPL manual: write, output, stop, setTimer, setTimerCyclic,
+-- cancelTimer). What a trap and the limit of turns do is this project's own.
+use Rattle.std.specs.Prelude.{ℕ, ◌<◌, Bool, true, false, List, [], ◌∷◌, codes, ⊤}
+use Rattle.can_frame.specs.Frame.{FrameFields}
+use Rattle.vm_host.specs.Effect.{Effect, Line, Send, Stop, Set, Cancel}
+use Rattle.vm_host.specs.declared.outcome.Outcome.{Outcome}
+use Rattle.vm_host.specs.declared.outcome.Outcome.TheVariants.{Done, Trapped, Cut}
+use Rattle.vm_host.specs.declared.outcome.TrapKind.TheVariants.{ZeroDivisor, Index}
+use Rattle.timer_queue.specs.Timers.{Timers, IsDuration, after_cancel, after_set}
+
+-- the texts of the lines, in order
+abbrev pub lines_of : List Effect → List (List ℕ)
+lines_of [] = []
+lines_of (Line text ∷ effects) = text ∷ lines_of effects
+lines_of (effect ∷ effects) = lines_of effects
+
+-- the frames that are requested, in order
+abbrev pub requests_of : List Effect → List FrameFields
+requests_of [] = []
+requests_of (Send frame ∷ effects) = frame ∷ requests_of effects
+requests_of (effect ∷ effects) = requests_of effects
+
+-- whether the run asked to stop the measurement
+abbrev pub stops_of : List Effect → Bool
+stops_of [] = false
+stops_of (Stop ∷ effects) = true
+stops_of (effect ∷ effects) = stops_of effects
+
+-- the timers after one effect at a moment
+abbrev pub timers_after_one : ℕ → Timers → Effect → Timers
+timers_after_one now timers (Set timer micros cyclic) = after_set timers timer now micros cyclic
+timers_after_one now timers (Cancel timer) = after_cancel timers timer
+timers_after_one now timers effect = timers
+
+-- the timers after the settings and cancellings, in order, at a moment
+abbrev pub timers_after : ℕ → Timers → List Effect → Timers
+timers_after now timers [] = timers
+timers_after now timers (effect ∷ effects) = timers_after now (timers_after_one now timers effect) effects
+
+-- an effect names a timer among so many, and sets it for a duration that can be set
+abbrev pub IsTimerEffect : ℕ → Effect → Type 0
+IsTimerEffect count (Set timer micros cyclic) = (timer < count) × IsDuration micros
+IsTimerEffect count (Cancel timer) = timer < count
+IsTimerEffect count effect = ⊤
+
+-- whether a run that ended so halts its node
+abbrev pub halts : Outcome → Bool
+halts Done = false
+halts outcome = true
+
+-- the line that tells a halt, where there is one
+abbrev pub halt_lines : Outcome → List (List ℕ)
+halt_lines Done = []
+halt_lines (Trapped ZeroDivisor) = codes "trap zero divisor" ∷ []
+halt_lines (Trapped Index) = codes "trap index" ∷ []
+halt_lines Cut = codes "turn limit" ∷ []

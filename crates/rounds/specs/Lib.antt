@@ -1,0 +1,7 @@
+-- The definitions of this crate.
+pub mod Effects
+pub mod Entries
+pub mod Follows
+pub mod Procedures
+pub mod Reaction
+pub mod Round
