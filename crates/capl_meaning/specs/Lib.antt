@@ -1,0 +1,22 @@
+-- The definitions of this crate.
+pub mod Rule
+pub mod Variable
+pub mod Names
+pub mod Message
+pub mod Calls
+pub mod Format
+pub mod Sort
+pub mod Operator
+pub mod Constant
+pub mod ExpressionRules
+pub mod InitialiserRules
+pub mod DeclarationRules
+pub mod StatementRules
+pub mod ProcedureRules
+pub mod Offences
+pub mod Size
+pub mod Store
+pub mod Initial
+pub mod Expression
+pub mod Statement
+pub mod Procedure

@@ -1,0 +1,229 @@
+-- The rules that the heads of procedures and the names of declarations break (CAPL manual, event procedures,
+-- functions, variables).
+use Rattle.std.specs.Prelude.{ℕ, ◌+◌, ◌^◌, ◌==◌, Bool, true, false, not, ◌&&◌, if◌then◌else◌, nat_le, List, [], ◌∷◌, ◌++◌, flat_map, filter, filter_map, map, is_some, Option, Some, None}
+use Rattle.std.specs.Option.{option_and_then, option_map, option_map_or}
+use Rattle.std.specs.Str.{bytes_eq}
+use Rattle.vm_host.specs.declared.event.Selector.{Selector}
+use Rattle.dbc_reader.specs.declared.message.DbcMessage.{DbcMessage}
+use Rattle.capl_tree.specs.declared.declaration.Decl.{Decl}
+use Rattle.capl_tree.specs.declared.expr.Expr.{Expr}
+use Rattle.capl_tree.specs.declared.expr.Expr.TheVariants as expr
+use Rattle.capl_tree.specs.declared.procedure.Head.{Head}
+use Rattle.capl_tree.specs.declared.procedure.Head.TheVariants as head
+use Rattle.capl_tree.specs.declared.procedure.Sel.{Sel}
+use Rattle.capl_tree.specs.declared.procedure.Sel.TheVariants as sel
+use Rattle.capl_meaning.specs.declared.offence.Offence.{Offence}
+use Rattle.capl_meaning.specs.Rule.{E09, E10, E21, E25}
+use Rattle.capl_meaning.specs.Variable.{Form, Timer, Misfit, Part, Globals, Procedure, Variable, message_named}
+use Rattle.capl_meaning.specs.Names.{Names, Scope, builtin_named, global}
+use Rattle.capl_meaning.specs.DeclarationRules.{is_identifier, is_in_range, message_name_rule}
+use Rattle.capl_meaning.specs.ExpressionRules.{broken_where, offence}
+use Rattle.capl_meaning.specs.StatementRules.{repeated}
+
+-- ---- selectors
+
+-- a number of a selector as it is spelled: its value, and whether it is marked as extended
+pub record Number : Type 0 where
+  pub value : Option ℕ
+  pub extended : Bool
+
+-- the number of a selector; a selector has no other expressions
+abbrev pub number_in : Expr → Number
+number_in (expr.Num value extended at) = record { value = value; extended = extended }
+number_in _ = record { value = None; extended = false }
+
+-- a number is an identifier
+abbrev pub names_identifier : Number → Bool
+names_identifier n = is_identifier n.value n.extended
+
+-- the selection key of an identifier: bit 31 marks an extended one
+abbrev pub key_of : Number → Option ℕ
+key_of n =
+    if names_identifier n then option_map (λ id. if n.extended then 2 ^ 31 + id else id) n.value else None
+
+-- two numbers are both marked as extended, or neither
+abbrev pub same_form : Bool → Bool → Bool
+same_form true extended = extended
+same_form false extended = not extended
+
+-- the second of two values is not below the first
+abbrev pub does_not_fall : Option ℕ → Option ℕ → Bool
+does_not_fall (Some low) (Some high) = nat_le low high
+does_not_fall _ _ = false
+
+-- a range is of two identifiers of one form and does not fall
+abbrev pub is_range : Number → Number → Bool
+is_range low high =
+    names_identifier low && (names_identifier high
+    && (same_form low.extended high.extended && does_not_fall low.value high.value))
+
+-- the selector of one rank for the keys of a range
+abbrev pub keys_between : ℕ → Option ℕ → Option ℕ → Option Selector
+keys_between rank low high =
+    option_and_then (λ least. option_map (λ most. record { rank = rank; low = least; high = most }) high) low
+
+-- what a single identifier or a range selects; nothing where it breaks a rule
+abbrev pub selector_of_numbers : Expr → Option Expr → Option Selector
+selector_of_numbers low None = keys_between 0 (key_of (number_in low)) (key_of (number_in low))
+selector_of_numbers low (Some high) =
+    if is_range (number_in low) (number_in high)
+    then keys_between 1 (key_of (number_in low)) (key_of (number_in high)) else None
+
+-- what a message of the database selects: its identifier; nothing where that is out of range
+abbrev pub selector_of_message : DbcMessage → Option Selector
+selector_of_message m = if is_in_range m.id then keys_between 0 (Some m.id) (Some m.id) else None
+
+-- what a selector selects: `*` all keys, a message by name or a single identifier one, a range those in it
+abbrev pub selector_of : List DbcMessage → Sel → Option Selector
+selector_of base (sel.Any at) = keys_between 2 (Some 0) (Some 0xFFFFFFFF)
+selector_of base (sel.Name name at) = option_and_then selector_of_message (message_named base name)
+selector_of base (sel.Ids low high at) = selector_of_numbers low high
+
+-- E21: an identifier of a selector is none; a range mixes both forms or falls
+abbrev pub numbers_rule : Scope → ℕ → Expr → Option Expr → List Offence
+numbers_rule s at low None = broken_where (not (names_identifier (number_in low))) s at E21
+numbers_rule s at low (Some high) = broken_where (not (is_range (number_in low) (number_in high))) s at E21
+
+-- what a selector breaks by itself: E11 and E23 of a name, E21 of numbers
+abbrev pub selector_offences : Scope → Sel → List Offence
+selector_offences s (sel.Any at) = []
+selector_offences s (sel.Name name at) = message_name_rule s at name
+selector_offences s (sel.Ids low high at) = numbers_rule s at low high
+
+-- ---- heads
+
+-- E09: the variable after `on timer` is no timer; an array of timers is bad and breaks nothing here
+abbrev pub timer_form_rule : Scope → ℕ → Form → List Offence
+timer_form_rule s at (Timer unit) = []
+timer_form_rule s at Misfit = []
+timer_form_rule s at _ = offence s at E09 ∷ []
+
+-- E09: the name after `on timer` is no global timer
+abbrev pub timer_rule : Scope → ℕ → Option Variable → List Offence
+timer_rule s at None = offence s at E09 ∷ []
+timer_rule s at (Some v) = timer_form_rule s at v.form
+
+-- what the head of a procedure breaks by itself
+abbrev pub head_offences : Scope → Head → List Offence
+head_offences s (head.Message selectors) = flat_map (selector_offences s) selectors
+head_offences s (head.Timer name at) = timer_rule s at (global s.names name)
+head_offences s _ = []
+
+-- what event procedures are for, of which no two may be: frames of a selector, a timer by its name, a key
+pub data Purpose : Type 0 where
+  ForFrames : Selector → Purpose
+  ForTimer : List ℕ → Purpose
+  ForKey : Option ℕ → Purpose
+
+-- two selectors of one rank overlap: they have a key in common
+abbrev pub overlap : Selector → Selector → Bool
+overlap a b = a.rank == b.rank && (nat_le a.low b.high && nat_le b.low a.high)
+
+-- two keys are one, where none stands for `*`
+abbrev pub same_key : Option ℕ → Option ℕ → Bool
+same_key None None = true
+same_key (Some m) (Some n) = m == n
+same_key _ _ = false
+
+-- no two procedures may be for both
+abbrev pub collide : Purpose → Purpose → Bool
+collide (ForFrames a) (ForFrames b) = overlap a b
+collide (ForTimer a) (ForTimer b) = bytes_eq a b
+collide (ForKey a) (ForKey b) = same_key a b
+collide _ _ = false
+
+-- what a procedure of a file is for, and the token where that is told: the selector, or `on`
+pub record Told : Type 0 where
+  pub file : ℕ
+  pub token : ℕ
+  pub purpose : Purpose
+
+-- the token of a selector
+abbrev pub selector_place : Sel → ℕ
+selector_place (sel.Any at) = at
+selector_place (sel.Name name at) = at
+selector_place (sel.Ids low high at) = at
+
+-- what a selector tells
+abbrev pub told_by_selector : List DbcMessage → ℕ → Sel → Option Told
+told_by_selector base file selector =
+    option_map (λ keys. record { file = file; token = selector_place selector; purpose = ForFrames keys })
+    (selector_of base selector)
+
+-- a variable is a timer
+abbrev pub is_timer : Form → Bool
+is_timer (Timer unit) = true
+is_timer _ = false
+
+-- a name is that of a global timer
+abbrev pub names_timer : Names → List ℕ → Bool
+names_timer names name = option_map_or (λ v. is_timer v.form) (global names name) false
+
+-- what the head of a procedure tells, where its `on` stands at a token
+abbrev pub told_by_head : Names → ℕ → ℕ → Head → List Told
+told_by_head names file at (head.Message selectors) = filter_map (told_by_selector names.base file) selectors
+told_by_head names file at (head.Timer name name_at) =
+    if names_timer names name then record { file = file; token = at; purpose = ForTimer name } ∷ [] else []
+told_by_head names file at (head.Key value) =
+    record { file = file; token = at; purpose = ForKey value } ∷ []
+told_by_head names file at _ = []
+
+-- what a part of a program tells
+abbrev pub told_by_part : Names → Part → List Told
+told_by_part names (Globals file declarations) = []
+told_by_part names (Procedure number file procedure) =
+    told_by_head names file procedure.at procedure.head
+
+-- E25: two selectors of one rank overlap; two procedures are for one timer or one key
+abbrev pub purpose_offences : Names → List Part → List Offence
+purpose_offences names parts =
+    map (λ told. record { file = told.file; token = told.token; rule = E25 })
+    (repeated (λ a b. collide a.purpose b.purpose) [] (flat_map (told_by_part names) parts))
+
+-- ---- names for the second time
+
+-- a name that is declared, and where
+pub record Declared : Type 0 where
+  pub file : ℕ
+  pub token : ℕ
+  pub name : List ℕ
+
+-- two declared names are one
+abbrev pub same_name : Declared → Declared → Bool
+same_name a b = bytes_eq a.name b.name
+
+-- the names of a declaration in a file
+abbrev pub names_declared : ℕ → Decl → List Declared
+names_declared file d = map (λ v. record { file = file; token = v.at; name = v.name }) d.items
+
+-- the name of a function in a file
+abbrev pub names_of_head : ℕ → Head → List Declared
+names_of_head file (head.Function kind name parameters at) =
+    record { file = file; token = at; name = name } ∷ []
+names_of_head file _ = []
+
+-- the globals and functions of a part of a program
+abbrev pub outer_names : Part → List Declared
+outer_names (Globals file declarations) = flat_map (names_declared file) declarations
+outer_names (Procedure number file procedure) = names_of_head file procedure.head
+
+-- E10 at a declared name
+abbrev pub name_offence : Declared → Offence
+name_offence d = record { file = d.file; token = d.token; rule = E10 }
+
+-- E10: a global or function has the name of an earlier global or function, or of a function of the language
+abbrev pub outer_name_offences : List Part → List Offence
+outer_name_offences parts =
+    let names : List Declared = flat_map outer_names parts in
+    map name_offence (filter (λ d. is_some (builtin_named d.name)) names ++ repeated same_name [] names)
+
+-- the parameters and locals of the procedure of a number
+abbrev pub inner_names : List Variable → ℕ → List Declared
+inner_names variables number =
+    map (λ v. record { file = v.file; token = v.token; name = v.name })
+    (filter (λ v. v.owner == number) variables)
+
+-- E10: a parameter or local has the name of an earlier parameter or local of its procedure
+abbrev pub inner_name_offences : Names → ℕ → List Offence
+inner_name_offences names number =
+    map name_offence (repeated same_name [] (inner_names names.variables number))
