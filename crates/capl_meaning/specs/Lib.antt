@@ -20,3 +20,4 @@ pub mod Initial
 pub mod Expression
 pub mod Statement
 pub mod Procedure
+pub mod Example

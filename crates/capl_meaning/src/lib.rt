@@ -20,5 +20,6 @@ pub use sort::Sort;
 
 mod builtin;
 mod field;
+pub mod laws;
 mod offence;
 mod sort;
