@@ -1,13 +1,11 @@
 -- Short sources, each with the one rule that it breaks, and what their definitions come to. The numbers are those of
 -- the sources' tokens.
-use Rattle.std.specs.Prelude.{ℕ, Bool, true, false, List, [], ◌∷◌, map, codes, Option, Some, None}
+use Rattle.std.specs.Prelude.{ℕ, false, List, [], ◌∷◌, map, codes, Option, Some, None}
 use Rattle.int_kinds.specs.declared.kinds.Kind.{Kind}
 use Rattle.int_kinds.specs.declared.kinds.Kind.TheVariants.{Byte, Long}
-use Rattle.dbc_reader.specs.declared.message.DbcMessage.{DbcMessage}
 use Rattle.capl_tree.specs.declared.declaration.Decl.{Decl}
 use Rattle.capl_tree.specs.declared.declaration.DeclType.{DeclType}
 use Rattle.capl_tree.specs.declared.declaration.DeclType.TheVariants as decl_type
-use Rattle.capl_tree.specs.declared.declaration.Declr.{Declr}
 use Rattle.capl_tree.specs.declared.declaration.Init.{Init}
 use Rattle.capl_tree.specs.declared.declaration.Init.TheVariants.{One, Many}
 use Rattle.capl_tree.specs.declared.declaration.Item.TheVariants.{Plain}

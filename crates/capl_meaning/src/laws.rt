@@ -2,6 +2,11 @@
 
 ghost use Rattle.std.specs.Prelude.{◌≡◌, [], ◌∷◌};
 ghost use Rattle.capl_meaning.specs.Example.{broken, argument_missing, array_as_test, break_outside, empty_array, identifier_too_great, key_twice, label_twice, member_of_number, name_twice, number_assigned, number_too_great, recursion, this_in_start, too_few_arguments, too_many_elements, unknown_message, unknown_name, value_returned, variable_as_constant};
+ghost use Rattle.std.specs.Prelude.{codes, neg_ℤ, pos, Some};
+ghost use Rattle.vm_host.specs.declared.outcome.Outcome.TheVariants.{Cut, Done, Trapped};
+ghost use Rattle.vm_host.specs.declared.outcome.TrapKind.TheVariants.{Index, ZeroDivisor};
+ghost use Rattle.capl_meaning.specs.ChoiceExample.{added_to_message, broken_with, constant_of_itself, direction_assigned, equal_ends, far_recursion, inner_block, labels_that_wrap, local_beside_function, long_message, message_added, message_stepped, message_too_long, mixed_case, needed_division, one_for_an_array, text_assigned, text_in_parentheses, this_copied, unknown_in_size, unknown_to_message, unneeded_division, variable_in_size};
+ghost use Rattle.capl_meaning.specs.RunExample.{counts, divides_by_zero, fills, keeps_its_local, left, needs_one_side, passes_the_end, puts_signals, ran, signals_put, two_messages, wraps, wrote};
 
 /// Each of these sources breaks its rule, at its token, and no other.
 pub fn sources_break_their_rules()
@@ -26,10 +31,53 @@ pub fn sources_break_their_rules()
     ensures member_of_number { broken member_of_number ≡ (6, 28) ∷ [] }
 {}
 
+/// Each of these sources breaks these rules at these tokens, and no others.
+pub fn sources_at_the_edges()
+    ensures message_too_long { broken_with long_message message_too_long ≡ (3, 23) ∷ [] }
+    ensures local_beside_function { broken local_beside_function ≡ [] }
+    ensures message_stepped { broken message_stepped ≡ (10, 14) ∷ [] }
+    ensures message_added { broken message_added ≡ (13, 28) ∷ [] }
+    ensures added_to_message { broken added_to_message ≡ (10, 14) ∷ (10, 28) ∷ [] }
+    ensures unknown_to_message { broken unknown_to_message ≡ (12, 9) ∷ [] }
+    ensures mixed_case { broken mixed_case ≡ (10, 28) ∷ [] }
+    ensures direction_assigned { broken direction_assigned ≡ (10, 14) ∷ [] }
+    ensures this_copied { broken this_copied ≡ (15, 14) ∷ [] }
+    ensures text_assigned { broken text_assigned ≡ (8, 13) ∷ [] }
+    ensures one_for_an_array { broken one_for_an_array ≡ (11, 27) ∷ [] }
+    ensures variable_in_size { broken variable_in_size ≡ (8, 19) ∷ [] }
+    ensures unknown_in_size { broken unknown_in_size ≡ (10, 9) ∷ [] }
+    ensures constant_of_itself { broken constant_of_itself ≡ (9, 19) ∷ [] }
+    ensures unneeded_division { broken unneeded_division ≡ [] }
+    ensures needed_division { broken needed_division ≡ (8, 19) ∷ [] }
+    ensures equal_ends { broken equal_ends ≡ [] }
+    ensures far_recursion { broken far_recursion ≡ (5, 26) ∷ (15, 16) ∷ (15, 26) ∷ [] }
+    ensures text_in_parentheses { broken text_in_parentheses ≡ [] }
+    ensures labels_that_wrap { broken labels_that_wrap ≡ (15, 20) ∷ [] }
+    ensures inner_block { broken inner_block ≡ [] }
+{}
+
+/// Each of these event procedures does what was worked out by hand: its lines, how many turns it takes,
+/// and how it ends; or what it leaves in its variables.
+#[tactic(auto, unfolding(message_cells::specs::Message::bytes_of, message_cells::specs::Message::number_at, signal_codec::specs::Signal::payload_with))]
+pub fn worked_procedures_end_so()
+    ensures divides_by_zero { ran [] divides_by_zero 9 ≡ wrote (codes "a" ∷ []) 0 (Trapped ZeroDivisor) }
+    ensures passes_the_end { ran [] passes_the_end 9 ≡ wrote (codes "ok" ∷ []) 0 (Trapped Index) }
+    ensures counts { ran [] counts 9 ≡ wrote ((0 ∷ []) ∷ (1 ∷ []) ∷ (2 ∷ []) ∷ (3 ∷ []) ∷ []) 4 Done }
+    ensures is_cut { ran [] counts 3 ≡ wrote ((0 ∷ []) ∷ (1 ∷ []) ∷ (2 ∷ []) ∷ []) 3 Cut }
+    ensures keeps_its_local { ran [] keeps_its_local 9 ≡ wrote ((6 ∷ []) ∷ (7 ∷ []) ∷ []) 2 Done }
+    ensures wraps { left [] wraps 9 ≡
+        Some (pos 0 ∷ neg_ℤ (pos 32768) ∷ pos 4294967295 ∷ neg_ℤ (pos 2147483648) ∷ []) }
+    ensures needs_one_side { ran [] needs_one_side 9 ≡ wrote (codes "y" ∷ []) 0 Done }
+    ensures fills { ran [] fills 9 ≡ wrote (codes "[   ab][*  ]" ∷ []) 0 Done }
+    ensures puts_signals { left two_messages puts_signals 9 ≡ Some signals_put }
+{}
+
 #[cfg(test)]
 mod tests {
     #[test]
     fn laws_can_be_called() {
         super::sources_break_their_rules();
+        super::sources_at_the_edges();
+        super::worked_procedures_end_so();
     }
 }
