@@ -1,5 +1,4 @@
--- Short sources, each with the one rule that it breaks, and what their definitions come to. The numbers are those of
--- the sources' tokens.
+-- Short sources, each with the one rule that it breaks. The numbers are those of the sources' tokens.
 use Rattle.std.specs.Prelude.{ℕ, false, List, [], ◌∷◌, map, codes, Option, Some, None}
 use Rattle.int_kinds.specs.declared.kinds.Kind.{Kind}
 use Rattle.int_kinds.specs.declared.kinds.Kind.TheVariants.{Byte, Long}

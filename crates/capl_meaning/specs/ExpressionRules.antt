@@ -86,11 +86,16 @@ name_of_member_rule s at name_at IsUnusable = offence s name_at E23 ∷ []
 name_of_member_rule s at name_at (IsUnknown true) = offence s name_at E11 ∷ []
 name_of_member_rule s at name_at (IsUnknown false) = offence s at E28 ∷ []
 
+-- E13: the index of payload bytes is no integer
+abbrev pub index_needed : Scope → Field → List Offence
+index_needed s (Named name name_at) = []
+index_needed s (tree.Bytes kind index kind_at) = integer_needed s index
+
 -- the rules of what stands behind the point of a message
 abbrev pub part_rules : Scope → ℕ → Field → Held → List Offence
 part_rules s at (Named name name_at) message =
     name_of_member_rule s at name_at (member_named (signals_of message) name)
-part_rules s at (tree.Bytes kind index kind_at) message = integer_needed s index
+part_rules s at (tree.Bytes kind index kind_at) message = []
 
 -- E28: a member of what is no message or frame; else the rules of the member
 abbrev pub member_rules : Scope → ℕ → Expr → Field → List Offence
@@ -199,7 +204,8 @@ abbrev mutual
       offences s base ++ (offences s index
       ++ (index_rule s at (sort_of s base) ++ integer_needed s index))
   offences s (tree.Member base field at) =
-      offences s base ++ (offences_of_field s field ++ member_rules s at base field)
+      offences s base ++ (offences_of_field s field
+      ++ (index_needed s field ++ member_rules s at base field))
   offences s (tree.Cast kind inner at) = offences s inner ++ integer_needed s inner
   offences s (tree.Unary operator inner at) = offences s inner ++ prefix_rule s operator inner
   offences s (tree.Post up inner at) = offences s inner ++ step_rule s inner

@@ -47,7 +47,8 @@ ran base program turns =
 
 -- the cells of the variables at the end of the start of a program
 abbrev pub left : List DbcMessage → Program → ℕ → Option (List ℤ)
-left base program turns = option_map (λ end. lay (names_of base program) end.memory) (start_end base program turns)
+left base program turns =
+    option_map (λ end. lay (names_of base program) end.memory) (start_end base program turns)
 
 -- a run that wrote these lines
 abbrev pub wrote : List (List ℕ) → ℕ → Outcome → Option Ran

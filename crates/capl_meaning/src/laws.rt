@@ -1,12 +1,26 @@
 //! Laws of the definitions. Each call does nothing: its contract is the law.
 
-ghost use Rattle.std.specs.Prelude.{◌≡◌, [], ◌∷◌};
+ghost use Rattle.std.specs.Prelude.{◌≡◌, [], ◌∷◌, List};
+ghost use Rattle.dbc_reader.specs.declared.message.DbcMessage.{DbcMessage};
+ghost use Rattle.capl_tree.specs.declared.file.Program.{Program};
+ghost use Rattle.capl_meaning.specs.declared.offence.Offence.{Offence};
+ghost use Rattle.capl_meaning.specs.Offences.{IsFirstOffence};
 ghost use Rattle.capl_meaning.specs.Example.{broken, argument_missing, array_as_test, break_outside, empty_array, identifier_too_great, key_twice, label_twice, member_of_number, name_twice, number_assigned, number_too_great, recursion, this_in_start, too_few_arguments, too_many_elements, unknown_message, unknown_name, value_returned, variable_as_constant};
 ghost use Rattle.std.specs.Prelude.{codes, neg_ℤ, pos, Some};
 ghost use Rattle.vm_host.specs.declared.outcome.Outcome.TheVariants.{Cut, Done, Trapped};
 ghost use Rattle.vm_host.specs.declared.outcome.TrapKind.TheVariants.{Index, ZeroDivisor};
 ghost use Rattle.capl_meaning.specs.ChoiceExample.{added_to_message, broken_with, constant_of_itself, direction_assigned, equal_ends, far_recursion, inner_block, labels_that_wrap, local_beside_function, long_message, message_added, message_stepped, message_too_long, mixed_case, needed_division, one_for_an_array, text_assigned, text_in_parentheses, this_copied, unknown_in_size, unknown_to_message, unneeded_division, variable_in_size};
 ghost use Rattle.capl_meaning.specs.RunExample.{counts, divides_by_zero, fills, keeps_its_local, left, needs_one_side, passes_the_end, puts_signals, ran, signals_put, two_messages, wraps, wrote};
+
+/// A program has one first offence at most: two of them have the same file, token and rule number.
+pub fn one_first_offence()
+    ensures file { (base : List DbcMessage) (program : Program) (a b : Offence) →
+        IsFirstOffence base program a → IsFirstOffence base program b → a.file ≡ b.file }
+    ensures token { (base : List DbcMessage) (program : Program) (a b : Offence) →
+        IsFirstOffence base program a → IsFirstOffence base program b → a.token ≡ b.token }
+    ensures rule { (base : List DbcMessage) (program : Program) (a b : Offence) →
+        IsFirstOffence base program a → IsFirstOffence base program b → a.rule.number ≡ b.rule.number }
+{}
 
 /// Each of these sources breaks its rule, at its token, and no other.
 pub fn sources_break_their_rules()
@@ -58,7 +72,7 @@ pub fn sources_at_the_edges()
 
 /// Each of these event procedures does what was worked out by hand: its lines, how many turns it takes,
 /// and how it ends; or what it leaves in its variables.
-#[tactic(auto, unfolding(message_cells::specs::Message::bytes_of, message_cells::specs::Message::number_at, signal_codec::specs::Signal::payload_with))]
+#[tactic(auto, unfolding(signal_codec::specs::Signal::payload_with))]
 pub fn worked_procedures_end_so()
     ensures divides_by_zero { ran [] divides_by_zero 9 ≡ wrote (codes "a" ∷ []) 0 (Trapped ZeroDivisor) }
     ensures passes_the_end { ran [] passes_the_end 9 ≡ wrote (codes "ok" ∷ []) 0 (Trapped Index) }
@@ -76,6 +90,7 @@ pub fn worked_procedures_end_so()
 mod tests {
     #[test]
     fn laws_can_be_called() {
+        super::one_first_offence();
         super::sources_break_their_rules();
         super::sources_at_the_edges();
         super::worked_procedures_end_so();
