@@ -152,3 +152,8 @@ abbrev pub inner_block : Program
 inner_block = on_start (stmt.Block' (tt ∷ [])
     (more_of-Stmt (stmt.Decl (declares 4 (plain Long) (codes "a") 5 None None)) end_of-Stmt)
     ∷ stmt.Expr (tree.Assign None (expr.Name (codes "a") 8) (number 1 10) 8) ∷ [])
+
+-- `on start { const long c = 1; c = 2; }`
+abbrev pub constant_assigned : Program
+constant_assigned = on_start (stmt.Decl (declares 3 (decl_type.Number Long true) (codes "c") 5 None
+    (Some (One (number 1 7)))) ∷ stmt.Expr (tree.Assign None (expr.Name (codes "c") 9) (number 2 11) 9) ∷ [])
