@@ -8,6 +8,7 @@ use Rattle.sim_outside.specs.declared.blame.Rule.{Rule}
 use Rattle.int_kinds.specs.declared.operators.BinOp.{BinOp}
 use Rattle.int_kinds.specs.declared.operators.UnOp.{UnOp}
 use Rattle.int_kinds.specs.declared.operators.UnOp.TheVariants as prefix
+use Rattle.write_format.specs.declared.code.Code.{Code}
 use Rattle.capl_tree.specs.declared.expr.Expr.{Expr, Row_of-Expr, end_of-Expr, more_of-Expr, items-the_row-Expr}
 use Rattle.capl_tree.specs.declared.expr.Expr.TheVariants as expr
 use Rattle.capl_tree.specs.declared.expr.Field.{Field}
@@ -22,7 +23,7 @@ use Rattle.capl_meaning.specs.declared.sort.Sort.TheVariants as sort
 use Rattle.capl_meaning.specs.Rule.{E09, E11, E13, E14, E15, E16, E17, E18, E23, E26, E28}
 use Rattle.capl_meaning.specs.Variable.{Variable}
 use Rattle.capl_meaning.specs.Names.{Callee, Function, OfLanguage, OfProgram, Unknown, Scope, ThisForm, NoThis, callee, direction, means}
-use Rattle.capl_meaning.specs.Format.{Code, format_codes, shows, text_in}
+use Rattle.capl_meaning.specs.Format.{format_codes, shows, text_in}
 use Rattle.capl_meaning.specs.Message.{Held, Member, IsField, IsSignal, IsUnusable, IsUnknown, is_message_place, is_number_place, member_named, message_in, signals_of}
 use Rattle.capl_meaning.specs.Sort.{is_bad, is_number, is_recursive, sort_of, sort_of_number}
 

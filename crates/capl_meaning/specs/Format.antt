@@ -1,46 +1,18 @@
 -- The formats of `write` in a source (CAPL manual, write).
-use Rattle.std.specs.Prelude.{ℕ, zero, suc, ◌==◌, Bool, false, ◌&&◌, List, [], ◌∷◌, length, Option, Some, None}
+use Rattle.std.specs.Prelude.{ℕ, ◌==◌, Bool, false, ◌&&◌, List, [], length, Option, Some, None}
 use Rattle.std.specs.List.{list_all, zip}
-use Rattle.std.specs.Option.{option_and_then, option_map, option_map_or}
+use Rattle.std.specs.Option.{option_map, option_map_or}
 use Rattle.int_kinds.specs.declared.kinds.Kind.{Kind}
 use Rattle.int_kinds.specs.declared.kinds.Kind.TheVariants.{Char}
 use Rattle.write_format.specs.declared.argument.ArgKind.{ArgKind}
 use Rattle.write_format.specs.declared.argument.ArgKind.TheVariants as argument
-use Rattle.write_format.specs.Inside.Front.{piece_at}
-use Rattle.write_format.specs.Reading.{codes_of, is_fit}
+use Rattle.write_format.specs.declared.code.Code.{Code}
+use Rattle.write_format.specs.Reading.{codes_of, is_fit, pieces_of}
 use Rattle.capl_tree.specs.declared.expr.Expr.{Expr, Row_of-Expr, end_of-Expr, more_of-Expr}
 use Rattle.capl_tree.specs.declared.expr.Expr.TheVariants as expr
 use Rattle.capl_tree.specs.Forms as tree
 use Rattle.capl_meaning.specs.declared.sort.Sort.{Sort}
 use Rattle.capl_meaning.specs.declared.sort.Sort.TheVariants as sort
-
--- what a function on lists takes items of
-abbrev pub Taken : {A B : Type 0} → (List A → List B) → Type 0
-Taken {A} {B} f = A
-
--- what it gives items of
-abbrev pub Given : {A B : Type 0} → (List A → List B) → Type 0
-Given {A} {B} f = B
-
--- a piece of a format
-abbrev pub Piece : Type 0
-Piece = Taken codes_of
-
--- a code in a format
-abbrev pub Code : Type 0
-Code = Given codes_of
-
--- the pieces of a text of at most so many bytes, where it has a reading
-abbrev pub pieces_within : ℕ → List ℕ → Option (List Piece)
-pieces_within n [] = Some []
-pieces_within zero (byte ∷ rest) = None
-pieces_within (suc n) (byte ∷ rest) =
-    option_and_then (λ found. option_map (λ pieces. found.0 ∷ pieces) (pieces_within n found.1))
-    (piece_at (byte ∷ rest))
-
--- the pieces of a text: bytes that are written as they are, and codes; none where a code is of no form
-abbrev pub pieces_of : List ℕ → Option (List Piece)
-pieces_of text = pieces_within (length text) text
 
 -- the codes of a text, in order
 abbrev pub format_codes : List ℕ → Option (List Code)

@@ -9,7 +9,8 @@ use Rattle.write_format.specs.declared.argument.ArgKind.{ArgKind}
 use Rattle.write_format.specs.declared.argument.ArgKind.TheVariants as argument
 use Rattle.write_format.specs.Format.{elements_of as format_elements}
 use Rattle.write_format.specs.Line.{line_of}
-use Rattle.write_format.specs.Reading.{codes_of}
+use Rattle.write_format.specs.declared.piece.Piece.{Piece}
+use Rattle.write_format.specs.Reading.{codes_of, pieces_of}
 use Rattle.vm_host.specs.Duration.{micros}
 use Rattle.vm_host.specs.Effect as effect
 use Rattle.message_cells.specs.Message.{frame_of}
@@ -26,7 +27,7 @@ use Rattle.capl_meaning.specs.declared.sort.Sort.{Sort}
 use Rattle.capl_meaning.specs.declared.sort.Sort.TheVariants as sort
 use Rattle.capl_meaning.specs.Variable.{Variable}
 use Rattle.capl_meaning.specs.Names.{Callee, OfLanguage, Scope, callee}
-use Rattle.capl_meaning.specs.Format.{Piece, pieces_of, show_all, text_in}
+use Rattle.capl_meaning.specs.Format.{show_all, text_in}
 use Rattle.capl_meaning.specs.Message.{Held, HeldVariable, array_in, message_in}
 use Rattle.capl_meaning.specs.Sort.{is_number, sort_of}
 use Rattle.capl_meaning.specs.Constant.{constant_at, elements_of, prefix_kind}

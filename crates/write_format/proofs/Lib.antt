@@ -4,5 +4,6 @@ mod FieldLemmas
 mod FrontLemmas
 mod LineLemmas
 mod PartLemmas
+mod PieceLemmas
 mod ReadingLemmas
 mod ShortLemmas

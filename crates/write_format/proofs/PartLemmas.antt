@@ -10,7 +10,7 @@ use Rattle.std.proofs.lemmas.List.Elements.{filter_map-append, All-append, All-c
 use Rattle.std.proofs.lemmas.List.Sums.{sum_by-append, sum_by-cons}
 use Rattle.write_format.specs.Element.{Element, Byte}
 use Rattle.write_format.specs.Format.{FormatText, IsShort, IsShortElement, array_of, element_of, elements_of, numbers_taken, takes_number}
-use Rattle.write_format.specs.Inside.Front.{piece_at}
+use Rattle.write_format.specs.Front.{piece_at}
 use Rattle.write_format.specs.Inside.Parts.{all_elements, elements_in}
 use Rattle.write_format.specs.Reading.{AreSpelled, HasCodesFor, codes_of}
 use Rattle.write_format.specs.declared.argument.ArgKind.{ArgKind}

@@ -7,7 +7,7 @@ use Rattle.std.proofs.lemmas.List.Elements.{All-append, All-cons, All-nil, All-h
 use Rattle.write_format.specs.Element.{Byte, Number, Character, Chars, Str}
 use Rattle.write_format.specs.Format.{FormatText, IsFormatOf, IsShort, IsShortArgument, IsShortElement, element_of, elements_of}
 use Rattle.write_format.specs.Line.{before_zero}
-use Rattle.write_format.specs.Inside.Front.{piece_at}
+use Rattle.write_format.specs.Front.{piece_at}
 use Rattle.write_format.specs.Reading.{AreSpelled}
 use Rattle.write_format.specs.declared.argument.ArgKind.{ArgKind}
 use Rattle.write_format.specs.declared.argument.ArgKind.TheVariants as argument

@@ -1,3 +1,2 @@
 -- What the code goes by on its way to a format.
-pub mod Front
 pub mod Parts

@@ -1,6 +1,7 @@
 -- How the text of a format reads: into bytes that are written as they are and codes that take an argument
 -- each (CAPL manual, write).
-use Rattle.std.specs.Prelude.{◌≡◌, ◌≢◌, ℕ, Bool, true, false, not, ◌==◌, if◌then◌else◌, List, [], ◌∷◌, ◌++◌, ◌⊎◌, Option, Some, length, position}
+use Rattle.std.specs.Prelude.{◌≡◌, ◌≢◌, ℕ, zero, suc, Bool, true, false, not, ◌==◌, if◌then◌else◌, List, [], ◌∷◌, ◌++◌, ◌⊎◌, Option, Some, None, length, position}
+use Rattle.std.specs.Option.{option_and_then, option_map}
 use Rattle.std.specs.List.{zip}
 use Rattle.int_kinds.specs.Kind.{width}
 use Rattle.int_kinds.specs.declared.kinds.Kind.{Kind}
@@ -12,6 +13,7 @@ use Rattle.write_format.specs.declared.code.Conversion.TheVariants.{Number, Char
 use Rattle.write_format.specs.declared.piece.Piece.{Piece}
 use Rattle.write_format.specs.declared.piece.Piece.TheVariants as piece
 use Rattle.write_format.specs.Code.{SpellsCode}
+use Rattle.write_format.specs.Front.{piece_at}
 
 -- the bytes of a piece: a byte other than `%`, or `%%` for the byte `%`, or a code
 abbrev pub Spells : List ℕ → Piece → Type 0
@@ -24,6 +26,18 @@ abbrev pub AreSpelled : List ℕ → List Piece → Type 0
 AreSpelled text [] = text ≡ []
 AreSpelled text (piece ∷ pieces) =
     (bytes rest : List ℕ) × (text ≡ bytes ++ rest) × Spells bytes piece × AreSpelled rest pieces
+
+-- the pieces of a text of at most so many bytes, where it reads into pieces
+abbrev pub pieces_within : ℕ → List ℕ → Option (List Piece)
+pieces_within n [] = Some []
+pieces_within zero (byte ∷ rest) = None
+pieces_within (suc n) (byte ∷ rest) =
+    option_and_then (λ found. option_map (λ pieces. found.0 ∷ pieces) (pieces_within n found.1))
+    (piece_at (byte ∷ rest))
+
+-- the pieces of a text, where it reads into pieces
+abbrev pub pieces_of : List ℕ → Option (List Piece)
+pieces_of text = pieces_within (length text) text
 
 -- the codes among the pieces
 abbrev pub codes_of : List Piece → List declared.Code

@@ -5,25 +5,25 @@ ghost use Rattle.std.specs.Prelude.{◌≡◌};
 ghost use Rattle.std.specs.List.{AllPass, prefix_len};
 ghost use Rattle.std.specs.Option.{option_map};
 ghost use Rattle.text_parts.specs.Number.{is_digit};
-ghost use Rattle.write_format.specs.Inside.Front.{code_at, conversion_at, conversion_of, field_of, is_flag, long_conversion, plain_conversion, size_at, wide_conversion};
+ghost use Rattle.write_format.specs.Front.{code_at, conversion_at, conversion_of, field_of, is_flag, long_conversion, plain_conversion, size_at, wide_conversion};
 
 use int_kinds::Kind;
 use text_parts::number_in_base;
 
 /// How a text is laid out.
 #[derive(Clone, Copy, Debug)]
-pub(crate) struct Field {
+pub struct Field {
     /// Whether it stands on the left.
-    pub(crate) left: bool,
+    pub left: bool,
     /// Whether a number is filled with zeros.
-    pub(crate) zeros: bool,
+    pub zeros: bool,
     /// How many bytes it has at least; at most 32.
-    pub(crate) width: u8,
+    pub width: u8,
 }
 
 /// The digits that a number is shown in.
 #[derive(Clone, Copy, Debug)]
-pub(crate) enum Digits {
+pub enum Digits {
     /// Decimal digits.
     Decimal,
     /// Hexadecimal digits, a to f in lower case.
@@ -36,7 +36,7 @@ pub(crate) enum Digits {
 
 /// What a code makes of its argument.
 #[derive(Clone, Copy, Debug)]
-pub(crate) enum Conversion {
+pub enum Conversion {
     /// A number of a kind, in digits.
     Number {
         /// The kind that the argument is wrapped to.
@@ -52,16 +52,16 @@ pub(crate) enum Conversion {
 
 /// A code.
 #[derive(Clone, Copy, Debug)]
-pub(crate) struct Code {
+pub struct Code {
     /// How the text of its argument is laid out.
-    pub(crate) field: Field,
+    pub field: Field,
     /// What it makes of its argument.
-    pub(crate) conversion: Conversion,
+    pub conversion: Conversion,
 }
 
 /// What stands before the letter of a conversion.
 #[derive(Clone, Copy, Debug)]
-enum Size {
+pub(crate) enum Size {
     /// Nothing.
     Plain,
     /// `l`.

@@ -21,8 +21,10 @@
 #![tactic(auto)]
 
 pub use argument::ArgKind;
+pub use code::{Code, Conversion, Digits, Field};
 pub use format::Format;
 pub use line::render;
+pub use piece::Piece;
 pub use refusal::FormatRefusal;
 
 mod argument;

@@ -2,13 +2,13 @@
 
 ghost use Rattle.std.specs.Prelude.{◌≡◌};
 ghost use Rattle.std.specs.Option.{option_map};
-ghost use Rattle.write_format.specs.Inside.Front.{behind_percent, piece_at};
+ghost use Rattle.write_format.specs.Front.{behind_percent, piece_at};
 
 use crate::code::{Code, code_at};
 
 /// A piece of the text of a format.
 #[derive(Clone, Copy, Debug)]
-pub(crate) enum Piece {
+pub enum Piece {
     /// A byte that is written as it is. The byte `%` is spelled `%%`.
     Byte(u8),
     /// A code, which takes an argument.

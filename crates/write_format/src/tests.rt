@@ -302,5 +302,6 @@ fn arrays_are_looked_for(rt: HostRuntime) -> Result<(), Fail> {
     assert!(rt; !format.has_arrays_in(&chars[..4]));
     assert!(rt; !format.has_arrays_in(&[Kind::Byte; 5]));
     crate::laws::one_format();
+    crate::laws::pieces_are_found();
     Ok(())
 }

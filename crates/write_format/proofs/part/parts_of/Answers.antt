@@ -1,6 +1,6 @@
 -- One more piece, and the end.
 use Rattle.std.proofs.Common.{rules, ◌≡◌, ◌<◌, ◌+◌, Some, length, sym, ap, subst, ◌∙◌}
-use Rattle.write_format.specs.Inside.Front.{piece_at}
+use Rattle.write_format.specs.Front.{piece_at}
 use Rattle.write_format.specs.Inside.Parts.{all_elements}
 use Rattle.write_format.specs.declared.piece.Piece.{Piece}
 use Rattle.write_format.specs.declared.piece.Piece.TheVariants.{Argument, Byte}

@@ -1,6 +1,6 @@
 -- One more piece, and the end.
 use Rattle.std.proofs.Common.{◌≡◌, Some, None, true, false, not, [], refl, sym, ap, ◌∙◌, arith}
-use Rattle.write_format.specs.Inside.Front.{piece_at}
+use Rattle.write_format.specs.Front.{piece_at}
 use Rattle.write_format.specs.Reading.{is_fit}
 use Rattle.write_format.specs.declared.piece.Piece.{Piece}
 use Rattle.write_format.specs.declared.piece.Piece.TheVariants.{Argument, Byte}
