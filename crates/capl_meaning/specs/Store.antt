@@ -177,11 +177,8 @@ abbrev pub is_timer : Form → Bool
 is_timer (Timer unit) = true
 is_timer _ = false
 
--- two variables are declared at one place, so that they are one
-abbrev pub same_place : Variable → Variable → Bool
-same_place v u = v.file == u.file && v.token == u.token
-
 -- the number of a timer among all timers
 abbrev pub timer_number : Names → Variable → ℕ
 timer_number names v =
-    unwrap_or (position (same_place v) (filter (λ u. is_timer u.form) names.variables)) 0
+    unwrap_or (position (λ u. same_key (key_of v) (key_of u)) (filter (λ u. is_timer u.form) names.variables))
+    0
