@@ -1,0 +1,12 @@
+-- What is still to be read.
+use Rattle.std.proofs.Common.{◌≡◌, ◌-◌}
+use Rattle.expr_parser.specs.Reading.{begins}
+use Rattle.capl_lexer.specs.declared.token.Sign.TheVariants as sign
+use Rattle.capl_readers.specs.File as read
+use Rattle.capl_readers.specs.Statement.{until}
+use Rattle.capl_parser.proofs.file.names.Given as goal
+
+abbrev pub invariant-loop-turn : goal.invariant-loop-turn
+invariant-loop-turn l =
+    read.names l.fn.cursor
+    ≡ until (begins sign.CloseBrace) read.included (l._turn-end - l._turn) l.found.items l.cursor

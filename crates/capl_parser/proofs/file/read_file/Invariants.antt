@@ -1,0 +1,10 @@
+-- What is still to be read.
+use Rattle.std.proofs.Common.{◌≡◌, ◌-◌}
+use Rattle.capl_readers.specs.File as read
+use Rattle.capl_readers.specs.Statement.{parts_of, until}
+use Rattle.capl_parser.proofs.file.read_file.Given as goal
+
+abbrev pub invariant-loop-turn : goal.invariant-loop-turn
+invariant-loop-turn l =
+    read.file (parts_of l.total) l.fn.cursor
+    ≡ until read.is_end (read.top_item (parts_of l.total)) (l._turn-end - l._turn) l.found.items l.cursor

@@ -1,0 +1,244 @@
+// The reading of the heads of procedures.
+//
+// `total` is the number of tokens of the file, from which places are counted.
+
+ghost use Rattle.std.specs.Prelude.{◌≡◌};
+ghost use Rattle.expr_parser.specs.Reading.{Gives, items};
+ghost use Rattle.capl_readers.specs.File as read;
+
+use capl_lexer::{Sign, Tok, Word};
+use capl_tree::{Expr, Head, Param, Sel};
+use expr_parser::{Cursor, Refusal};
+use int_kinds::Kind;
+use items::Items;
+use sim_outside::Text;
+
+/// The head of a procedure.
+#[tactic(auto, unfolding(capl_readers::specs::File::procedure_head))]
+pub(crate) fn read_head(cursor: &mut Cursor<'_>, total: u32) -> Result<Head, Refusal>
+    ensures { Gives (read.procedure_head total cursor.old) result cursor.new }
+{
+    if cursor.eat_word(Word::On) {
+        return event(cursor, total);
+    }
+    if cursor.eat_word(Word::Void) {
+        return signature(cursor, total, None);
+    }
+    let kind = cursor.kind();
+    function_of(cursor, total, kind)
+}
+
+/// A function whose first word may be this kind.
+#[tactic(auto, unfolding(capl_readers::specs::File::function_of))]
+fn function_of(cursor: &mut Cursor<'_>, total: u32, kind: Option<Kind>) -> Result<Head, Refusal>
+    ensures { Gives (read.function_of total kind cursor.old) result cursor.new }
+{
+    if kind.is_some() {
+        cursor.skip();
+    }
+    signature(cursor, total, kind)
+}
+
+/// A function of this kind, from its name on.
+#[tactic(auto, unfolding(capl_readers::specs::File::signature, expr_parser::specs::Reading::after))]
+fn signature(cursor: &mut Cursor<'_>, total: u32, kind: Option<Kind>) -> Result<Head, Refusal>
+    ensures { Gives (read.signature total kind cursor.old) result cursor.new }
+{
+    let at = cursor.place(total);
+    let name = name(cursor)?;
+    cursor.expect(Sign::OpenParen)?;
+    let params = parameters(cursor, total)?;
+    Ok(Head::Function {
+        kind,
+        name,
+        params,
+        at,
+    })
+}
+
+/// A name.
+fn name(cursor: &mut Cursor<'_>) -> Result<Text, Refusal>
+    ensures { Gives (read.name cursor.old) result cursor.new }
+{
+    match cursor.next() {
+        Some(Tok::Name(name)) => Ok(Text::make(cursor.alloc(), name.bytes())?),
+        _ => Err(Refusal::NotSpelled),
+    }
+}
+
+/// Behind the opening parenthesis of a function: its parameters up to the closing one.
+#[tactic(auto, unfolding(capl_readers::specs::File::parameters, expr_parser::specs::Reading::after))]
+fn parameters(cursor: &mut Cursor<'_>, total: u32) -> Result<Items<Param>, Refusal>
+    ensures { Gives (read.parameters total cursor.old) result cursor.new }
+{
+    if cursor.eat(Sign::CloseParen) {
+        return Ok(Items::new(cursor.alloc()));
+    }
+    if cursor.eat_word(Word::Void) {
+        cursor.expect(Sign::CloseParen)?;
+        return Ok(Items::new(cursor.alloc()));
+    }
+    let found = some_parameters(cursor, total)?;
+    cursor.expect(Sign::CloseParen)?;
+    Ok(found)
+}
+
+/// Parameters with commas between them, at least one.
+#[tactic(auto, unfolding(expr_parser::specs::Reading::items, expr_parser::specs::Reading::items_from))]
+fn some_parameters(cursor: &mut Cursor<'_>, total: u32) -> Result<Items<Param>, Refusal>
+    ensures { Gives (items (read.parameter total) cursor.old) result cursor.new }
+{
+    let mut found = Vec::new(cursor.alloc());
+    for _turn in 0..cursor.len() {
+        found.push(parameter(cursor, total)?)?;
+        if !cursor.eat(Sign::Comma) {
+            return Ok(Items::from_list(found));
+        }
+    }
+    Err(Refusal::NotSpelled)
+}
+
+/// A parameter.
+#[tactic(auto, unfolding(capl_readers::specs::File::parameter, capl_readers::specs::File::parameter_of))]
+fn parameter(cursor: &mut Cursor<'_>, total: u32) -> Result<Param, Refusal>
+    ensures { Gives (read.parameter total cursor.old) result cursor.new }
+{
+    let Some(kind) = cursor.kind() else {
+        return Err(Refusal::NotSpelled);
+    };
+    cursor.skip();
+    let at = cursor.place(total);
+    let name = name(cursor)?;
+    Ok(Param { kind, name, at })
+}
+
+/// Behind `on`: an event.
+#[tactic(auto, unfolding(capl_readers::specs::File::event))]
+fn event(cursor: &mut Cursor<'_>, total: u32) -> Result<Head, Refusal>
+    ensures { Gives (read.event total cursor.old) result cursor.new }
+{
+    if cursor.eat_word(Word::Message) {
+        let selectors = selectors(cursor, total)?;
+        return Ok(Head::Message(selectors));
+    }
+    if cursor.eat_word(Word::Timer) {
+        let at = cursor.place(total);
+        let name = name(cursor)?;
+        return Ok(Head::Timer { name, at });
+    }
+    match cursor.next() {
+        Some(Tok::Name(name)) => named_event(cursor, name),
+        _ => Err(Refusal::NotSpelled),
+    }
+}
+
+/// Behind `on` and this name: an event.
+#[tactic(auto, unfolding(capl_readers::specs::File::named_event))]
+fn named_event(cursor: &mut Cursor<'_>, name: &Text) -> Result<Head, Refusal>
+    ensures { Gives (read.named_event name.now cursor.old) result cursor.new }
+{
+    let name = name.bytes();
+    if name == b"preStart".as_slice() {
+        Ok(Head::PreStart)
+    } else if name == b"start".as_slice() {
+        Ok(Head::Start)
+    } else if name == b"stopMeasurement".as_slice() {
+        Ok(Head::Stop)
+    } else if name == b"key".as_slice() {
+        key(cursor)
+    } else {
+        Err(Refusal::NotSpelled)
+    }
+}
+
+/// Behind `on key`: which one.
+#[tactic(auto, unfolding(capl_readers::specs::File::key, expr_parser::specs::Reading::after))]
+fn key(cursor: &mut Cursor<'_>) -> Result<Head, Refusal>
+    ensures { Gives (read.key cursor.old) result cursor.new }
+{
+    match cursor.next() {
+        Some(Tok::Char(value)) => Ok(Head::Key {
+            value: Some(*value),
+        }),
+        Some(Tok::Sign(Sign::Star)) => Ok(Head::Key { value: None }),
+        _ => Err(Refusal::NotSpelled),
+    }
+}
+
+/// Selectors with commas between them, at least one.
+#[tactic(auto, unfolding(expr_parser::specs::Reading::items, expr_parser::specs::Reading::items_from))]
+fn selectors(cursor: &mut Cursor<'_>, total: u32) -> Result<Items<Sel>, Refusal>
+    ensures { Gives (items (read.selector total) cursor.old) result cursor.new }
+{
+    let mut found = Vec::new(cursor.alloc());
+    for _turn in 0..cursor.len() {
+        found.push(selector(cursor, total)?)?;
+        if !cursor.eat(Sign::Comma) {
+            return Ok(Items::from_list(found));
+        }
+    }
+    Err(Refusal::NotSpelled)
+}
+
+/// A selector.
+#[tactic(auto, unfolding(capl_readers::specs::File::selector))]
+fn selector(cursor: &mut Cursor<'_>, total: u32) -> Result<Sel, Refusal>
+    ensures { Gives (read.selector total cursor.old) result cursor.new }
+{
+    let at = cursor.place(total);
+    if cursor.eat(Sign::Star) {
+        return Ok(Sel::Any { at });
+    }
+    one_selector(cursor, total, at)
+}
+
+/// A selector that is no `*`, at this place.
+#[tactic(auto, unfolding(capl_readers::specs::File::one_selector))]
+fn one_selector(cursor: &mut Cursor<'_>, total: u32, at: u32) -> Result<Sel, Refusal>
+    ensures { Gives (read.one_selector total at cursor.old) result cursor.new }
+{
+    if let Some(Tok::Name(name)) = cursor.peek() {
+        cursor.skip();
+        return Ok(Sel::Name {
+            name: Text::make(cursor.alloc(), name.bytes())?,
+            at,
+        });
+    }
+    let low = numeral(cursor, total)?;
+    range(cursor, total, at, low)
+}
+
+/// Behind the first number of a selector at this place: the last, where there is one.
+#[tactic(auto, unfolding(capl_readers::specs::File::range))]
+fn range(cursor: &mut Cursor<'_>, total: u32, at: u32, low: Expr) -> Result<Sel, Refusal>
+    ensures { Gives (read.range total at low cursor.old) result cursor.new }
+{
+    if !cursor.eat(Sign::Minus) {
+        return Ok(Sel::Ids {
+            low,
+            high: None,
+            at,
+        });
+    }
+    let high = numeral(cursor, total)?;
+    Ok(Sel::Ids {
+        low,
+        high: Some(high),
+        at,
+    })
+}
+
+/// A number.
+fn numeral(cursor: &mut Cursor<'_>, total: u32) -> Result<Expr, Refusal>
+    ensures { Gives (read.numeral total cursor.old) result cursor.new }
+{
+    let at = cursor.place(total);
+    match cursor.next() {
+        Some(Tok::Num { value, ext }) => Ok(Expr::Num {
+            value: *value,
+            ext: *ext,
+            at,
+        }),
+        _ => Err(Refusal::NotSpelled),
+    }
+}

@@ -1,0 +1,16 @@
+//! The tree of a CAPL source, read from its tokens.
+//!
+//! A recursive descent with a function for each rule of the grammar. Each gives what its reader in
+//! capl_readers gives, so [`parse`] gives the tree that the tokens spell, and refuses them exactly where
+//! they nest too deep or spell none.
+#![tactic(auto)]
+
+pub use parsing::{NESTING_LIMIT, parse};
+pub use refusal::ParseRefusal;
+
+mod file;
+mod head;
+mod parsing;
+mod part;
+mod refusal;
+mod statement;

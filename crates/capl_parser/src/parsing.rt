@@ -1,0 +1,44 @@
+// The tree of a whole file.
+
+ghost use Rattle.std.specs.Prelude.{◌≡◌, ◌<◌, ◌≤◌, ◌^◌, IfOk, IfErr, OnOk, length};
+ghost use Rattle.capl_nesting.specs.Tokens.{toks};
+ghost use Rattle.capl_tree.specs.Nesting.{nesting};
+ghost use Rattle.capl_tree.specs.Tree.{IsTreeOf};
+ghost use Rattle.capl_tree.specs.declared.file.FileTree.{FileTree};
+ghost use Rattle.capl_parser.specs.Refusal.{nesting_limit, IsRefusalOf};
+
+use crate::file::read_file;
+use crate::refusal::ParseRefusal;
+use capl_lexer::Token;
+use capl_nesting::is_deeper_than;
+use capl_tree::FileTree;
+use expr_parser::Cursor;
+use std::alloc::Global;
+
+/// How deep the tokens of a file may nest.
+pub const NESTING_LIMIT: u32 = 200;
+
+/// The tree of a file with these tokens. Takes time and memory linear in their number, and its calls go
+/// no deeper than the tokens nest.
+///
+/// Deep comes exactly where the tokens nest more than 200 deep, NotSpelled exactly where they do not and
+/// no tree is spelled so, and NoMemory only where the system gives no memory.
+pub fn parse(alloc: Global, tokens: &[Token]) -> Result<FileTree, ParseRefusal>
+    requires { length tokens.now < 2 ^ 32 }
+
+    // The tokens spell the tree, whose parts stand where they may, and no other.
+    ensures tree { IfOk result (λ tree. IsTreeOf (toks tokens.now) tree) }
+    ensures only { IfOk result (λ tree.
+        (other : FileTree) → IsTreeOf (toks tokens.now) other → other ≡ tree) }
+    ensures within_limit { OnOk result (nesting (toks tokens.now) ≤ nesting_limit) }
+
+    // They nest too deep, or spell no tree.
+    ensures refusal { IfErr result (IsRefusalOf (toks tokens.now)) }
+{
+    if is_deeper_than(alloc, tokens, NESTING_LIMIT)? {
+        return Err(ParseRefusal::Deep);
+    }
+    let mut cursor = Cursor::new(alloc, tokens);
+    let items = read_file(&mut cursor, tokens.len() as u32)?;
+    Ok(FileTree { items })
+}
