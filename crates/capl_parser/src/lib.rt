@@ -14,3 +14,5 @@ mod parsing;
 mod part;
 mod refusal;
 mod statement;
+#[cfg(test)]
+mod tests;
