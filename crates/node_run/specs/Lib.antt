@@ -1,0 +1,4 @@
+-- The definitions of this crate.
+pub mod Code
+pub mod Inside
+pub mod Node

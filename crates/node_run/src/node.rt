@@ -1,0 +1,344 @@
+// A node.
+
+ghost use Rattle.std.specs.Prelude.{◌≡◌, ◌<◌, ◌≤◌, ◌^◌, ◌↔◌, ◌⊎◌, [], IsTrue, IsSome, IsNone, is_some, IfOk, IfSome, OnOk, OnErr, IsErrOf, length, option_to_list};
+ghost use Rattle.std.specs.Option.{option_copied};
+ghost use Rattle.vm_host.specs.Record.{RecordFaultsRise};
+ghost use Rattle.timer_queue.specs.Timers.{first_due};
+ghost use Rattle.stack_vm.specs.Memory.{StaysMemory};
+ghost use Rattle.rounds.specs.Effects.{halt_lines};
+ghost use Rattle.rounds.specs.Reaction.{is_closed, next_due};
+ghost use Rattle.rounds.specs.Round.{IsDone, at_begin, next_of};
+ghost use Rattle.node_run.specs.Code.{cells_with_this};
+ghost use Rattle.node_run.specs.Inside.Agenda.{IsNextTaken, IsPlan};
+
+use crate::agenda::Agenda;
+use crate::procedures::{Wanted, first_handler};
+use crate::task::run_handler;
+use bytecode::{Handler, Verified};
+use can_bus::Bus;
+use rounds::{Occurrence, Round, Seen, Trigger};
+use sim_outside::NoMemory;
+use stack_vm::{Memory, Meter};
+use std::alloc::Global;
+use std::marker::Model;
+use timer_queue::TimerQueue;
+use vm_host::{Outcome, Record, RecordFault, TrapKind};
+
+/// How a task ended.
+#[derive(Clone, Copy, Debug, PartialEq, Eq)]
+pub struct TaskEnd {
+    /// Whether the task asked to stop the measurement.
+    pub stop: bool,
+}
+
+/// Why a task was not done to its end.
+#[derive(Clone, Copy, Debug, PartialEq, Eq)]
+pub enum TaskFault {
+    /// What the record writes to failed.
+    Record,
+    /// There was no memory.
+    NoMemory,
+}
+
+impl From<RecordFault> for TaskFault {
+    ghost use Rattle.node_run.specs.Inside.Fault.{IsTaskFault};
+
+    ghost from_gives = { IsTaskFault };
+
+    fn from(fault: RecordFault) -> TaskFault {
+        match fault {
+            RecordFault::Sink => TaskFault::Record,
+            RecordFault::NoMemory => TaskFault::NoMemory,
+        }
+    }
+}
+
+/// A node that runs its code. Contracts see it as a `NodeInRound`.
+#[derive(Drop)]
+pub struct Node {
+    alloc: Global,
+    code: Verified,
+    memory: Memory,
+    timers: TimerQueue,
+    first_row: usize,
+    turns: u64,
+    is_halted: bool,
+    moment: u64,
+    rest: Agenda,
+}
+
+impl Model for Node {
+    ghost use Rattle.node_run.specs.Node.{NodeInRound};
+    ghost use Rattle.node_run.specs.Inside.NodeFields.{IsNode};
+
+    ghost Value = { NodeInRound };
+
+    ghost view = { λ node. record {
+      first_row = node.first_row;
+      moment = node.moment;
+      doing = record {
+        node = record {
+          memory = record { code = node.code; cells = node.memory.cells; turns = node.turns };
+          timers = node.timers;
+          is_halted = node.is_halted;
+        };
+        rest = node.rest;
+      };
+    } };
+
+    ghost invariant = { λ node. IsNode node.code node.memory node.timers node.first_row node.moment node.rest };
+}
+
+impl Node {
+    ghost use Rattle.node_run.specs.Code.{code_reaction};
+    ghost use Rattle.node_run.specs.Node.{DoesTask, HasRows, IsTaskRefused, loaded};
+
+    /// A node that runs this code: not halted, with the initial values in its cells, no active timer, and
+    /// nothing to do. The rows of its handlers in a meter stand from `first_row` on, and each of its tasks
+    /// has so many turns.
+    ///
+    /// Takes time and memory linear in the code.
+    pub fn load(
+        alloc: Global,
+        code: Verified,
+        first_row: usize,
+        turns: u64,
+    ) -> Result<Node, NoMemory>
+        ensures { IfOk result (λ node. node ≡ loaded code first_row turns) }
+    {
+        let timers = count(code.code().timers.len())?;
+        let handlers = code.code().handlers.len();
+        let _ = count(handlers)?;
+        if first_row.checked_add(handlers).is_none() {
+            return Err(NoMemory);
+        }
+        let memory = Memory::make(alloc, &code)?;
+        let timers = TimerQueue::make(alloc, timers)?;
+        Ok(Node {
+            alloc,
+            code,
+            memory,
+            timers,
+            first_row,
+            turns,
+            is_halted: false,
+            moment: 0,
+            rest: Agenda::empty(alloc),
+        })
+    }
+
+    /// Begins a round at a moment of at most 2^63 microseconds, with the frame that the node sees and the
+    /// keys that are pressed. No task of the round is done yet, and none was left of the one before.
+    ///
+    /// A frame counts in the round of a moment alone, and keys there and in the round of the start. Takes
+    /// time linear in the handlers times the keys, and memory linear in both. Where there is none, nothing
+    /// changes.
+    pub fn begin(
+        &mut self,
+        round: Round,
+        now: u64,
+        seen: Option<Seen>,
+        keys: &[u8],
+    ) -> Result<(), NoMemory>
+        requires done { IsDone code_reaction self.old.moment self.old.doing }
+        requires in_time { now ≤ 2 ^ 63 }
+        ensures begun { OnOk result (self.new ≡ record self.old {
+          moment = now;
+          doing = at_begin code_reaction round seen keys.now self.old.doing.node;
+        }) }
+        ensures refused { OnErr result (self.new ≡ self.old) }
+    {
+        let handlers = self.code.code().handlers.as_slice();
+        self.rest = Agenda::of_round(self.alloc, handlers, round, seen, keys)?;
+        self.moment = now;
+        Ok(())
+    }
+
+    /// Whether the node has a further task in this round.
+    pub fn has_task(&self) -> bool
+        ensures { IsTrue result ↔ IsSome (next_of code_reaction self.now.moment self.now.doing) }
+    {
+        if self.is_halted {
+            return false;
+        }
+        if !self.rest.first.is_empty() || !self.rest.last.is_empty() {
+            return true;
+        }
+        self.rest.asks_timers && is_due(&self.timers, self.moment)
+    }
+
+    /// The least moment at which a timer of the node is due, or `None` exactly where the node is halted or
+    /// has no active timer.
+    pub fn next_due(&self) -> Option<u64>
+        ensures least { result ≡ next_due code_reaction self.now.doing.node }
+        ensures none { IsNone result ↔
+            (IsTrue self.now.doing.node.is_halted ⊎ (self.now.doing.node.timers.settings ≡ [])) }
+    {
+        if self.is_halted {
+            return None;
+        }
+        self.timers.next_due()
+    }
+
+    /// Whether the node is halted: a trap or the limit of turns ended a task.
+    pub fn halted(&self) -> bool
+        ensures { result ≡ self.now.doing.node.is_halted }
+    {
+        self.is_halted
+    }
+
+    /// The code that the node was loaded with.
+    pub fn code(&self) -> &Verified
+        ensures { result.now ≡ self.now.doing.node.memory.code }
+    {
+        &self.code
+    }
+
+    /// The cells of the node.
+    pub fn cells(&self) -> &[i128]
+        ensures { result.now ≡ self.now.doing.node.memory.cells }
+    {
+        self.memory.cells()
+    }
+
+    /// Does the next task of the node, under its number: gives its lines to the record and its requests to
+    /// the bus, adds its run to the meter, and answers whether it asked to stop the measurement.
+    ///
+    /// Takes time linear in the handlers, beside that of the run, and memory as the run does.
+    ///
+    /// # Errors
+    ///
+    /// The record then has taken the first lines of the task, and the meter at most its run. `Record` comes
+    /// only where the record's faults rose in this call.
+    pub fn do_task<B: Bus, R: Record>(
+        &mut self,
+        number: u32,
+        bus: &mut B,
+        into: &mut R,
+        meter: &mut Meter,
+    ) -> Result<TaskEnd, TaskFault>
+        requires has_task { IsSome (next_of code_reaction self.old.moment self.old.doing) }
+        requires rows { HasRows meter.old self.old }
+        requires serves { number < B.nodes bus.old }
+        ensures does { IfOk result (λ end. DoesTask B.after_request R.meaning number
+            self.old bus.old into.old meter.old end.stop self.new bus.new into.new meter.new) }
+        ensures refused { OnErr result (IsTaskRefused R.meaning number
+            self.old into.old into.new meter.old meter.new) }
+        ensures fault { IsErrOf result TaskFault.Record → RecordFaultsRise R.meaning into.old into.new }
+    {
+        let now = self.moment;
+        let handlers = self.code.code().handlers.as_slice();
+        let trigger = take_next(&mut self.rest, &mut self.timers, handlers, now).unwrap();
+        let Some(handler) = trigger.procedure else {
+            return Ok(TaskEnd { stop: false });
+        };
+        set_this(&mut self.memory, &trigger.occurrence, now);
+        let closed = is_closed(&trigger.occurrence);
+        let row = self.first_row + handler as usize;
+        let (outcome, stop) = run_handler(
+            &self.code,
+            handler,
+            &mut self.memory,
+            &mut self.timers,
+            self.turns,
+            number,
+            now,
+            closed,
+            bus,
+            into,
+            meter,
+            row,
+        )?;
+        if let Some(text) = halt_text(outcome) {
+            self.is_halted = true;
+            into.line(now, number, text)?;
+        }
+        Ok(TaskEnd { stop })
+    }
+}
+
+/// A number of things that can be named by numbers of 32 bits.
+fn count(things: usize) -> Result<u32, NoMemory>
+    ensures { IfOk result (λ number. number ≡ things) }
+{
+    u32::try_from(things).map_err(|_| NoMemory)
+}
+
+/// Whether a timer is due at a moment.
+fn is_due(timers: &TimerQueue, now: u64) -> bool
+    ensures { result ≡ is_some (first_due timers.now.settings now) }
+{
+    match timers.next_due() {
+        Some(due) => due <= now,
+        None => false,
+    }
+}
+
+/// Takes the next trigger of what is left, where the node is not halted. A due timer fires.
+fn take_next(
+    rest: &mut Agenda,
+    timers: &mut TimerQueue,
+    handlers: &[Handler],
+    now: u64,
+) -> Option<Trigger>
+    requires handlers { length handlers.now < 2 ^ 32 }
+    requires in_time { now ≤ 2 ^ 63 }
+    requires planned { IsPlan (length handlers.now) rest.old }
+    ensures next { IsNextTaken handlers.now rest.old timers.old now result rest.new timers.new }
+    ensures planned { IsPlan (length handlers.now) rest.new }
+    ensures as_many { timers.new.count ≡ timers.old.count }
+    ensures exists { IfSome result (λ trigger.
+        IfSome trigger.procedure (λ handler. handler < length handlers.now)) }
+{
+    let first = rest.first.pop_front();
+    if first.is_some() {
+        return first;
+    }
+    if rest.asks_timers
+        && let Some(timer) = timers.take_due(now)
+    {
+        return Some(Trigger {
+            occurrence: Occurrence::Timer(timer),
+            procedure: first_handler(handlers, Wanted::Timer(timer)),
+        });
+    }
+    rest.last.pop_front()
+}
+
+/// Sets `this` to an occurrence at a moment.
+fn set_this(memory: &mut Memory, occurrence: &Occurrence, now: u64)
+    ensures cells { memory.new.cells ≡ cells_with_this occurrence.now now memory.old.cells }
+    ensures stays { StaysMemory memory.old memory.new }
+{
+    match occurrence {
+        Occurrence::Frame(seen) => memory.set_frame(&seen.frame, seen.sent, now),
+        Occurrence::Key(key) => memory.set_key(*key),
+        Occurrence::PreStart | Occurrence::Start | Occurrence::Stop | Occurrence::Timer(_) => {}
+    }
+}
+
+/// Whether nothing goes to the bus or to timers any more.
+fn is_closed(occurrence: &Occurrence) -> bool
+    ensures { result ≡ is_closed occurrence.now }
+{
+    match occurrence {
+        Occurrence::Stop => true,
+        Occurrence::PreStart
+        | Occurrence::Start
+        | Occurrence::Frame(_)
+        | Occurrence::Timer(_)
+        | Occurrence::Key(_) => false,
+    }
+}
+
+/// The line that tells that a run halted its node, where it did.
+fn halt_text(outcome: Outcome) -> Option<&'static [u8]>
+    ensures { halt_lines outcome ≡ option_to_list (option_copied result) }
+{
+    match outcome {
+        Outcome::Done => None,
+        Outcome::Trapped(TrapKind::ZeroDivisor) => Some(b"trap zero divisor"),
+        Outcome::Trapped(TrapKind::Index) => Some(b"trap index"),
+        Outcome::Cut => Some(b"turn limit"),
+    }
+}
