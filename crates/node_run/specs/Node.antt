@@ -51,7 +51,8 @@ IsMetered first_row task before after = MatchOption task.trigger.procedure (afte
     (λ handler. AddsRun (first_row + handler) task.turns before after)
 
 -- A node of a number did its next task: its lines went to the record, its requests to the bus and its wish to
--- stop to the caller, the meter has its run, and the node stands where the task leaves it, at the same moment.
+-- stop to the caller, the meter has its run, and the node stands where the task leaves it, at the same
+-- moment.
 pub record DoesTask {B R : Type 0} (after_request : B → ℕ → FrameFields → B) (meaning : RecordMeaning R)
     (number : ℕ) (before : NodeInRound) (bus : B) (into : R) (meter : List MeterRow)
     (stop : Bool) (after : NodeInRound) (bus_after : B) (into_after : R) (meter_after : List MeterRow) :

@@ -1,6 +1,6 @@
 // A node.
 
-ghost use Rattle.std.specs.Prelude.{◌≡◌, ◌<◌, ◌≤◌, ◌^◌, ◌↔◌, ◌⊎◌, [], IsTrue, IsSome, IsNone, is_some, IfOk, IfSome, OnOk, OnErr, IsErrOf, length, option_to_list};
+ghost use Rattle.std.specs.Prelude.{◌≡◌, ◌<◌, ◌≤◌, ◌^◌, ◌↔◌, ◌⊎◌, [], false, IsTrue, IsSome, IsNone, is_some, IfOk, IfSome, OnOk, OnErr, IsErrOf, length, option_to_list};
 ghost use Rattle.std.specs.Option.{option_copied};
 ghost use Rattle.vm_host.specs.Record.{RecordFaultsRise};
 ghost use Rattle.timer_queue.specs.Timers.{first_due};
@@ -156,7 +156,8 @@ impl Node {
 
     /// Whether the node has a further task in this round.
     pub fn has_task(&self) -> bool
-        ensures { IsTrue result ↔ IsSome (next_of code_reaction self.now.moment self.now.doing) }
+        ensures left { IsTrue result ↔ IsSome (next_of code_reaction self.now.moment self.now.doing) }
+        ensures done { result ≡ false → IsDone code_reaction self.now.moment self.now.doing }
     {
         if self.is_halted {
             return false;
@@ -225,6 +226,9 @@ impl Node {
         ensures refused { OnErr result (IsTaskRefused R.meaning number
             self.old into.old into.new meter.old meter.new) }
         ensures fault { IsErrOf result TaskFault.Record → RecordFaultsRise R.meaning into.old into.new }
+        ensures code_stays { self.new.doing.node.memory.code ≡ self.old.doing.node.memory.code }
+        ensures row_stays { self.new.first_row ≡ self.old.first_row }
+        ensures as_many_rows { length meter.new ≡ length meter.old }
     {
         let now = self.moment;
         let handlers = self.code.code().handlers.as_slice();
