@@ -157,3 +157,8 @@ inner_block = on_start (stmt.Block' (tt ∷ [])
 abbrev pub constant_assigned : Program
 constant_assigned = on_start (stmt.Decl (declares 3 (decl_type.Number Long true) (codes "c") 5 None
     (Some (One (number 1 7)))) ∷ stmt.Expr (tree.Assign None (expr.Name (codes "c") 9) (number 2 11) 9) ∷ [])
+
+-- `variables { byte a[0x20000000x]; }`
+abbrev pub number_too_great_for_a_size : Program
+number_too_great_for_a_size = file_of (top.Variables
+    (declares 2 (plain Byte) (codes "a") 3 (Some (expr.Num (Some 0x20000000) true 5)) None ∷ []) ∷ [])

@@ -1,6 +1,6 @@
 -- Constants of a source and their values: numbers, characters, const integers declared before, RX and TX, and
 -- these under parentheses, casts, unary `- + ! ~`, binary operators and `?:`.
-use Rattle.std.specs.Prelude.{ℕ, ◌+◌, ◌^◌, ◌==◌, Bool, true, false, ◌&&◌, ◌||◌, if◌then◌else◌, nat_le, nat_lt, List, [], ◌∷◌, ◌++◌, filter, find, is_some, Option, Some, None, unwrap_or, ℤ, pos, negsuc}
+use Rattle.std.specs.Prelude.{ℕ, ◌+◌, ◌^◌, ◌==◌, Bool, true, false, not, ◌&&◌, ◌||◌, if◌then◌else◌, nat_le, nat_lt, List, [], ◌∷◌, ◌++◌, filter, find, is_some, Option, Some, None, unwrap_or, ℤ, pos, negsuc}
 use Rattle.std.specs.Option.{option_and_then, option_map, option_map_or}
 use Rattle.std.specs.Ordering.{int_eq}
 use Rattle.int_kinds.specs.declared.kinds.Kind.{Kind}
@@ -18,7 +18,7 @@ use Rattle.capl_tree.specs.Forms as tree
 use Rattle.capl_meaning.specs.Variable.{Form, Number, Array, Variable}
 use Rattle.capl_meaning.specs.Names.{Names, NoThis, Scope, direction, means}
 use Rattle.capl_meaning.specs.Operator.{prefix_value, truth_of}
-use Rattle.capl_meaning.specs.Sort.{kind_in, sort_of, working_kind}
+use Rattle.capl_meaning.specs.Sort.{is_bad, kind_in, sort_of, sort_of_number, working_kind}
 
 -- a const integer: where it is declared, and its value
 pub record Constant : Type 0 where
@@ -41,9 +41,10 @@ is_constant_prefix prefix.Up = false
 is_constant_prefix prefix.Down = false
 is_constant_prefix _ = true
 
--- an expression is a constant, where these const integers are known
+-- an expression is a constant, where these const integers are known; a number that is too great is bad, and
+-- no constant
 abbrev pub is_constant : List Constant → Scope → Expr → Bool
-is_constant known s (expr.Num value extended at) = is_some value
+is_constant known s (expr.Num value extended at) = not (is_bad (sort_of_number value extended))
 is_constant known s (expr.Char value at) = true
 is_constant known s (expr.Name name at) = is_some (value_of_name known name (means s name at))
 is_constant known s (tree.Paren inner at) = is_constant known s inner

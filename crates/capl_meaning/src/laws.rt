@@ -9,7 +9,7 @@ ghost use Rattle.capl_meaning.specs.Example.{broken, argument_missing, array_as_
 ghost use Rattle.std.specs.Prelude.{codes, neg_ℤ, pos, Some};
 ghost use Rattle.vm_host.specs.declared.outcome.Outcome.TheVariants.{Cut, Done, Trapped};
 ghost use Rattle.vm_host.specs.declared.outcome.TrapKind.TheVariants.{Index, ZeroDivisor};
-ghost use Rattle.capl_meaning.specs.ChoiceExample.{added_to_message, broken_with, constant_assigned, constant_of_itself, direction_assigned, equal_ends, far_recursion, inner_block, labels_that_wrap, local_beside_function, long_message, message_added, message_stepped, message_too_long, mixed_case, needed_division, one_for_an_array, text_assigned, text_in_parentheses, this_copied, unknown_in_size, unknown_to_message, unneeded_division, variable_in_size};
+ghost use Rattle.capl_meaning.specs.ChoiceExample.{added_to_message, broken_with, constant_assigned, constant_of_itself, direction_assigned, equal_ends, far_recursion, inner_block, labels_that_wrap, local_beside_function, long_message, message_added, message_stepped, message_too_long, mixed_case, needed_division, number_too_great_for_a_size, one_for_an_array, text_assigned, text_in_parentheses, this_copied, unknown_in_size, unknown_to_message, unneeded_division, variable_in_size};
 ghost use Rattle.capl_meaning.specs.RunExample.{counts, divides_by_zero, fills, keeps_its_local, left, needs_one_side, passes_the_end, puts_signals, ran, signals_put, two_messages, wraps, wrote};
 
 /// A program has one first offence at most: two of them have the same file, token and rule number.
@@ -60,6 +60,7 @@ pub fn sources_at_the_edges()
     ensures one_for_an_array { broken one_for_an_array ≡ (11, 27) ∷ [] }
     ensures variable_in_size { broken variable_in_size ≡ (8, 19) ∷ [] }
     ensures unknown_in_size { broken unknown_in_size ≡ (10, 9) ∷ [] }
+    ensures number_too_great_for_a_size { broken number_too_great_for_a_size ≡ (5, 18) ∷ [] }
     ensures constant_of_itself { broken constant_of_itself ≡ (9, 19) ∷ [] }
     ensures constant_assigned { broken constant_assigned ≡ (9, 14) ∷ [] }
     ensures unneeded_division { broken unneeded_division ≡ [] }
