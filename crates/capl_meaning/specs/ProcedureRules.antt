@@ -14,7 +14,7 @@ use Rattle.capl_tree.specs.declared.procedure.Sel.{Sel}
 use Rattle.capl_tree.specs.declared.procedure.Sel.TheVariants as sel
 use Rattle.capl_meaning.specs.declared.offence.Offence.{Offence}
 use Rattle.capl_meaning.specs.Rule.{E09, E10, E21, E25}
-use Rattle.capl_meaning.specs.Variable.{Form, Timer, Misfit, Part, Globals, Procedure, Variable, message_named}
+use Rattle.capl_meaning.specs.Variable.{Form, Timer, Misfit, Part, Globals, Procedure, Variable, is_timer, message_named}
 use Rattle.capl_meaning.specs.Names.{Names, Scope, builtin_named, global}
 use Rattle.capl_meaning.specs.DeclarationRules.{is_identifier, is_in_range, message_name_rule}
 use Rattle.capl_meaning.specs.ExpressionRules.{broken_where, offence}
@@ -149,11 +149,6 @@ abbrev pub told_by_selector : List DbcMessage → ℕ → Sel → Option Told
 told_by_selector base file selector =
     option_map (λ keys. record { file = file; token = selector_place selector; purpose = ForFrames keys })
     (selector_of base selector)
-
--- a variable is a timer
-abbrev pub is_timer : Form → Bool
-is_timer (Timer unit) = true
-is_timer _ = false
 
 -- a name is that of a global timer
 abbrev pub names_timer : Names → List ℕ → Bool

@@ -1,5 +1,5 @@
 -- What the variables of a program hold, and how that stands in cells (CAPL manual, variables, message).
-use Rattle.std.specs.Prelude.{ℕ, zero, suc, ◌+◌, ◌-◌, ◌==◌, Bool, true, false, ◌&&◌, if◌then◌else◌, nat_le, nat_lt, List, [], ◌∷◌, ◌++◌, filter, filter_map, flat_map, length, position, replicate, slice_index_or, Option, Some, None, unwrap_or, ℤ, pos}
+use Rattle.std.specs.Prelude.{ℕ, zero, suc, ◌+◌, ◌-◌, ◌==◌, Bool, ◌&&◌, if◌then◌else◌, nat_le, nat_lt, List, [], ◌∷◌, ◌++◌, filter, filter_map, flat_map, length, position, replicate, slice_index_or, Option, Some, None, unwrap_or, ℤ, pos}
 use Rattle.std.specs.Str.{bytes_eq}
 use Rattle.int_kinds.specs.declared.kinds.Kind.{Kind}
 use Rattle.int_kinds.specs.declared.kinds.Kind.TheVariants.{Char}
@@ -8,7 +8,7 @@ use Rattle.signal_codec.specs.Signal.{payload_with, signal_value}
 use Rattle.message_cells.specs.Message.{bytes_of, message_kinds, number_at, payload_of, written_can, written_dlc, written_id, written_rtr}
 use Rattle.capl_meaning.specs.declared.field.MessageField.{MessageField}
 use Rattle.capl_meaning.specs.declared.field.MessageField.TheVariants.{Id, Dlc, Rtr, Can, Dir, Time}
-use Rattle.capl_meaning.specs.Variable.{Form, Number, Array, Message, Timer, Misfit, Variable}
+use Rattle.capl_meaning.specs.Variable.{Form, Number, Array, Message, Timer, Misfit, Variable, is_timer}
 use Rattle.capl_meaning.specs.Names.{Names}
 use Rattle.capl_meaning.specs.Constant.{elements_of}
 
@@ -171,11 +171,6 @@ unit_of _ = None
 -- the units of all timers, in program order of their declarations
 abbrev pub timer_units : Names → List ℕ
 timer_units names = filter_map (λ v. unit_of v.form) names.variables
-
--- a variable is a timer
-abbrev pub is_timer : Form → Bool
-is_timer (Timer unit) = true
-is_timer _ = false
 
 -- the number of a timer among all timers
 abbrev pub timer_number : Names → Variable → ℕ

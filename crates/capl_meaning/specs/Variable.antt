@@ -1,6 +1,6 @@
 -- What a program declares, in program order (CAPL manual, variables, procedures): file by file, and in a file
 -- from its beginning on.
-use Rattle.std.specs.Prelude.{ℕ, suc, ◌+◌, ◌^◌, Bool, false, if◌then◌else◌, List, [], ◌∷◌, ◌++◌, map, flat_map, find, Option, Some, None}
+use Rattle.std.specs.Prelude.{ℕ, suc, ◌+◌, ◌^◌, Bool, true, false, if◌then◌else◌, List, [], ◌∷◌, ◌++◌, map, flat_map, find, Option, Some, None}
 use Rattle.std.specs.Str.{bytes_eq}
 use Rattle.int_kinds.specs.declared.kinds.Kind.{Kind}
 use Rattle.dbc_reader.specs.declared.message.DbcMessage.{DbcMessage}
@@ -99,6 +99,11 @@ pub data Form : Type 0 where
   Message : MessageType → Form
   Timer : ℕ → Form
   Misfit : Form
+
+-- a variable is a timer
+abbrev pub is_timer : Form → Bool
+is_timer (Timer unit) = true
+is_timer _ = false
 
 -- the message of this name in the database
 abbrev pub message_named : List DbcMessage → List ℕ → Option DbcMessage
