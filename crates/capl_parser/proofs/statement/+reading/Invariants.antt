@@ -10,7 +10,7 @@ abbrev pub decreases-read_statement : goal.decreases-read_statement
 decreases-read_statement l = l.depth * 7
 
 abbrev pub decreases-nested : goal.decreases-nested
-decreases-nested l = l.depth * 7 + 1
+decreases-nested l = l.depth * 7 + 2
 
 abbrev pub decreases-body_part : goal.decreases-body_part
 decreases-body_part l = l.depth * 7 + 1
@@ -22,16 +22,16 @@ abbrev pub decreases-body : goal.decreases-body
 decreases-body l = l.depth * 7 + 2
 
 abbrev pub decreases-choice : goal.decreases-choice
-decreases-choice l = l.depth * 7 + 2
+decreases-choice l = l.depth * 7 + 3
 
 abbrev pub decreases-while_loop : goal.decreases-while_loop
-decreases-while_loop l = l.depth * 7 + 2
+decreases-while_loop l = l.depth * 7 + 3
 
 abbrev pub decreases-do_loop : goal.decreases-do_loop
-decreases-do_loop l = l.depth * 7 + 2
+decreases-do_loop l = l.depth * 7 + 3
 
 abbrev pub decreases-for_loop : goal.decreases-for_loop
-decreases-for_loop l = l.depth * 7 + 2
+decreases-for_loop l = l.depth * 7 + 3
 
 abbrev pub decreases-read_block : goal.decreases-read_block
 decreases-read_block l = l.depth * 7 + 3
@@ -40,7 +40,7 @@ abbrev pub decreases-group : goal.decreases-group
 decreases-group l = l.depth * 7 + 3
 
 abbrev pub decreases-repeat : goal.decreases-repeat
-decreases-repeat l = l.depth * 7 + 3
+decreases-repeat l = l.depth * 7 + 4
 
 abbrev pub decreases-groups : goal.decreases-groups
 decreases-groups l = l.depth * 7 + 4
