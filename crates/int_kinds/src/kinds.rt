@@ -117,36 +117,13 @@ pub(crate) const fn wrap_any(k: Kind, n: i128) -> i128
 pub(crate) const fn wrap_word(k: Kind, word: u128) -> i128
     ensures { result ≡ wrap k (pos word) }
 {
-    // In each arm the kind is constant, so that LLVM makes one mask or one sign extension of it.
     match k {
-        Kind::Byte => residue_in(Kind::Byte, word),
-        Kind::Word => residue_in(Kind::Word, word),
-        Kind::Dword => residue_in(Kind::Dword, word),
-        Kind::Qword => residue_in(Kind::Qword, word),
-        Kind::Int => residue_in(Kind::Int, word),
-        Kind::Long => residue_in(Kind::Long, word),
-        Kind::Int64 => residue_in(Kind::Int64, word),
-        Kind::Char => residue_in(Kind::Char, word),
+        Kind::Byte | Kind::Char => (word & 0xff) as i128,
+        Kind::Word => (word & 0xffff) as i128,
+        Kind::Dword => (word & 0xffff_ffff) as i128,
+        Kind::Qword => (word & 0xffff_ffff_ffff_ffff) as i128,
+        Kind::Int => ((word & 0xffff) as u16).cast_signed() as i128,
+        Kind::Long => ((word & 0xffff_ffff) as u32).cast_signed() as i128,
+        Kind::Int64 => ((word & 0xffff_ffff_ffff_ffff) as u64).cast_signed() as i128,
     }
-}
-
-/// The residue of a word that is a number of the kind.
-#[inline(always)]
-const fn residue_in(k: Kind, word: u128) -> i128
-    ensures { result ≡ wrap k (pos word) }
-{
-    let modulus = 1i128 << bits(k);
-    let residue = (word & low_ones(k)) as i128;
-    if residue <= greatest(k) {
-        residue
-    } else {
-        residue - modulus
-    }
-}
-
-/// A word with as many ones, the lowest, as the kind has bits.
-pub(crate) const fn low_ones(k: Kind) -> u128
-    ensures { result ≡ 2 ^ width k - 1 }
-{
-    u128::MAX >> (128 - bits(k))
 }

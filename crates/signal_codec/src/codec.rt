@@ -54,11 +54,9 @@ const fn word(l: &Layout, payload: &[u8; 8]) -> u64
 const fn bytes(l: &Layout, word: u64) -> [u8; 8]
     ensures { result ≡ bytes_of l.now word }
 {
-    if l.big {
-        word.to_be_bytes()
-    } else {
-        word.to_le_bytes()
-    }
+    // One word for both orders, so that LLVM sees through reading the bytes as a word again.
+    let little = if l.big { word.swap_bytes() } else { word };
+    little.to_le_bytes()
 }
 
 /// A word with this many ones, the lowest.
