@@ -1,7 +1,7 @@
 -- The arrays that a format reads, in cells that their kinds hold.
-use Rattle.std.proofs.Common.{◌≡◌, ◌≤◌, ◌<◌, ◌+◌, ℕ, true, List, [], ◌∷◌, length, take, drop, All, arith, slice_get, Some, subst, sym, ap, ◌∙◌}
+use Rattle.std.proofs.Common.{◌≡◌, ◌<◌, ◌+◌, ℕ, true, List, [], ◌∷◌, length, take, drop, All, arith, slice_get, Some, subst}
 use Rattle.std.specs.Prelude.{ℤ, ◌≤ℤ◌, pos, nat_le}
-use Rattle.std.specs.List.{AllZip, list_all}
+use Rattle.std.specs.List.{list_all}
 use Rattle.std.proofs.lemmas.List.Elements.{All-cons, All-head, All-nil, All-tail, All-weaker}
 use Rattle.std.proofs.lemmas.Option.{get_or_from_slice_get}
 use Rattle.int_kinds.specs.Kind.{Holds}

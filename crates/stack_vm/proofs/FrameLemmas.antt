@@ -1,8 +1,7 @@
 -- The message that a frame is, and the frame of a message.
 use Rattle.std.proofs.Common.{◌≡◌, ◌<◌, ◌≤◌, ◌+◌, ◌-◌, ◌/◌, ◌%◌, ◌^◌, ℕ, zero, suc, Bool, true, false, cond, not, List, [], ◌∷◌, ◌++◌, length, map, take, drop, replicate, get_or, refl, sym, ap, ◌∙◌, subst, ◌==◌, arith}
-use Rattle.std.specs.Prelude.{ℤ, pos, nat_le, if◌then◌else◌}
+use Rattle.std.specs.Prelude.{ℤ, pos, if◌then◌else◌}
 use Rattle.std.specs.Int.{cast_signed, cast_unsigned, w128}
-use Rattle.std.proofs.lemmas.Bool.Decides.{nat_tests}
 use Rattle.std.proofs.lemmas.Int.{ints}
 use Rattle.std.proofs.lemmas.List.{get_or-drop, get_or-map, get_or-take}
 use Rattle.std.proofs.Math.Nat.{mod-eq_of_lt}
@@ -15,8 +14,7 @@ use Rattle.int_kinds.specs.Kind.{Holds}
 use Rattle.message_cells.specs.Message.{field, frame_of, id_of, ident_of, is_remote, message_kinds, payload_of, written_dlc, written_id, written_rtr}
 use Rattle.message_cells.proofs.Identifiers.{ident_of-written_id}
 use Rattle.bytecode.specs.Runs.{HoldKinds}
-use Rattle.stack_vm.specs.Frame.{message_numbers, message_of}
-use Rattle.stack_vm.proofs.ListLemmas.{eight_items}
+use Rattle.stack_vm.specs.Frame.{message_of}
 use Rattle.stack_vm.proofs.NumberLemmas.{Holds-byte, read_back_byte, read_back_word}
 
 -- ---- the message of a frame

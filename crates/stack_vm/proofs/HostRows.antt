@@ -1,6 +1,6 @@
 -- The rows of instructions that a host takes.
-use Rattle.std.proofs.Common.{◌≡◌, ◌<◌, ◌≤◌, ◌+◌, ℕ, Bool, true, false, List, [], ◌∷◌, ◌++◌, length, reverse, take, get_or, slice_get, drop, Option, Some, None, refl, sym, ap, ◌∙◌, arith, append-nil, le-leb}
-use Rattle.std.specs.Prelude.{ℤ, pos, IsTrue, nat_le, ◌&&◌, if◌then◌else◌}
+use Rattle.std.proofs.Common.{◌≡◌, ◌<◌, ◌≤◌, ◌+◌, ℕ, Bool, true, false, List, [], ◌∷◌, ◌++◌, length, reverse, take, get_or, slice_get, drop, Option, Some, None, refl, sym, ap, ◌∙◌, append-nil, le-leb}
+use Rattle.std.specs.Prelude.{ℤ, pos, nat_le, ◌&&◌, if◌then◌else◌}
 use Rattle.std.specs.List.{list_all}
 use Rattle.std.proofs.lemmas.Option.{slice_get-get_or}
 use Rattle.write_format.specs.Format.{FormatText, char_arrays, numbers_taken, rendered}
@@ -13,7 +13,7 @@ use Rattle.bytecode.specs.declared.instr.Instr.TheVariants.{Send, Set, Write}
 use Rattle.bytecode.specs.Machine.{Machine, Next, Goes, Stuck}
 use Rattle.message_cells.specs.Message.{frame_of, message_at}
 use Rattle.vm_host.specs.Duration.{micros}
-use Rattle.bytecode.specs.Step.{after_effect, after_set, goes_on, needing, row, taking_one, unless, writes}
+use Rattle.bytecode.specs.Step.{after_effect, after_set, goes_on, needing, row, unless, writes}
 use Rattle.stack_vm.specs.Inside.State.{RunState, machine}
 use Rattle.stack_vm.specs.Inside.Step.{DoesOn}
 use Rattle.stack_vm.proofs.MessageRows.{cells_at}

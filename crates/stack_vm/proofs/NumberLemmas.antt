@@ -1,8 +1,6 @@
 -- Numbers as the program holds them.
-use Rattle.std.proofs.Common.{◌≡◌, ◌<◌, ◌^◌, ◌+◌, ℕ, List, [], ◌∷◌, ◌++◌, length, take, map, get_or, sym, ap, ◌∙◌, arith, add-one}
-use Rattle.std.proofs.Math.Seq.{take-suc, take-suc-set}
-use Rattle.std.proofs.lemmas.List.{map-append}
-use Rattle.std.specs.Prelude.{ℤ, pos, negsuc, slice_set, FitsSigned}
+use Rattle.std.proofs.Common.{◌≡◌, ◌<◌, ◌^◌, ℕ, ap, ◌∙◌, arith}
+use Rattle.std.specs.Prelude.{ℤ, pos, negsuc, FitsSigned}
 use Rattle.std.specs.Int.{cast_signed, cast_unsigned, w128}
 use Rattle.std.proofs.lemmas.Int.{ints, to_z-of_z}
 use Rattle.int_kinds.specs.Kind.{Holds, IsNumber}
@@ -34,13 +32,6 @@ read_back_byte n h = read_back_held Byte (pos n) (Holds-byte n h)
 -- a word of 32 bits as a number
 pub read_back_word : (n : ℕ) → n < 2 ^ 32 → cast_signed w128 (cast_unsigned w128 (pos n)) ≡ pos n
 read_back_word n h = read_back (pos n) (record { at_least = omega (arith, ints); below = omega (arith, ints, h) })
-
--- one more cell was set to a number
-pub set_next : (cells : List ℤ) (numbers : List ℕ) (i : ℕ) (n : ℤ) → i < length cells → i < length numbers → n ≡ pos (get_or numbers i 0) →
-    take i cells ≡ map pos (take i numbers) → take (i + 1) (slice_set cells i n) ≡ map pos (take (i + 1) numbers)
-set_next cells numbers i n h h' e same =
-    rw add-one (take-suc-set cells i n h ∙ ap (λ (xs : List ℤ). xs ++ n ∷ []) same
-    ∙ ap (λ (z : ℤ). map pos (take i numbers) ++ z ∷ []) e ∙ sym (map-append pos (take i numbers) (get_or numbers i 0 ∷ [])) ∙ sym (ap (map pos) (take-suc numbers i 0 h')))
 
 -- a result that is a number, as it is passed on
 pub passed : (r n : ℤ) → r ≡ n → IsNumber n → cast_signed w128 (cast_unsigned w128 r) ≡ n

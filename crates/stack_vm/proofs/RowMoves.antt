@@ -1,5 +1,5 @@
 -- Where each row of the instruction table goes in verified code: to a target of its rule, into a function or out of one.
-use Rattle.std.proofs.Common.{◌≡◌, ◌≤◌, ◌+◌, ◌-◌, ℕ, zero, suc, Bool, true, false, cond, List, [], ◌∷◌, length, take, drop, reverse, slice_get, Option, Some, None, refl, ap, ◌∙◌, arith}
+use Rattle.std.proofs.Common.{◌≡◌, ◌≤◌, ◌+◌, ◌-◌, ℕ, zero, suc, Bool, true, false, cond, List, [], ◌∷◌, length, take, drop, reverse, slice_get, Option, Some, None, refl, ap, arith}
 use Rattle.std.specs.Prelude.{ℤ, pos, negsuc, ◌&&◌, nat_le, nat_lt, ⊤}
 use Rattle.std.specs.List.{AllByRecursion, list_all}
 use Rattle.std.specs.Ordering.{int_eq}
@@ -9,7 +9,6 @@ use Rattle.int_kinds.specs.declared.operators.BinOp.TheVariants.{OrElse, AndAlso
 use Rattle.int_kinds.specs.Arithmetic.{value}
 use Rattle.write_format.specs.Format.{FormatText, char_arrays, numbers_taken, rendered}
 use Rattle.vm_host.specs.Effect as effect
-use Rattle.vm_host.specs.declared.outcome.Outcome.{Outcome}
 use Rattle.bytecode.specs.declared.code.Code.{Code}
 use Rattle.bytecode.specs.declared.code.Fun.{Fun}
 use Rattle.bytecode.specs.declared.instr.Instr.{Instr}
@@ -20,7 +19,7 @@ use Rattle.bytecode.specs.Rule.{IsReached, Target, targets}
 use Rattle.bytecode.specs.Shape.{numbers_given, shape_of}
 use Rattle.std.specs.Option.{option_map_or}
 use Rattle.vm_host.specs.Duration.{micros}
-use Rattle.bytecode.specs.Step.{after_cancel, after_effect, after_set, gives_or_traps, goes_on, goes_to, indexing, needing, operates, returns_to, row, stores, taking_one, taking_turn, taking_two, unless, writes}
+use Rattle.bytecode.specs.Step.{after_cancel, after_effect, after_set, gives_or_traps, goes_on, indexing, needing, operates, returns_to, row, stores, taking_one, taking_turn, taking_two, unless, writes}
 
 -- the machine goes to a place of its function that is at most one deeper, with the same open calls
 pub record Moves (code : Code) (function : Fun) (depth : ℕ) (before after : Machine) : Type 0 where

@@ -6,7 +6,7 @@ use Rattle.vm_host.specs.declared.outcome.Outcome.{Outcome}
 use Rattle.vm_host.proofs.HostLemmas.{HostStays-refl, HostStays-trans}
 use Rattle.bytecode.specs.declared.code.Code.{Code}
 use Rattle.bytecode.specs.declared.instr.Instr.{Instr}
-use Rattle.bytecode.specs.Machine.{Machine, Goes, Stuck}
+use Rattle.bytecode.specs.Machine.{Machine, Goes}
 use Rattle.bytecode.specs.Runs.{HoldKinds, IsStartOf, steps_left}
 use Rattle.bytecode.specs.Step.{go, row, step}
 use Rattle.bytecode.specs.Verified.{IsVerified}
@@ -29,6 +29,11 @@ comes_at_first host code start before = record {
   room = record { numbers = refl; calls = refl };
   stays = HostStays-refl host before;
 }
+
+-- a run that has come to a state has come to it by another name
+pub comes_as : {S : Type 0} {host : HostMeaning S} {code : Code} {start : RunState} {before : S} {s t : RunState} {after : S} → t ≡ s →
+    ComesTo host code start before s after → ComesTo host code start before t after
+comes_as {S} {host} {code} {start} {before} {s} {t} {after} e comes = subst (λ (z : RunState). ComesTo host code start before z after) (sym e) comes
 
 -- effects after effects
 pub takes_further : {S : Type 0} (host : HostMeaning S) (first second : List Effect) (a b c : S) →

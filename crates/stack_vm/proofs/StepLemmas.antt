@@ -1,5 +1,5 @@
 -- One step: what a state that is ready for an instruction gives, and what a row leads to.
-use Rattle.std.proofs.Common.{◌≡◌, ◌≤◌, ◌<◌, ℕ, zero, suc, Bool, List, [], ◌∷◌, ◌++◌, length, get_or, drop, Option, None, refl, sym, ap, ◌∙◌, subst, arith, append-nil}
+use Rattle.std.proofs.Common.{◌≡◌, ◌≤◌, ◌<◌, ℕ, zero, suc, Bool, List, [], ◌∷◌, length, get_or, drop, Option, refl, sym, ap, ◌∙◌, subst, arith, append-nil}
 use Rattle.std.specs.Prelude.{ℤ, pos}
 use Rattle.std.specs.List.{AllByRecursion}
 use Rattle.int_kinds.specs.Kind.{IsNumber}
@@ -79,22 +79,27 @@ ready_as {code} {s} e r = subst (λ (k : Instr). IsReady code k s) e r
 pub ready_some : {code : Code} {s : RunState} {i j : Instr} → i ≡ j → IsReady code i s → (code : Code) × IsReady code j s
 ready_some {code} e r = (code, ready_as e r)
 
+-- what is done in a code by one name is done by another
+pub does_in_as : {code : Code} {i j : Instr} {before : RunState} {end : Option Outcome} {after : RunState} → i ≡ j → DoesIn code j before end after →
+    DoesIn code i before end after
+does_in_as {code} {i} {j} {before} {end} {after} e d = subst (λ (k : Instr). DoesIn code k before end after) (sym e) d
+
+-- the same where it is done in any code
+pub does_as : (code : Code) {i j : Instr} {before : RunState} {end : Option Outcome} {after : RunState} → i ≡ j → Does j before end after →
+    DoesIn code i before end after
+does_as code e d = does_in_as e (d.in_code code)
+
 module _ {S : Type 0} (host : HostMeaning S) where
-  -- an instruction that asks nothing of the host does so on any host, by any name
-  pub does_in_on : {code : Code} {i j : Instr} {before : RunState} {end : Option Outcome} {after : RunState} (stands : S) → i ≡ j →
-      DoesIn code j before end after → DoesOn host code i before stands end after stands
-  does_in_on {code} {i} {j} {before} {end} {after} stands e d = subst (λ (k : Instr). DoesOn host code k before stands end after stands) (sym e) (record {
+  -- an instruction that asks nothing of the host does so on any host
+  pub does_in_on : {code : Code} {i : Instr} {before : RunState} {end : Option Outcome} {after : RunState} (stands : S) →
+      DoesIn code i before end after → DoesOn host code i before stands end after stands
+  does_in_on {code} {i} {before} {end} {after} stands d = record {
     new = [];
     room = d.room;
     leads = λ effects. d.leads (host.is_closed stands) (host.moment stands) (host.active_timers stands) effects
         ∙ ap (λ (es : List Effect). answered end (machine after (host.active_timers stands) es)) (sym (append-nil effects));
     taken = refl;
-  })
-
-  -- the same where it does so in any code
-  pub does_on : (code : Code) {i j : Instr} {before : RunState} {end : Option Outcome} {after : RunState} (stands : S) → i ≡ j →
-      Does j before end after → DoesOn host code i before stands end after stands
-  does_on code stands e d = does_in_on stands e (d.in_code code)
+  }
 
   -- one that asks something of the host is done by any name
   pub does_on_as : {code : Code} {i j : Instr} {before : RunState} {end : Option Outcome} {after : RunState} {stands stands_after : S} → i ≡ j →
@@ -103,4 +108,4 @@ module _ {S : Type 0} (host : HostMeaning S) where
       subst (λ (k : Instr). DoesOn host code k before stands end after stands_after) (sym e) d
 
 -- what is known of an instruction by another name
-pub ruleset by_name = (ready_as, ready_some, does_on, does_in_on, does_on_as)
+pub ruleset by_name = (ready_as, ready_some, does_on_as)

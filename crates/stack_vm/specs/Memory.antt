@@ -1,5 +1,5 @@
 -- The memory of a node's runs.
-use Rattle.std.specs.Prelude.{◌≡◌, ℕ, ◌≤◌, Bool, List, [], ◌∷◌, length, ℤ, slice_set}
+use Rattle.std.specs.Prelude.{ℕ, ◌≤◌, Bool, List, [], ◌∷◌, length, ℤ, slice_set}
 use Rattle.bytecode.specs.declared.code.Code.{Code}
 use Rattle.bytecode.specs.Machine.{Machine}
 use Rattle.bytecode.specs.Runs.{HoldKinds, IsStartOf, Reaches}

@@ -116,11 +116,16 @@ pub(crate) fn payload(state: &State, at: u32) -> [u8; 8]
 pub(crate) fn cells_of(bytes: [u8; 8]) -> [i128; 8]
     ensures { result ≡ map pos bytes }
 {
-    let mut cells = [0i128; 8];
-    for (i, byte) in bytes.iter().enumerate() {
-        cells[i] = i128::from(*byte);
-    }
-    cells
+    [
+        i128::from(bytes[0]),
+        i128::from(bytes[1]),
+        i128::from(bytes[2]),
+        i128::from(bytes[3]),
+        i128::from(bytes[4]),
+        i128::from(bytes[5]),
+        i128::from(bytes[6]),
+        i128::from(bytes[7]),
+    ]
 }
 
 /// The number of a kind that begins at a byte of a payload, its least significant byte.

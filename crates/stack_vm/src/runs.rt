@@ -10,7 +10,7 @@ ghost use Rattle.stack_vm.specs.Runs.{IsRunRefused, Runs};
 ghost use Rattle.vm_host.specs.Host.{FaultsRise, HostStays};
 
 use crate::state::State;
-use crate::step::step;
+use crate::step::{NeedsHost, ask, step};
 use crate::{Memory, Meter};
 use bytecode::{Code, Verified};
 use vm_host::{Host, Outcome, RecordFault};
@@ -64,6 +64,7 @@ pub fn run<H: Host>(
 }
 
 /// Runs from where the state stands up to the end.
+#[inline(never)]
 fn run_on<H: Host>(state: &mut State, code: &Code, host: &mut H) -> Result<Outcome, RecordFault>
     requires verified { IsVerified code.now }
     requires starts { (handler : ℕ) ×
@@ -78,10 +79,21 @@ fn run_on<H: Host>(state: &mut State, code: &Code, host: &mut H) -> Result<Outco
     ensures host_stays { HostStays H.meaning host.old host.new }
 {
     let instrs = code.instrs.as_slice();
+    // The state stands in a local value while no host is asked, so that its parts stay in registers.
+    let mut own = state.move_out();
     loop {
-        let instr = &instrs[state.place()];
-        if let Some(outcome) = step(state, code, host, instr)? {
-            return Ok(outcome);
+        let instr = &instrs[own.place()];
+        match step(&mut own, code, instr) {
+            Ok(None) => {}
+            Ok(Some(outcome)) => {
+                *state = own;
+                return Ok(outcome);
+            }
+            Err(NeedsHost) => {
+                *state = own;
+                ask(state, code, host, instr)?;
+                own = state.move_out();
+            }
         }
     }
 }

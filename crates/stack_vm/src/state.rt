@@ -3,6 +3,7 @@
 use sim_outside::NoMemory;
 use std::alloc::Global;
 use std::marker::Model;
+use std::mem;
 use vm_host::Outcome;
 
 /// A place of the code, the numbers on the stack, where open calls return to, the cells and the
@@ -72,6 +73,23 @@ impl State {
             place: 0,
             turns: 0,
         })
+    }
+
+    /// The state, in whose place one without cells and room is left.
+    pub(crate) fn move_out(&mut self) -> State
+        ensures { result ≡ self.old }
+    {
+        let alloc = self.alloc();
+        let none = State {
+            cells: Vec::new(alloc),
+            stack: Vec::new(alloc),
+            top: 0,
+            calls: Vec::new(alloc),
+            open_calls: 0,
+            place: 0,
+            turns: 0,
+        };
+        mem::replace(self, none)
     }
 
     /// The cells.

@@ -1,8 +1,8 @@
 // One step of the machine.
 
-ghost use Rattle.std.specs.Prelude.{◌≡◌, ◌≤◌, length, IfOk, OnErr, IsErrOf};
+ghost use Rattle.std.specs.Prelude.{◌≡◌, ◌≤◌, length, IfOk, IsErrOf, None, OnErr, OnOk};
 ghost use Rattle.bytecode.specs.Verified.{IsVerified};
-ghost use Rattle.stack_vm.specs.Inside.Step.{DoesOn, IsReady};
+ghost use Rattle.stack_vm.specs.Inside.Step.{AsksHost, DoesIn, DoesOn, IsReady};
 ghost use Rattle.stack_vm.specs.Runs.{IsRefusal, MayBeRefused};
 ghost use Rattle.vm_host.specs.Host.{FaultsRise, HostStays};
 
@@ -11,25 +11,26 @@ use crate::{calls, cells, effects, jumps, messages, operands};
 use bytecode::{Code, Instr};
 use vm_host::{Host, Outcome, RecordFault};
 
+/// An instruction asks something of the host, which is not at hand.
+#[derive(Clone, Copy, Debug)]
+pub(crate) struct NeedsHost;
+
 /// Does an instruction. Gives how the run has ended, or `None` where it goes on.
-#[inline]
+///
+/// # Errors
+///
+/// The instruction asks the host. The state is then as before.
+#[inline(always)]
 #[tactic(auto, using(crate::proofs::StepLemmas::by_name))]
-pub(crate) fn step<H: Host>(
+pub(crate) fn step(
     state: &mut State,
     code: &Code,
-    host: &mut H,
     instr: &Instr,
-) -> Result<Option<Outcome>, RecordFault>
-    requires verified { IsVerified code.now }
-    requires ready { IsReady code.now instr.now state.old }
-    requires timers { length code.now.timers ≤ length (H.meaning.active_timers host.old) }
-    ensures does { IfOk result (λ end.
-        DoesOn H.meaning code.now instr.now state.old host.old end state.new host.new) }
-    ensures refused { OnErr result (IsRefusal H.meaning host.old host.new) }
-    ensures may_be { OnErr result (MayBeRefused instr.now) }
-    ensures sink { IsErrOf result RecordFault.Sink → FaultsRise H.meaning host.old host.new }
+) -> Result<Option<Outcome>, NeedsHost>
+    requires { IsReady code.now instr.now state.old }
+    ensures does { IfOk result (λ end. DoesIn code.now instr.now state.old end state.new) }
+    ensures asks { OnErr result (AsksHost instr.now) }
     ensures stays { OnErr result (state.new ≡ state.old) }
-    ensures host_stays { HostStays H.meaning host.old host.new }
 {
     match *instr {
         Instr::Push(n) => operands::push(state, n),
@@ -57,14 +58,48 @@ pub(crate) fn step<H: Host>(
         Instr::Turn => return Ok(calls::turn(state).err()),
         Instr::Call(f) => return Ok(calls::call(state, code, f).err()),
         Instr::Ret => return Ok(calls::leave(state).err()),
+        Instr::Copy(to, from) => messages::copy(state, to, from),
+        Instr::Write(_)
+        | Instr::Send(_)
+        | Instr::Stop
+        | Instr::Set(..)
+        | Instr::Cancel(_)
+        | Instr::Active(_)
+        | Instr::Now => return Err(NeedsHost),
+    }
+    Ok(None)
+}
+
+/// Does an instruction that asks the host.
+#[inline(never)]
+#[tactic(auto, using(crate::proofs::StepLemmas::by_name))]
+pub(crate) fn ask<H: Host>(
+    state: &mut State,
+    code: &Code,
+    host: &mut H,
+    instr: &Instr,
+) -> Result<(), RecordFault>
+    requires verified { IsVerified code.now }
+    requires ready { IsReady code.now instr.now state.old }
+    requires asks { AsksHost instr.now }
+    requires timers { length code.now.timers ≤ length (H.meaning.active_timers host.old) }
+    ensures does { OnOk result (
+        DoesOn H.meaning code.now instr.now state.old host.old None state.new host.new) }
+    ensures refused { OnErr result (IsRefusal H.meaning host.old host.new) }
+    ensures may_be { OnErr result (MayBeRefused instr.now) }
+    ensures sink { IsErrOf result RecordFault.Sink → FaultsRise H.meaning host.old host.new }
+    ensures stays { OnErr result (state.new ≡ state.old) }
+    ensures host_stays { HostStays H.meaning host.old host.new }
+{
+    match *instr {
         Instr::Write(f) => effects::write(state, code, host, f)?,
         Instr::Send(at) => effects::send(state, host, at)?,
-        Instr::Copy(to, from) => messages::copy(state, to, from),
         Instr::Stop => effects::stop(state, host),
         Instr::Set(timer, cyclic) => effects::set(state, code, host, timer, cyclic),
         Instr::Cancel(timer) => effects::cancel(state, host, timer),
         Instr::Active(timer) => effects::active(state, host, timer),
         Instr::Now => effects::now(state, host),
+        _ => unreachable!(),
     }
-    Ok(None)
+    Ok(())
 }

@@ -1,5 +1,5 @@
 -- One step of a run, as the machine's table has it.
-use Rattle.std.specs.Prelude.{◌≡◌, ◌≢◌, ℕ, ◌+◌, ◌^◌, ◌<◌, ◌≤◌, Bool, List, ◌++◌, length, Option, Some, None}
+use Rattle.std.specs.Prelude.{◌≡◌, ◌≢◌, ℕ, ◌+◌, ◌^◌, ◌<◌, ◌≤◌, Bool, List, ◌++◌, length, Option, Some, None, ⊤}
 use Rattle.std.specs.List.{AllByRecursion}
 use Rattle.int_kinds.specs.Kind.{IsNumber}
 use Rattle.vm_host.specs.Effect.{Effect}
@@ -7,6 +7,7 @@ use Rattle.vm_host.specs.Host.{HostMeaning}
 use Rattle.vm_host.specs.declared.outcome.Outcome.{Outcome}
 use Rattle.bytecode.specs.declared.code.Code.{Code}
 use Rattle.bytecode.specs.declared.instr.Instr.{Instr}
+use Rattle.bytecode.specs.declared.instr.Instr.TheVariants.{Write, Send, Stop, Set, Cancel, Active, Now}
 use Rattle.bytecode.specs.Machine.{Machine, Next, Goes, Ends, Stuck}
 use Rattle.bytecode.specs.Rule.{NamesWhatExists}
 use Rattle.bytecode.specs.Runs.{HoldKinds}
@@ -20,6 +21,17 @@ use Rattle.stack_vm.specs.Inside.State.{HasSameRoom, RunState, machine}
 abbrev pub answered : Option Outcome → Machine → Next
 answered None m = Goes m
 answered (Some outcome) m = Ends outcome m
+
+-- an instruction that asks something of the host
+abbrev pub AsksHost : Instr → Type 0
+AsksHost (Write format) = ⊤
+AsksHost (Send at) = ⊤
+AsksHost Stop = ⊤
+AsksHost (Set timer cyclic) = ⊤
+AsksHost (Cancel timer) = ⊤
+AsksHost (Active timer) = ⊤
+AsksHost Now = ⊤
+AsksHost _ = ⊥
 
 -- the row of an instruction that asks nothing of the host leads from a state to another in this code, where
 -- the machine goes on or has ended

@@ -1,5 +1,5 @@
 -- A timer that is set.
-use Rattle.std.proofs.Common.{◌≡◌, ◌≤◌, ◌+◌, ℕ, Bool, true, false, List, length, get_or, drop, slice_get, Some, ap, ◌∙◌, subst, refl, arith, inl, inr, ◌⊎◌, ⊎_elim}
+use Rattle.std.proofs.Common.{◌≡◌, ◌+◌, ℕ, Bool, true, false, List, get_or, drop, slice_get, Some, ap, ◌∙◌, subst, refl}
 use Rattle.std.specs.Prelude.{ℤ, pos, slice_set}
 use Rattle.vm_host.specs.Effect as effect
 use Rattle.vm_host.specs.Host.{TakesUnlessClosed}

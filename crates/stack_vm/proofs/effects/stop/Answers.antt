@@ -1,5 +1,5 @@
 -- The wish to stop the measurement.
-use Rattle.std.proofs.Common.{◌+◌, Bool, true, false, List, refl}
+use Rattle.std.proofs.Common.{◌+◌, true, false, refl}
 use Rattle.vm_host.specs.Effect as effect
 use Rattle.bytecode.specs.declared.instr.Instr.TheVariants.{Stop}
 use Rattle.stack_vm.specs.Inside.State.{RunState}

@@ -5,7 +5,6 @@ use mir.Val.{bool_byte}
 use Rattle.can_frame.specs.Frame.{FrameFields}
 use Rattle.message_cells.specs.Message.{id_of, message_kinds}
 use Rattle.bytecode.specs.Runs.{HoldKinds}
-use Rattle.stack_vm.specs.Frame.{message_of}
 use Rattle.stack_vm.proofs.FrameLemmas.{HoldKinds-message, byte_in_cell, id_of-lt, word_in_cell}
 use Rattle.stack_vm.proofs.ListLemmas.{eight_items}
 use Rattle.stack_vm.proofs.frame.message.Goals as goal

@@ -1,5 +1,5 @@
 -- The number at a byte of a payload.
-use Rattle.std.proofs.Common.{◌≡◌, ◌+◌, ◌-◌, ℕ, List, ◌∷◌, get_or, drop, Ok, Err, Some, None, sym, ap, ◌∙◌, refl}
+use Rattle.std.proofs.Common.{◌≡◌, ◌+◌, ◌-◌, ℕ, List, ◌∷◌, get_or, drop, Ok, Err, None, sym, ap, ◌∙◌, refl}
 use Rattle.std.specs.Prelude.{ℤ, pos}
 use Rattle.std.specs.Int.{cast_signed, cast_unsigned, w128}
 use Rattle.std.specs.Result.{result_err}

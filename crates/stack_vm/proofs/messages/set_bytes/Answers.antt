@@ -1,5 +1,5 @@
 -- A number that is put in a payload.
-use Rattle.std.proofs.Common.{◌≡◌, ◌<◌, ◌+◌, ◌-◌, ℕ, List, ◌∷◌, get_or, length, take, drop, map, Ok, Err, Some, None, sym, ap, ◌∙◌, subst, arith, length-take, refl}
+use Rattle.std.proofs.Common.{◌≡◌, ◌<◌, ◌+◌, ◌-◌, ℕ, List, ◌∷◌, get_or, length, take, drop, map, Ok, Err, None, sym, ap, ◌∙◌, subst, arith, length-take, refl}
 use Rattle.std.specs.Prelude.{ℤ, pos}
 use Rattle.std.specs.Int.{cast_signed, cast_unsigned, to_le_bytes, w64, w128}
 use Rattle.std.specs.List.{splice, take-map}

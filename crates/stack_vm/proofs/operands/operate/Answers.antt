@@ -1,5 +1,5 @@
 -- The value of an operator.
-use Rattle.std.proofs.Common.{◌≡◌, ◌+◌, List, ◌∷◌, get_or, drop, Some, None, ap, ◌∙◌, sym, refl, arith}
+use Rattle.std.proofs.Common.{◌≡◌, ◌+◌, ◌∷◌, get_or, drop, Some, None, ap, ◌∙◌, sym, refl, arith}
 use Rattle.std.specs.Prelude.{ℤ, pos}
 use Rattle.std.specs.Int.{cast_signed, cast_unsigned, w128}
 use Rattle.int_kinds.specs.Arithmetic.{value}

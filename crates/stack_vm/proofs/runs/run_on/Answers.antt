@@ -1,16 +1,17 @@
 -- Each step goes further, ends the run or is refused.
-use Rattle.std.proofs.Common.{◌≤◌, ◌+◌, ◌<◌, ◌^◌, length, sym, ap, arith, subst}
+use Rattle.std.proofs.Common.{◌+◌, ◌<◌, ◌^◌, length, refl, sym, ap, ◌∙◌, arith, subst}
 use Rattle.std.specs.Prelude.{pos}
-use Rattle.vm_host.proofs.HostLemmas.{HostStays-trans}
+use Rattle.vm_host.proofs.HostLemmas.{HostStays-refl}
 use Rattle.bytecode.specs.Runs.{HoldKinds}
 use Rattle.bytecode.specs.declared.instr.Instr.TheVariants.{Push}
 use Rattle.stack_vm.specs.Inside.State.{RunState}
 use Rattle.stack_vm.proofs.ListLemmas.{item_read}
-use Rattle.stack_vm.proofs.RunSteps.{cells_then, comes_at_first, ends_here, fewer_then, goes_further, place_there, ready, refused_there, room_then, stands, timers_there}
+use Rattle.stack_vm.proofs.RunSteps.{cells_then, comes_as, comes_at_first, ends_here, fewer_then, goes_further, place_there, ready, refused_there, stands}
+use Rattle.stack_vm.proofs.StepLemmas.{does_in_on}
 use Rattle.stack_vm.proofs.runs.run_on.Goals as goal
 
 pub loop-outcome-init : goal.loop-outcome-init
-loop-outcome-init g c = comes_at_first g.H.Host.meaning c.args.code.now c.args.state.now c.args.host.now
+loop-outcome-init g c = comes_as c.move_out-own.ensures (comes_at_first g.H.Host.meaning c.args.code.now c.args.state.now c.args.host.now)
 
 pub offset_bounds-instrs-place : goal.offset_bounds-instrs-place
 offset_bounds-instrs-place g c =
@@ -22,54 +23,73 @@ bounds-instrs-place g c =
     let below = place_there c.requires.verified c.requires.starts.1 c.requires.room c.loop-outcome.invariant in
     omega (arith, below, c.place.ensures, ap length c.as_slice-instrs.ensures)
 
-pub step-requires-clause-ready : goal.step-requires-clause-ready
-step-requires-clause-ready g c =
+pub step-requires : goal.step-requires
+step-requires g c =
     let below = place_there c.requires.verified c.requires.starts.1 c.requires.room c.loop-outcome.invariant in
     let there = item_read c.args.code.now.instrs c.as_slice-instrs.ensures c.place.ensures below (Push (pos 0)) in
-    let next : c.loop-outcome.state.place + 1 < 2 ^ 64 = omega (arith, below, c.as_slice-instrs.type_inv.0, ap length c.as_slice-instrs.ensures) in
+    let next : c.loop-outcome.own.place + 1 < 2 ^ 64 = omega (arith, below, c.as_slice-instrs.type_inv.0, ap length c.as_slice-instrs.ensures) in
     ready c.requires.verified c.requires.starts.1 c.requires.room c.loop-outcome.invariant there next
 
-pub step-requires-clause-timers : goal.step-requires-clause-timers
-step-requires-clause-timers g c = timers_there c.requires.verified c.requires.starts.1 c.requires.room c.loop-outcome.invariant
-
-pub returns-in-Some-clause-ends : goal.returns-in-Some-clause-ends
-returns-in-Some-clause-ends g c =
+pub loop-outcome-smaller-in-Ok-None : goal.loop-outcome-smaller-in-Ok-None
+loop-outcome-smaller-in-Ok-None g c =
     let below = place_there c.requires.verified c.requires.starts.1 c.requires.room c.loop-outcome.invariant in
     let there = item_read c.args.code.now.instrs c.as_slice-instrs.ensures c.place.ensures below (Push (pos 0)) in
-    ends_here c.requires.verified c.requires.starts.1 c.requires.room c.loop-outcome.invariant there c.in_ok-outcome.ensures.does c.in-Some.is
+    fewer_then c.requires.verified c.requires.starts.1 c.requires.room c.loop-outcome.invariant there
+    (does_in_on g.H.Host.meaning c.loop-outcome.host c.in-Ok-None.ensures.does) c.in-Ok-None.field-0-is
 
-pub returns-in-Some-clause-cells_held : goal.returns-in-Some-clause-cells_held
-returns-in-Some-clause-cells_held g c =
+pub loop-outcome-preserved-in-Ok-None : goal.loop-outcome-preserved-in-Ok-None
+loop-outcome-preserved-in-Ok-None g c =
     let below = place_there c.requires.verified c.requires.starts.1 c.requires.room c.loop-outcome.invariant in
     let there = item_read c.args.code.now.instrs c.as_slice-instrs.ensures c.place.ensures below (Push (pos 0)) in
-    cells_then c.requires.verified c.requires.starts.1 c.requires.room c.loop-outcome.invariant there c.in_ok-outcome.ensures.does c.in-Some.is
+    goes_further c.requires.verified c.requires.starts.1 c.requires.room c.loop-outcome.invariant there
+    (does_in_on g.H.Host.meaning c.loop-outcome.host c.in-Ok-None.ensures.does) c.in-Ok-None.field-0-is (HostStays-refl g.H.Host.meaning c.loop-outcome.host)
 
-pub returns-in-Some-clause-same_room : goal.returns-in-Some-clause-same_room
-returns-in-Some-clause-same_room g c =
+pub returns-in-Ok-Some-clause-ends : goal.returns-in-Ok-Some-clause-ends
+returns-in-Ok-Some-clause-ends g c =
     let below = place_there c.requires.verified c.requires.starts.1 c.requires.room c.loop-outcome.invariant in
     let there = item_read c.args.code.now.instrs c.as_slice-instrs.ensures c.place.ensures below (Push (pos 0)) in
-    room_then c.requires.verified c.requires.starts.1 c.requires.room c.loop-outcome.invariant there c.in_ok-outcome.ensures.does
+    rw c.in-Ok-Some.field-0-is
+    (ends_here c.requires.verified c.requires.starts.1 c.requires.room c.loop-outcome.invariant there
+    (does_in_on g.H.Host.meaning c.loop-outcome.host c.in-Ok-Some.ensures.does) c.in-Ok-Some.field-0-is)
+
+pub returns-in-Ok-Some-clause-cells_held : goal.returns-in-Ok-Some-clause-cells_held
+returns-in-Ok-Some-clause-cells_held g c =
+    let below = place_there c.requires.verified c.requires.starts.1 c.requires.room c.loop-outcome.invariant in
+    let there = item_read c.args.code.now.instrs c.as_slice-instrs.ensures c.place.ensures below (Push (pos 0)) in
+    cells_then c.requires.verified c.requires.starts.1 c.requires.room c.loop-outcome.invariant there
+    (does_in_on g.H.Host.meaning c.loop-outcome.host c.in-Ok-Some.ensures.does) c.in-Ok-Some.field-0-is
+
+pub ask-requires-clause-ready : goal.ask-requires-clause-ready
+ask-requires-clause-ready g c =
+    let comes = comes_as c.in-Err.ensures.stays c.loop-outcome.invariant in
+    let below = place_there c.requires.verified c.requires.starts.1 c.requires.room comes in
+    let there = item_read c.args.code.now.instrs c.as_slice-instrs.ensures (c.place.ensures ∙ ap (λ (s : RunState). s.place) (sym c.in-Err.ensures.stays)) below (Push (pos 0)) in
+    let next : c.step.new.state.place + 1 < 2 ^ 64 = omega (arith, below, c.as_slice-instrs.type_inv.0, ap length c.as_slice-instrs.ensures) in
+    ready c.requires.verified c.requires.starts.1 c.requires.room comes there next
+
+pub returns-in_err-ask-in-Err-clause-refused : goal.returns-in_err-ask-in-Err-clause-refused
+returns-in_err-ask-in-Err-clause-refused g c =
+    let below = place_there c.requires.verified c.requires.starts.1 c.requires.room c.loop-outcome.invariant in
+    let there = item_read c.args.code.now.instrs c.as_slice-instrs.ensures c.place.ensures below (Push (pos 0)) in
+    refused_there c.from_residual.result c.loop-outcome.invariant there c.in_err-ask-in-Err.ensures.may_be c.in_err-ask-in-Err.ensures.refused
+
+pub returns-in_err-ask-in-Err-clause-cells_held : goal.returns-in_err-ask-in-Err-clause-cells_held
+returns-in_err-ask-in-Err-clause-cells_held g c =
+    let held = (stands c.requires.verified c.requires.starts.1 c.requires.room c.loop-outcome.invariant).cells_held in
+    subst (λ (s : RunState). HoldKinds c.args.code.now.cells s.cells) (sym (c.in_err-ask-in-Err.ensures.stays ∙ c.in-Err.ensures.stays)) held
 
 pub loop-outcome-smaller : goal.loop-outcome-smaller
 loop-outcome-smaller g c =
-    let below = place_there c.requires.verified c.requires.starts.1 c.requires.room c.loop-outcome.invariant in
-    let there = item_read c.args.code.now.instrs c.as_slice-instrs.ensures c.place.ensures below (Push (pos 0)) in
-    fewer_then c.requires.verified c.requires.starts.1 c.requires.room c.loop-outcome.invariant there c.in_ok-outcome.ensures.does c.in_default.is
+    let comes = comes_as c.in-Err.ensures.stays c.loop-outcome.invariant in
+    let below = place_there c.requires.verified c.requires.starts.1 c.requires.room comes in
+    let there = item_read c.args.code.now.instrs c.as_slice-instrs.ensures (c.place.ensures ∙ ap (λ (s : RunState). s.place) (sym c.in-Err.ensures.stays)) below (Push (pos 0)) in
+    rw (c.move_out-own-in-Err.ensures, sym c.in-Err.ensures.stays)
+    (fewer_then c.requires.verified c.requires.starts.1 c.requires.room comes there c.in_ok-ask-in-Err.ensures.does refl)
 
 pub loop-outcome-preserved : goal.loop-outcome-preserved
 loop-outcome-preserved g c =
-    let below = place_there c.requires.verified c.requires.starts.1 c.requires.room c.loop-outcome.invariant in
-    let there = item_read c.args.code.now.instrs c.as_slice-instrs.ensures c.place.ensures below (Push (pos 0)) in
-    goes_further c.requires.verified c.requires.starts.1 c.requires.room c.loop-outcome.invariant there c.in_ok-outcome.ensures.does c.in_default.is
-    c.in_ok-outcome.ensures.host_stays
-
-pub returns-in_err-outcome-clause-cells_held : goal.returns-in_err-outcome-clause-cells_held
-returns-in_err-outcome-clause-cells_held g c =
-    let held = (stands c.requires.verified c.requires.starts.1 c.requires.room c.loop-outcome.invariant).cells_held in
-    subst (λ (s : RunState). HoldKinds c.args.code.now.cells s.cells) (sym c.in_err-outcome.ensures.stays) held
-
-pub returns-in_err-outcome-clause-refused : goal.returns-in_err-outcome-clause-refused
-returns-in_err-outcome-clause-refused g c =
-    let below = place_there c.requires.verified c.requires.starts.1 c.requires.room c.loop-outcome.invariant in
-    let there = item_read c.args.code.now.instrs c.as_slice-instrs.ensures c.place.ensures below (Push (pos 0)) in
-    refused_there c.from_residual.result c.loop-outcome.invariant there c.in_err-outcome.ensures.may_be c.in_err-outcome.ensures.refused
+    let comes = comes_as c.in-Err.ensures.stays c.loop-outcome.invariant in
+    let below = place_there c.requires.verified c.requires.starts.1 c.requires.room comes in
+    let there = item_read c.args.code.now.instrs c.as_slice-instrs.ensures (c.place.ensures ∙ ap (λ (s : RunState). s.place) (sym c.in-Err.ensures.stays)) below (Push (pos 0)) in
+    comes_as c.move_out-own-in-Err.ensures
+    (goes_further c.requires.verified c.requires.starts.1 c.requires.room comes there c.in_ok-ask-in-Err.ensures.does refl c.in_ok-ask-in-Err.ensures.host_stays)

@@ -5,7 +5,6 @@ use Rattle.int_kinds.specs.Kind.{Holds}
 use Rattle.message_cells.specs.Message.{message_kinds}
 use Rattle.bytecode.proofs.ZippedLists.{AllZip-same_length}
 use Rattle.stack_vm.specs.Memory.{IsMemoryOf, MemoryState}
-use Rattle.stack_vm.specs.Inside.State.{RunState}
 use Rattle.stack_vm.proofs.MemoryLemmas.{HoldKinds-event, memory_of}
 use Rattle.stack_vm.proofs.memory.Memory.set_frame.Goals as goal
 
