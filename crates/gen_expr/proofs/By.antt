@@ -3,6 +3,6 @@
 unfoldable pub use Rattle.typed_tree.specs.declared.expression.Place.TheBlock.{hidden-the_row-TExpr-0 as tree}
 unfoldable pub use denote.Hole.Carrier.{hidden as row}
 use Rattle.gen_expr.proofs.Emitted.{value_some}
-use Rattle.gen_expr.proofs.Rows.{call_size}
+use Rattle.code_size.proofs.Rows.{call_size}
 
 pub ruleset form = (call_size, value_some)

@@ -1,6 +1,6 @@
 -- The code of each form, appended piece by piece: what each piece appends is known, and where a later one begins.
-use Rattle.std.specs.Prelude.{◌≡◌, ℕ, ◌+◌, ◌<◌, ◌≤◌, Bool, true, false, if◌then◌else◌, List, [], ◌∷◌, ◌++◌, length, sum_by, pos}
-use Rattle.std.proofs.Common.{refl, ap, sym, ◌∙◌, arith, append_assoc, get_or, drop}
+use Rattle.std.specs.Prelude.{◌≡◌, ℕ, ◌+◌, ◌<◌, ◌≤◌, Bool, true, false, if◌then◌else◌, List, [], ◌∷◌, ◌++◌, length, pos}
+use Rattle.std.proofs.Common.{ap, arith, append_assoc, get_or, drop}
 use Rattle.int_kinds.specs.declared.kinds.Kind.{Kind}
 use Rattle.int_kinds.specs.declared.operators.BinOp.{BinOp}
 use Rattle.int_kinds.specs.declared.operators.UnOp.{UnOp}
@@ -21,7 +21,7 @@ use Rattle.typed_code.specs.Expression.{index_code, params_code, prefix_instr, t
 use Rattle.typed_code.specs.Listing.{Listing, instr_if}
 use Rattle.typed_code.specs.Place.{index_count, index_depth, read_instr, write_instr}
 use Rattle.typed_code.specs.Statement.{values_code}
-use Rattle.gen_expr.proofs.Listings.{drop_next}
+use Rattle.code_size.proofs.Steps.{drop_next}
 use Rattle.gen_expr.proofs.Rows.{call_code}
 
 module _ (typed : Typed) (e : TExpr) (old : Listing) (depth : ℕ) where

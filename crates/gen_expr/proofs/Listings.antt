@@ -1,7 +1,6 @@
 -- Listings made of instructions and their depths, and code that is appended piece by piece.
-use Rattle.std.specs.Prelude.{◌≡◌, ℕ, zero, suc, ◌+◌, ◌<◌, List, [], ◌∷◌, ◌++◌, length, zip, slice_get, slice_set, Some, IsSomeAnd}
-use Rattle.std.proofs.Common.{refl, ap, sym, ◌∙◌, arith, get_or, drop, drop-cons, add-one}
-use Rattle.std.proofs.lemmas.Option.{slice_get_within}
+use Rattle.std.specs.Prelude.{◌≡◌, ℕ, zero, suc, ◌<◌, List, [], ◌∷◌, ◌++◌, length, zip, slice_get, slice_set, Some, IsSomeAnd}
+use Rattle.std.proofs.Common.{refl, ap, ◌∙◌, arith, get_or}
 use Rattle.std.proofs.lemmas.Slice.Zip.{length-zip}
 
 module _ {A B : Type 0} where
@@ -45,8 +44,3 @@ module _ {A B : Type 0} where
   zip_set (a' ∷ xs) (b' ∷ ys) zero x a b there =
       let p : ◌≡◌ {A = A × B} (a', b') (a, b) = cc in ap (λ q. (x, q.1) ∷ zip xs ys) p
   zip_set (a' ∷ xs) (b' ∷ ys) (suc i) x a b there = ap (λ l. (a', b') ∷ l) (zip_set xs ys i x a b there)
-
--- the items from one on are it and those behind it
-pub drop_next : {A : Type 0} (xs : List A) (i : ℕ) (x : A) → i < length xs → x ≡ get_or xs i x →
-    drop i xs ≡ x ∷ drop (i + 1) xs
-drop_next xs i x within is = rw add-one (drop-cons xs i x within ∙ ap (λ y. y ∷ drop (suc i) xs) (sym is))

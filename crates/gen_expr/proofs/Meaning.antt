@@ -1,8 +1,7 @@
 -- Code that stands at its place does what the expression means.
-use Rattle.std.specs.Prelude.{◌≡◌, ℕ, ◌+◌, List, [], ◌∷◌, ◌++◌, length, drop, ℤ}
+use Rattle.std.specs.Prelude.{◌≡◌, ℕ, ◌+◌, List, [], ◌∷◌, ◌++◌, length, drop}
 use Rattle.std.proofs.Common.{refl}
 use Rattle.bytecode.specs.declared.code.Code.{Code}
-use Rattle.worlds.specs.World.{World}
 use Rattle.worlds.specs.Control.{Calls}
 use Rattle.typed_tree.specs.declared.expression.TExpr.{TExpr}
 use Rattle.typed_tree.specs.declared.program.Typed.{Typed}

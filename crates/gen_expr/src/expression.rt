@@ -12,11 +12,11 @@ use crate::emitter::Emitter;
 use crate::exit::{Exit, exit_instr, own_truth};
 use crate::parts::{
     Bump, Update, add_bump, add_check, add_exit, add_params, add_read, add_read_again, add_truth,
-    add_update, prefix_instr, test_op, write_instr,
+    add_update, index_depth, prefix_instr, test_op, write_instr,
 };
-use crate::shape::{index_depth, is_comparison, is_not, params_of};
-use crate::size::{test_size, truth_size, value_size};
+use crate::size::{test_size, value_size};
 use bytecode::Instr;
+use code_size::{is_comparison, is_not, params_of, truth_size};
 use sim_outside::NoMemory;
 use typed_code::laws::expressions_do_what_they_mean;
 use typed_tree::{Place, TExpr, Typed};

@@ -10,14 +10,12 @@
 pub use emitter::Emitter;
 pub use exit::Exit;
 pub use expression::{emit, emit_dropped, emit_test, emit_values};
-pub use shape::leaves_number;
-pub use size::{dropped_size, test_size, value_size, values_size};
+pub use size::{test_size, value_size};
 
 mod emitter;
 mod exit;
 mod expression;
 mod parts;
-mod shape;
 mod size;
 #[cfg(test)]
 mod tests;

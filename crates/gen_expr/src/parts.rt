@@ -12,8 +12,8 @@ ghost use Rattle.gen_expr.specs.Exit.{exit_of};
 
 use crate::emitter::Emitter;
 use crate::exit::{Exit, exit_instr, own_truth};
-use crate::shape::{has_index, index_depth, is_checked_first, is_truth, is_wrapped_first, kind_of};
 use bytecode::Instr;
+use code_size::{has_index, is_checked_first, is_truth, is_wrapped_first, kind_of};
 use int_kinds::{BinOp, Kind, UnOp, bits};
 use sim_outside::NoMemory;
 use typed_tree::{Place, TExpr, Typed};
@@ -95,6 +95,13 @@ pub(crate) fn test_op(when: bool, exit: Exit, op: BinOp) -> BinOp
     } else {
         opposite_op(op)
     }
+}
+
+/// How many numbers a place has on the stack while it is used.
+pub(crate) fn index_depth(place: &Place) -> u32
+    ensures { result ≡ index_depth place.now }
+{
+    u32::from(has_index(place))
 }
 
 /// How many indices a place has: an index counts from 0 on and is below this.

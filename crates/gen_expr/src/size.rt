@@ -1,175 +1,25 @@
-// How many instructions the code of an expression has.
+// How many instructions the code of an expression has, as a number of places.
 
 ghost use Rattle.std.specs.Prelude.{◌≡◌, ◌<◌, ◌^◌, sum_by};
-ghost use Rattle.typed_tree.specs.Size.{bump_size, dropped_size, exit_size, index_size, one_if, test_size, truth_size, value_size};
+ghost use Rattle.typed_tree.specs.Size.{dropped_size, test_size, value_size};
 
-use crate::shape::{
-    has_index, is_checked_first, is_comparison, is_not, is_truth, is_wrapped_first, params_of,
-};
-use typed_tree::{Place, TExpr, Typed};
-
-/// 1 where something is needed, and 0 otherwise.
-fn one_if(needed: bool) -> u32
-    ensures { result ≡ one_if needed }
-{
-    u32::from(needed)
-}
-
-/// The size of an exit for a truth, behind the number that decides, where the exit's own instruction
-/// goes there for the truth `fires`.
-fn exit_size(when: bool, fires: bool) -> u32
-    ensures { result ≡ exit_size when fires }
-{
-    if when == fires { 1 } else { 2 }
-}
-
-/// The size of what brings a number to 0 or 1.
-pub(crate) fn truth_size(e: &TExpr) -> u32
-    ensures { result ≡ truth_size e.now }
-{
-    if is_truth(e) { 0 } else { 2 }
-}
-
-/// The size of what adds 1 to a place, or takes 1 from it, behind the code of its index.
-fn bump_size(place: &Place, post: bool) -> u32
-    ensures { result ≡ bump_size place.now post }
-{
-    one_if(has_index(place)) + 4 + if post { 2 } else { 0 }
-}
+use typed_tree::{TExpr, Typed};
 
 /// How many instructions the code of an expression has as a value. Takes time linear in the
 /// expression.
-#[cycle(sizes)]
-#[tactic(auto, using(crate::proofs::By::form), unfolding(crate::proofs::By::tree, crate::proofs::By::row))]
 pub fn value_size(e: &TExpr, typed: &Typed) -> u32
     requires { value_size typed.now e.now < 2 ^ 32 }
     ensures { result ≡ value_size typed.now e.now }
 {
-    match e {
-        TExpr::Const(_) | TExpr::Active { .. } | TExpr::Now => 1,
-        TExpr::Load(place) => index_size(place, typed) + 1,
-        TExpr::Store { place, value } => {
-            let check = one_if(is_checked_first(place, value.get()));
-            index_size(place, typed) + (check + (value_size(value.get(), typed) + 1))
-        }
-        TExpr::Update {
-            back,
-            place,
-            value,
-            ..
-        } => {
-            let again = one_if(has_index(place));
-            let wrapped = one_if(is_wrapped_first(place, *back, typed));
-            let operator = 1 + (wrapped + 1);
-            index_size(place, typed) + (again + (1 + (value_size(value.get(), typed) + operator)))
-        }
-        TExpr::Bump { place, post, .. } => index_size(place, typed) + bump_size(place, *post),
-        TExpr::Unary { inner, .. } => value_size(inner.get(), typed) + 1,
-        TExpr::Binary { left, right, .. } => {
-            value_size(left.get(), typed) + (value_size(right.get(), typed) + 1)
-        }
-        TExpr::Both { left, right } => {
-            let truth = truth_size(right.get());
-            test_size(left.get(), typed, false, false)
-                + (value_size(right.get(), typed) + (truth + 2))
-        }
-        TExpr::Either { left, right } => {
-            let truth = truth_size(right.get());
-            test_size(left.get(), typed, false, false)
-                + (2 + (value_size(right.get(), typed) + truth))
-        }
-        TExpr::Cond { test, yes, no } => {
-            let values = value_size(yes.get(), typed) + (1 + value_size(no.get(), typed));
-            test_size(test.get(), typed, false, false) + values
-        }
-        TExpr::Convert { inner, .. } => value_size(inner.get(), typed) + 1,
-        TExpr::Call { function, args } => {
-            let params = params_of(*function, typed).len() as u32;
-            values_size(args.as_slice(), typed) + (2 * params + 1)
-        }
-    }
+    code_size::value_size(e, typed) as u32
 }
 
 /// How many instructions the code of an expression has as a test that goes to an exit where the
 /// expression's truth is `when`, and whose own instruction goes there for the truth `fires`: not 0 for
 /// an exit back, and 0 for one forward. Takes time linear in the expression.
-#[cycle(sizes)]
 pub fn test_size(e: &TExpr, typed: &Typed, when: bool, fires: bool) -> u32
     requires { test_size typed.now when fires e.now < 2 ^ 32 }
     ensures { result ≡ test_size typed.now when fires e.now }
 {
-    match e {
-        TExpr::Unary { op, inner, .. } if is_not(*op) => {
-            test_size(inner.get(), typed, !when, fires)
-        }
-        TExpr::Binary { op, .. } if is_comparison(*op) => value_size(e, typed) + 1,
-        TExpr::Both { left, right } => {
-            let goes = if when { false } else { fires };
-            test_size(left.get(), typed, false, goes) + test_size(right.get(), typed, when, fires)
-        }
-        TExpr::Either { left, right } => {
-            let goes = if when { fires } else { false };
-            test_size(left.get(), typed, true, goes) + test_size(right.get(), typed, when, fires)
-        }
-        TExpr::Const(_)
-        | TExpr::Load(_)
-        | TExpr::Store { .. }
-        | TExpr::Update { .. }
-        | TExpr::Bump { .. }
-        | TExpr::Unary { .. }
-        | TExpr::Binary { .. }
-        | TExpr::Cond { .. }
-        | TExpr::Convert { .. }
-        | TExpr::Call { .. }
-        | TExpr::Active { .. }
-        | TExpr::Now => value_size(e, typed) + exit_size(when, fires),
-    }
-}
-
-/// The size of a place's index.
-#[cycle(sizes)]
-fn index_size(place: &Place, typed: &Typed) -> u32
-    requires { index_size typed.now place.now < 2 ^ 32 }
-    ensures { result ≡ index_size typed.now place.now }
-{
-    match place {
-        Place::Elem { index, .. } | Place::Bytes { index, .. } => value_size(index.get(), typed),
-        Place::Cell { .. } | Place::Set { .. } | Place::Signal { .. } => 0,
-    }
-}
-
-/// How many instructions the codes of expressions have together, each as a value.
-#[cycle(sizes)]
-pub fn values_size(all: &[TExpr], typed: &Typed) -> u32
-    requires { sum_by (value_size typed.now) all.now < 2 ^ 32 }
-    ensures { result ≡ sum_by (value_size typed.now) all.now }
-{
-    let mut size = 0;
-    for e in all {
-        size += value_size(e, typed);
-    }
-    size
-}
-
-/// How many instructions the code of an expression has whose value is dropped, without the drop.
-pub fn dropped_size(e: &TExpr, typed: &Typed) -> u32
-    requires { dropped_size typed.now e.now < 2 ^ 32 }
-    ensures { result ≡ dropped_size typed.now e.now }
-{
-    match e {
-        TExpr::Bump { place, .. } => index_size(place, typed) + bump_size(place, false),
-        TExpr::Const(_)
-        | TExpr::Load(_)
-        | TExpr::Store { .. }
-        | TExpr::Update { .. }
-        | TExpr::Unary { .. }
-        | TExpr::Binary { .. }
-        | TExpr::Both { .. }
-        | TExpr::Either { .. }
-        | TExpr::Cond { .. }
-        | TExpr::Convert { .. }
-        | TExpr::Call { .. }
-        | TExpr::Active { .. }
-        | TExpr::Now => value_size(e, typed),
-    }
+    code_size::test_size(e, typed, when, fires) as u32
 }

@@ -1,6 +1,6 @@
 -- The code of each form, appended piece by piece: what each piece appends is known, and where a later one begins.
-use Rattle.std.specs.Prelude.{◌≡◌, ℕ, true, ◌+◌, List, [], ◌∷◌, ◌++◌, length, map, Option}
-use Rattle.std.proofs.Common.{refl, ap, sym, ◌∙◌, append_assoc}
+use Rattle.std.specs.Prelude.{◌≡◌, ℕ, true, ◌+◌, List, [], ◌++◌, length, map, Option}
+use Rattle.std.proofs.Common.{sym, append_assoc}
 use Rattle.bytecode.specs.declared.code.Fun.{Fun}
 use Rattle.typed_tree.specs.declared.expression.TExpr.{TExpr}
 use Rattle.typed_tree.specs.declared.program.TFun.{TFun}
@@ -15,8 +15,10 @@ use Rattle.typed_code.specs.Expression.{test_code, value_code}
 use Rattle.typed_code.specs.Listing.{Listing, jump_code}
 use Rattle.typed_code.specs.Program.{function_table, procedures_code, procedures_of, program_code}
 use Rattle.typed_code.specs.Statement.{Exits, for_test_code, stmt_code}
-use Rattle.gen_stmt.specs.Inside.Procedures.{functions_size, of_function, of_handler}
-use Rattle.gen_stmt.specs.Inside.Rows.{part_code_of, part_size_of, switch_code_of}
+use Rattle.gen_stmt.specs.Inside.Procedures.{of_function, of_handler}
+use Rattle.code_size.specs.Rows.{functions_size}
+use Rattle.gen_stmt.specs.Inside.Rows.{part_code_of, switch_code_of}
+use Rattle.code_size.specs.Rows.{part_size_of}
 use Rattle.gen_stmt.proofs.Rows.{for_code, switch_code}
 use Rattle.gen_stmt.proofs.Steps.{entries_join, procedures_join}
 

@@ -1,7 +1,6 @@
 -- Lemmas on the definitions of this crate.
 pub mod By
 pub mod Emitted
-pub mod Endings
 pub mod Rows
 pub mod SoundExamples
 pub mod Steps

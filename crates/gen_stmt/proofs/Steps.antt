@@ -1,10 +1,9 @@
 -- One step of each loop: one more item, and those behind it.
-use Rattle.std.specs.Prelude.{◌≡◌, ℕ, zero, suc, ◌+◌, ◌<◌, ◌≤◌, Bool, true, false, not, ◌&&◌, ◌||◌, if◌then◌else◌, ◌==◌, nat_lt, List, [], ◌∷◌, ◌++◌, length, map, sum, sum_by, count_by, drop, is_some, ℤ, Option, Some, None}
+use Rattle.std.specs.Prelude.{◌≡◌, ℕ, suc, ◌+◌, ◌<◌, ◌≤◌, Bool, true, false, not, ◌&&◌, if◌then◌else◌, ◌==◌, nat_lt, List, [], ◌∷◌, ◌++◌, length, map, sum, sum_by, drop, is_some, ℤ, Option, Some, None}
 use Rattle.std.specs.List.{list_any}
-use Rattle.std.proofs.Common.{◌≢◌, ◌⊎◌, inl, inr, eqb, refl, ap, sym, ◌∙◌, arith, append_assoc, get_or, add-zero}
+use Rattle.std.proofs.Common.{refl, ap, sym, ◌∙◌, arith, append_assoc, get_or, add-zero}
 use Rattle.std.proofs.lemmas.Bool.{eqb-true, le-ltb, lt-ltb}
-use Rattle.std.proofs.lemmas.Bool.Decides.{eqb_tells}
-use Rattle.std.proofs.lemmas.List.Sums.{sum_by-cons, sum_by-drop_more}
+use Rattle.std.proofs.lemmas.List.Sums.{sum_by-cons}
 use Rattle.bytecode.specs.declared.code.Fun.{Fun}
 use Rattle.bytecode.specs.declared.code.Handler.{Handler}
 use Rattle.bytecode.specs.declared.instr.Instr.TheVariants.{Jump}
@@ -24,33 +23,13 @@ use Rattle.typed_code.specs.Listing.{Listing, instr_if, jump_code}
 use Rattle.typed_code.specs.Program.{Procedure, body_code, function_table, handler_table, place_behind, procedure_code, procedures_code}
 use Rattle.typed_code.specs.Statement.{Exits, cases_code, labels_code, stmt_code}
 use Rattle.gen_expr.proofs.Emitted.{value_some}
-use Rattle.gen_expr.proofs.Listings.{drop_next}
-use Rattle.gen_stmt.specs.Inside.Procedures.{entry_of, functions_size, handlers_size, of_function, of_handler}
-use Rattle.gen_stmt.specs.Inside.Rows.{arms_code_of, arms_size_of, before_default, case_count_of, group_sizes_of, groups_code_of, is_nil, kept_if, labels_of_groups}
+use Rattle.code_size.proofs.Steps.{arms_here, drop_next, is_nil-drop, sizes_here}
+use Rattle.gen_stmt.specs.Inside.Procedures.{entry_of, of_function}
+use Rattle.code_size.specs.Rows.{functions_size}
+use Rattle.gen_stmt.specs.Inside.Rows.{arms_code_of, groups_code_of}
+use Rattle.code_size.specs.Rows.{arms_size_of, before_default, group_sizes_of, kept_if, labels_of_groups}
 
 -- Sizes.
-
--- the arms from one on are no larger than all
-pub arms_drop : (typed : Typed) (arms : List TArm) (other i : ℕ) →
-    arms_size_of typed (drop i arms) other ≤ arms_size_of typed arms other
-arms_drop typed [] other zero = omega arith
-arms_drop typed [] other (suc i) = omega arith
-arms_drop typed (arm ∷ rest) other zero = omega arith
-arms_drop typed (arm ∷ rest) other (suc i) = omega (arith, arms_drop typed rest other i)
-
--- the arms from one on
-pub arms_here : (typed : Typed) (arms : List TArm) (other i k : ℕ) (arm : TArm) → i < length arms →
-    arm ≡ get_or arms i arm → k ≡ i + 1 → arms_size_of typed (drop i arms) other ≡
-    test_size typed false false arm.test + (stmt_size typed arm.body +
-    ((if goes_on arm.body then jump_size (arms_size_of typed (drop k arms) other) else 0) +
-    arms_size_of typed (drop k arms) other))
-arms_here typed arms other i k arm within is next =
-    rw next (ap (λ l. arms_size_of typed l other) (drop_next arms i arm within is))
-
--- what stands behind the arms is no larger than all
-pub arms_other : (typed : Typed) (arms : List TArm) (other : ℕ) → other ≤ arms_size_of typed arms other
-arms_other typed [] other = omega arith
-arms_other typed (arm ∷ rest) other = omega (arith, arms_other typed rest other)
 
 -- there are no more expressions than instructions of them
 pub values_count : (typed : Typed) (all : List TExpr) → length all ≤ sum_by (value_size typed) all
@@ -70,59 +49,6 @@ before_default_le (first ∷ labels) (size ∷ sizes) =
         (if b then 0 else size + before_default labels sizes) ≤ sum (size ∷ sizes)
     by_test true h = omega arith
     by_test false h = omega (arith, h, sum_by-cons (λ k. k) size sizes)
-
--- the items from one on are none exactly where it is behind the last
-pub is_nil-drop : {A : Type 0} (xs : List A) (k : ℕ) → k ≤ length xs → is_nil (drop k xs) ≡ (k == length xs)
-is_nil-drop [] zero within = refl
-is_nil-drop [] (suc k) within = absurd (omega (arith, within))
-is_nil-drop (x ∷ xs) zero within = sym (by_no (eqb_tells 0 (suc (length xs))))
-  where
-    by_no : ((eqb 0 (suc (length xs)) ≡ true) × (0 ≡ suc (length xs))) ⊎
-        ((eqb 0 (suc (length xs)) ≡ false) × (0 ≢ suc (length xs))) → eqb 0 (suc (length xs)) ≡ false
-    by_no (inl h) = absurd (omega (arith, h.1))
-    by_no (inr h) = h.0
-is_nil-drop (x ∷ xs) (suc k) within =
-    is_nil-drop xs k (omega (arith, within)) ∙ same_tests (eqb_tells k (length xs)) (eqb_tells (suc k) (suc (length xs)))
-  where
-    same_tests : ((eqb k (length xs) ≡ true) × (k ≡ length xs)) ⊎ ((eqb k (length xs) ≡ false) × (k ≢ length xs)) →
-        ((eqb (suc k) (suc (length xs)) ≡ true) × (suc k ≡ suc (length xs))) ⊎
-        ((eqb (suc k) (suc (length xs)) ≡ false) × (suc k ≢ suc (length xs))) →
-        eqb k (length xs) ≡ eqb (suc k) (suc (length xs))
-    same_tests (inl g) (inl h) = g.0 ∙ sym h.0
-    same_tests (inl g) (inr h) = absurd (omega (arith, g.1, h.1))
-    same_tests (inr g) (inl h) = absurd (omega (arith, g.1, h.1))
-    same_tests (inr g) (inr h) = g.0 ∙ sym h.0
-
--- the sizes of the groups from one on
-pub sizes_here : (typed : Typed) (groups : List TGroup) (i : ℕ) (group : TGroup) → i < length groups →
-    group ≡ get_or groups i group → group_sizes_of typed (drop i groups) ≡
-    sum_by (stmt_size typed) (kept_if (i + 1 == length groups) group.body) ∷ group_sizes_of typed (drop (i + 1) groups)
-sizes_here typed groups i group within is =
-    ap (group_sizes_of typed) (drop_next groups i group within is) ∙
-    ap (λ b. sum_by (stmt_size typed) (kept_if b group.body) ∷ group_sizes_of typed (drop (i + 1) groups))
-    (is_nil-drop groups (i + 1) (omega (arith, within)))
-
--- what is counted of a group, whether `default` was met before, stands in it or does not
-over_by : (met has : Bool) (over size rest whole counted : ℕ) → counted ≡ (if met || has then 0 else size) →
-    over + (if met then 0 else (if has then 0 else size + rest)) ≡ whole → over + counted ≤ whole
-over_by true has over size rest whole counted is all = omega (arith, is, all)
-over_by false true over size rest whole counted is all = omega (arith, is, all)
-over_by false false over size rest whole counted is all = omega (arith, is, all)
-
--- what is counted of a group before `default` is no more than there is
-pub over_room : (typed : Typed) (groups : List TGroup) (i : ℕ) (group : TGroup) (met now : Bool)
-    (over size counted whole : ℕ) → i < length groups → group ≡ get_or groups i group →
-    size ≡ sum_by (stmt_size typed) (kept_if (i + 1 == length groups) group.body) →
-    now ≡ (met || list_any (same_label None) group.labels) → counted ≡ (if now then 0 else size) →
-    over + (if met then 0 else
-    before_default (labels_of_groups (drop i groups)) (group_sizes_of typed (drop i groups))) ≡ whole →
-    over + counted ≤ whole
-over_room typed groups i group met now over size counted whole within is is_size is_now is_counted all =
-    let next = rw (sizes_here typed groups i group within is, drop_next groups i group within is) at all in
-    over_by met (list_any (same_label None) group.labels) over
-    (sum_by (stmt_size typed) (kept_if (i + 1 == length groups) group.body)) _ whole counted
-    (is_counted ∙ ap (λ b. if b then 0 else size) is_now ∙
-    ap (λ k. if met || list_any (same_label None) group.labels then 0 else k) is_size) next
 
 -- Code.
 

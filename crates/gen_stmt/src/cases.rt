@@ -3,7 +3,7 @@
 ghost use Rattle.std.specs.Prelude.{◌≡◌, ◌+◌, ◌<◌, ◌^◌, [], ◌∷◌, ◌++◌, count_by, is_some, length, sum, OnOk};
 ghost use Rattle.typed_tree.specs.Size.{one_if};
 ghost use Rattle.typed_code.specs.Statement.{cases_code, labels_code};
-ghost use Rattle.gen_stmt.specs.Inside.Rows.{case_count_of, group_sizes_of, labels_of_groups};
+ghost use Rattle.code_size.specs.Rows.{case_count_of, group_sizes_of, labels_of_groups};
 
 use crate::size::group_size;
 use bytecode::Instr;

@@ -14,7 +14,6 @@ mod cases;
 mod compiler;
 mod exits;
 mod program;
-mod shape;
 mod size;
 mod statement;
 #[cfg(test)]

@@ -3,13 +3,14 @@
 ghost use Rattle.std.specs.Prelude.{◌≡◌, ◌+◌, ◌<◌, ◌^◌, [], ◌∷◌, ◌++◌, length, map, IfOk, OnOk};
 ghost use Rattle.typed_tree.specs.Size.{procedure_size, size, tail_size};
 ghost use Rattle.typed_code.specs.Program.{IsCodeOf, function_table, handler_table, procedure_code, procedures_code, tail_code};
-ghost use Rattle.gen_stmt.specs.Inside.Procedures.{entry_of, functions_size, handlers_size, of_function, of_handler};
+ghost use Rattle.gen_stmt.specs.Inside.Procedures.{entry_of, of_function, of_handler};
+ghost use Rattle.code_size.specs.Rows.{functions_size, handlers_size};
 
 use crate::exits::Exits;
-use crate::shape::last_goes_on;
 use crate::size::stmts_size;
 use crate::statement::emit_stmts;
 use bytecode::{Code, Fun, Handler, Instr};
+use code_size::last_goes_on;
 use gen_expr::Emitter;
 use items::Items;
 use sim_outside::NoMemory;

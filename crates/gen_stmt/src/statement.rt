@@ -7,16 +7,15 @@ ghost use Rattle.typed_code.specs.Listing.{Listing, instr_if, jump_code};
 ghost use Rattle.typed_code.specs.Program.{body_code};
 ghost use Rattle.typed_code.specs.Statement.{for_test_code, return_code, stmt_code};
 ghost use Rattle.gen_stmt.specs.Inside.Exits.{exits_of};
-ghost use Rattle.gen_stmt.specs.Inside.Rows.{arms_code_of, arms_size_of, group_sizes_of, groups_code_of, kept_if, part_code_of, part_size_of, switch_code_of, switch_size_of};
+ghost use Rattle.gen_stmt.specs.Inside.Rows.{arms_code_of, groups_code_of, part_code_of, switch_code_of};
+ghost use Rattle.code_size.specs.Rows.{arms_size_of, group_sizes_of, kept_if, part_size_of, switch_size_of};
 
 use crate::cases::add_cases;
 use crate::exits::Exits;
-use crate::shape::{goes_on, kept_len};
 use crate::size::{arms_size, for_test_size, jump_size, part_size, stmt_size, switch_sizes};
 use bytecode::Instr;
-use gen_expr::{
-    Emitter, Exit, emit, emit_dropped, emit_test, emit_values, leaves_number, test_size,
-};
+use code_size::{goes_on, kept_len, leaves_number};
+use gen_expr::{Emitter, Exit, emit, emit_dropped, emit_test, emit_values, test_size};
 use items::Boxed;
 use sim_outside::NoMemory;
 use typed_tree::{TArm, TExpr, TGroup, TStmt, Typed};

@@ -1,11 +1,11 @@
 -- The pieces of each expression's code, one behind the other.
-use Rattle.std.proofs.Common.{◌<◌, ◌+◌, length, sym, ap, ◌∙◌, rules, arith}
+use Rattle.std.proofs.Common.{◌<◌, length, ap, ◌∙◌, rules, arith}
 use Rattle.std.specs.Prelude.{sum_by}
 use Rattle.std.proofs.lemmas.List.Sums.{sum_by-drop_more}
 use Rattle.typed_tree.specs.declared.expression.TExpr.{the_lemmas}
 use Rattle.typed_tree.specs.Size.{value_size}
 use Rattle.gen_expr.proofs.Emitted.{store_emitted, update_emitted, unary_emitted, binary_emitted, both_emitted, either_emitted, choice_emitted, convert_emitted, call_emitted, index_some, binary_size, store_size, value_some, values_next}
-use Rattle.gen_expr.proofs.Rows.{call_size}
+use Rattle.code_size.proofs.Rows.{call_size}
 use Rattle.gen_expr.proofs.expression.+expression.Goals as goal
 
 pub emit_value-overflow_add-inner-in-Store : goal.emit_value-overflow_add-inner-in-Store

@@ -2,7 +2,7 @@
 use Rattle.std.proofs.Common.{◌≡◌, ◌+◌, ◌++◌, length, drop}
 use Rattle.std.specs.Prelude.{sum}
 use Rattle.typed_code.specs.Statement.{cases_code}
-use Rattle.gen_stmt.specs.Inside.Rows.{case_count_of, group_sizes_of, labels_of_groups}
+use Rattle.code_size.specs.Rows.{case_count_of, group_sizes_of, labels_of_groups}
 use Rattle.gen_stmt.proofs.cases.add_cases.Given as goal
 
 abbrev pub invariant-loop-i : goal.invariant-loop-i

@@ -2,7 +2,8 @@
 use Rattle.std.proofs.Common.{◌≡◌, ◌+◌, ◌++◌, length, drop}
 use Rattle.std.specs.Prelude.{map}
 use Rattle.typed_code.specs.Program.{function_table, procedures_code}
-use Rattle.gen_stmt.specs.Inside.Procedures.{functions_size, of_function}
+use Rattle.gen_stmt.specs.Inside.Procedures.{of_function}
+use Rattle.code_size.specs.Rows.{functions_size}
 use Rattle.gen_stmt.proofs.program.add_functions.Given as goal
 
 abbrev pub invariant-loop-function : goal.invariant-loop-function

@@ -2,7 +2,8 @@
 use Rattle.std.proofs.Common.{◌≡◌, ◌+◌, ◌++◌, length, drop}
 use Rattle.std.specs.Prelude.{map}
 use Rattle.typed_code.specs.Program.{function_table, handler_table, procedures_code}
-use Rattle.gen_stmt.specs.Inside.Procedures.{handlers_size, of_handler}
+use Rattle.gen_stmt.specs.Inside.Procedures.{of_handler}
+use Rattle.code_size.specs.Rows.{handlers_size}
 use Rattle.gen_stmt.proofs.program.add_handlers.Given as goal
 
 abbrev pub invariant-loop-handler : goal.invariant-loop-handler

@@ -4,12 +4,14 @@ use Rattle.std.specs.Prelude.{sum_by}
 use Rattle.typed_tree.specs.declared.statement.TStmt.{the_lemmas}
 use Rattle.typed_tree.specs.Size.{jump_size, stmt_size, value_size}
 use Rattle.typed_code.specs.Program.{body_code}
-use Rattle.typed_code.specs.Statement.{stmt_code}
 use Rattle.gen_stmt.specs.Inside.Exits.{exits_of}
-use Rattle.gen_stmt.specs.Inside.Rows.{arms_code_of, arms_size_of, group_sizes_of, labels_of_groups, part_code_of, part_size_of, switch_code_of, switch_size_of}
+use Rattle.gen_stmt.specs.Inside.Rows.{arms_code_of, part_code_of}
+use Rattle.code_size.specs.Rows.{arms_size_of, group_sizes_of, labels_of_groups, part_size_of, switch_size_of}
 use Rattle.gen_stmt.proofs.Emitted.{for_emitted, switch_emitted, while_emitted}
-use Rattle.gen_stmt.proofs.Rows.{block_code, block_size, if_code, if_size, switch_size}
-use Rattle.gen_stmt.proofs.Steps.{arms_other, before_default_le, values_count}
+use Rattle.gen_stmt.proofs.Rows.{block_code, if_code}
+use Rattle.code_size.proofs.Rows.{block_size, if_size, switch_size}
+use Rattle.gen_stmt.proofs.Steps.{before_default_le, values_count}
+use Rattle.code_size.proofs.Steps.{arms_other}
 use Rattle.gen_stmt.proofs.statement.+statement.Goals as goal
 
 pub emit_stmt-emit_stmts-requires : goal.emit_stmt-emit_stmts-requires

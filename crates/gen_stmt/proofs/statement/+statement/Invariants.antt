@@ -5,7 +5,8 @@ use Rattle.typed_tree.specs.Size.{stmt_size}
 use Rattle.typed_code.specs.Listing.{Listing}
 use Rattle.typed_code.specs.Program.{body_code}
 use Rattle.gen_stmt.specs.Inside.Exits.{exits_of}
-use Rattle.gen_stmt.specs.Inside.Rows.{arms_code_of, arms_size_of, group_sizes_of, groups_code_of}
+use Rattle.gen_stmt.specs.Inside.Rows.{arms_code_of, groups_code_of}
+use Rattle.code_size.specs.Rows.{arms_size_of, group_sizes_of}
 use Rattle.gen_stmt.proofs.statement.+statement.Given as goal
 
 abbrev pub invariant-emit_stmts-loop-s : goal.invariant-emit_stmts-loop-s

@@ -1,7 +1,7 @@
 -- The listing has one more of each.
-use Rattle.std.proofs.Common.{◌≡◌, ◌+◌, ◌∷◌, [], ◌++◌, length, arith, ap, ◌∙◌, length-append}
+use Rattle.std.proofs.Common.{◌∷◌, [], ◌++◌, length, ap, ◌∙◌, length-append}
 use Rattle.std.specs.Prelude.{zip}
-use Rattle.gen_expr.proofs.Listings.{zip_long, zip_push}
+use Rattle.gen_expr.proofs.Listings.{zip_push}
 use Rattle.gen_expr.proofs.emitter.Emitter.add.Goals as goal
 
 pub returns-in-Ok-clause-code : goal.returns-in-Ok-clause-code

@@ -1,5 +1,5 @@
 -- The instruction at the place is another, and all else is the same.
-use Rattle.std.proofs.Common.{◌<◌, vec_len, arith, ap, sym, ◌∙◌}
+use Rattle.std.proofs.Common.{arith, ap, ◌∙◌}
 use Rattle.std.specs.Prelude.{slice_set, zip}
 use Rattle.gen_expr.specs.Target.{HasTarget, aimed}
 use Rattle.gen_expr.proofs.Listings.{zip_first, zip_set, zip_within}

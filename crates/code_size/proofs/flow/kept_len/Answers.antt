@@ -1,8 +1,8 @@
 -- A `break` at the end is left out.
-use Rattle.std.proofs.Common.{◌≡◌, true, length, ◌-◌, take, sym, ◌∙◌}
+use Rattle.std.proofs.Common.{◌≡◌, true, length, ◌-◌, sym, ◌∙◌}
 use Rattle.std.proofs.Math.Seq.{take-length}
-use Rattle.gen_stmt.proofs.Endings.{kept_break, kept_other, last_place}
-use Rattle.gen_stmt.proofs.shape.kept_len.Goals as goal
+use Rattle.code_size.proofs.Endings.{kept_break, kept_other, last_place}
+use Rattle.code_size.proofs.flow.kept_len.Goals as goal
 
 pub returns-then-is_break-clause-kept : goal.returns-then-is_break-clause-kept
 returns-then-is_break-clause-kept c =

@@ -2,7 +2,6 @@
 
 ghost use Rattle.std.specs.Prelude.{◌≡◌, true, is_some, slice_get};
 ghost use Rattle.std.specs.Option.{option_map_or};
-ghost use Rattle.typed_code.specs.Place.{index_depth};
 ghost use Rattle.typed_tree.specs.Expression.{params_of};
 ghost use Rattle.typed_tree.specs.Memory.{kind_of};
 ghost use Rattle.typed_tree.specs.Shape.{divides, has_index, has_plain_index, is_checked_first, is_comparison, is_not, is_plain, is_truth, is_wrapped_first, leaves_number, stored_width};
@@ -12,7 +11,7 @@ use message_cells::MESSAGE_KINDS;
 use typed_tree::{Place, TExpr, Typed};
 
 /// Whether a place has an index, which stands on the stack while it is used.
-pub(crate) fn has_index(place: &Place) -> bool
+pub fn has_index(place: &Place) -> bool
     ensures { result ≡ has_index place.now }
 {
     match place {
@@ -21,15 +20,8 @@ pub(crate) fn has_index(place: &Place) -> bool
     }
 }
 
-/// How many numbers a place has on the stack while it is used.
-pub(crate) fn index_depth(place: &Place) -> u32
-    ensures { result ≡ index_depth place.now }
-{
-    u32::from(has_index(place))
-}
-
 /// The kind of a cell.
-pub(crate) fn kind_of(kinds: &[Kind], cell: u32) -> Kind
+pub fn kind_of(kinds: &[Kind], cell: u32) -> Kind
     ensures { result ≡ kind_of kinds.now cell }
 {
     kinds.get(cell as usize).copied().unwrap_or(Kind::Long)
@@ -50,14 +42,14 @@ fn stored_width(place: &Place, typed: &Typed) -> u32
 
 /// Whether the result of an operator is wrapped to a kind by an instruction of its own, since the
 /// store alone would keep more of it.
-pub(crate) fn is_wrapped_first(place: &Place, back: Kind, typed: &Typed) -> bool
+pub fn is_wrapped_first(place: &Place, back: Kind, typed: &Typed) -> bool
     ensures { result ≡ is_wrapped_first typed.now place.now back }
 {
     bits(back) < stored_width(place, typed)
 }
 
 /// Whether an operator compares, so that it gives 0 or 1 and has an opposite.
-pub(crate) fn is_comparison(op: BinOp) -> bool
+pub fn is_comparison(op: BinOp) -> bool
     ensures { result ≡ is_comparison op }
 {
     match op {
@@ -90,14 +82,14 @@ fn divides(op: BinOp) -> bool
 }
 
 /// Whether an operator is `!`.
-pub(crate) fn is_not(op: UnOp) -> bool
+pub fn is_not(op: UnOp) -> bool
     ensures { result ≡ is_not op }
 {
     matches!(op, UnOp::Not)
 }
 
 /// Whether an expression gives 0 or 1 and nothing else.
-pub(crate) fn is_truth(e: &TExpr) -> bool
+pub fn is_truth(e: &TExpr) -> bool
     ensures { result ≡ is_truth e.now }
 {
     match e {
@@ -154,14 +146,14 @@ fn has_plain_index(place: &Place) -> bool
 }
 
 /// Whether the index of a place is checked before the right side of an assignment is evaluated.
-pub(crate) fn is_checked_first(place: &Place, value: &TExpr) -> bool
+pub fn is_checked_first(place: &Place, value: &TExpr) -> bool
     ensures { result ≡ is_checked_first place.now value.now }
 {
     has_index(place) && !is_plain(value)
 }
 
 /// The parameters of a function, none where there is no such function.
-pub(crate) fn params_of(function: u32, typed: &Typed) -> &[u32]
+pub fn params_of(function: u32, typed: &Typed) -> &[u32]
     ensures { result.now ≡ params_of typed.now function }
 {
     match typed.functions.as_slice().get(function as usize) {

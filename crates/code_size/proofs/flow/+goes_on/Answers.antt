@@ -1,7 +1,7 @@
 -- The last of statements decides.
 use Rattle.std.proofs.Common.{true, length, ◌-◌, ◌∙◌}
-use Rattle.gen_stmt.proofs.Endings.{goes_last, last_place}
-use Rattle.gen_stmt.proofs.shape.+goes_on.Goals as goal
+use Rattle.code_size.proofs.Endings.{goes_last, last_place}
+use Rattle.code_size.proofs.flow.+goes_on.Goals as goal
 
 pub last_goes_on-returns-in-Some : goal.last_goes_on-returns-in-Some
 last_goes_on-returns-in-Some t c =

@@ -1,9 +1,9 @@
 -- The last of statements.
-use Rattle.std.specs.Prelude.{◌≡◌, ℕ, zero, suc, ◌-◌, Bool, true, false, ◌&&◌, if◌then◌else◌, List, [], ◌∷◌, length, take, slice_get, Option, Some, None}
+use Rattle.std.specs.Prelude.{◌≡◌, ℕ, zero, suc, ◌-◌, Bool, true, false, ◌&&◌, if◌then◌else◌, List, [], ◌∷◌, length, take, slice_get, Some}
 use Rattle.std.proofs.Common.{refl, ap, sym, ◌∙◌, arith}
 use Rattle.typed_tree.specs.declared.statement.TStmt.{TStmt}
 use Rattle.typed_tree.specs.Shape.{body_goes_on, goes_on, is_break}
-use Rattle.gen_stmt.specs.Inside.Rows.{is_nil, kept}
+use Rattle.code_size.specs.Rows.{kept}
 
 -- the last of statements is what goes on
 pub goes_last : (before : Bool) (all : List TStmt) (i : ℕ) (s : TStmt) → suc i ≡ length all →

@@ -4,7 +4,7 @@ ghost use Rattle.std.specs.Prelude.{◌≡◌, ◌≤◌, true, None, length, ta
 ghost use Rattle.typed_tree.specs.Shape.{body_goes_on, goes_on, is_break};
 ghost use Rattle.typed_tree.specs.Statement.{same_label};
 ghost use Rattle.std.specs.List.{list_any};
-ghost use Rattle.gen_stmt.specs.Inside.Rows.{arms_go_on_of, kept_if, part_goes_on_of};
+ghost use Rattle.code_size.specs.Rows.{arms_go_on_of, kept_if, part_goes_on_of};
 
 use items::Boxed;
 use typed_tree::{TArm, TStmt};
@@ -12,7 +12,7 @@ use typed_tree::{TArm, TStmt};
 /// Whether control may come to the end of a statement, by what stands last in it.
 #[cycle(goes_on)]
 #[tactic(auto, using(crate::proofs::By::form), unfolding(crate::proofs::By::tree, crate::proofs::By::row))]
-pub(crate) fn goes_on(s: &TStmt) -> bool
+pub fn goes_on(s: &TStmt) -> bool
     ensures { result ≡ goes_on s.now }
 {
     match s {
@@ -36,7 +36,7 @@ pub(crate) fn goes_on(s: &TStmt) -> bool
 
 /// Whether control may come to the end of statements in a row, by the last of them.
 #[cycle(goes_on)]
-pub(crate) fn last_goes_on(all: &[TStmt]) -> bool
+pub fn last_goes_on(all: &[TStmt]) -> bool
     ensures { result ≡ body_goes_on true all.now }
 {
     match all.last() {
@@ -96,7 +96,7 @@ fn is_break(s: &TStmt) -> bool
 
 /// How many statements of a group of a `switch` have code. In the last group a `break` at the end has
 /// none, since it has nothing to jump over.
-pub(crate) fn kept_len(all: &[TStmt], last: bool) -> usize
+pub fn kept_len(all: &[TStmt], last: bool) -> usize
     ensures within { result ≤ length all.now }
     ensures kept { take result all.now ≡ kept_if last all.now }
 {
@@ -116,7 +116,7 @@ pub(crate) fn kept_len(all: &[TStmt], last: bool) -> usize
 }
 
 /// Whether `default` is among labels.
-pub(crate) fn has_default(labels: &[Option<i128>]) -> bool
+pub fn has_default(labels: &[Option<i128>]) -> bool
     ensures { result ≡ list_any (same_label None) labels.now }
 {
     labels.iter().any(|label| label.is_none())
