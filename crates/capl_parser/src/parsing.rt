@@ -18,8 +18,8 @@ use std::alloc::Global;
 /// How deep the tokens of a file may nest.
 pub const NESTING_LIMIT: u32 = 200;
 
-/// The tree of a file with these tokens. Takes time and memory linear in their number; how deep its calls
-/// go, the nesting of the tokens bounds.
+/// The tree of a file with these tokens, whose places are numbers of 32 bits. Takes time and memory linear
+/// in the number of the tokens; how deep its calls go, the nesting of the tokens bounds.
 ///
 /// Deep comes exactly where the tokens nest more than 200 deep, NotSpelled exactly where they do not and
 /// no tree is spelled so, and NoMemory only where the system gives no memory.
