@@ -86,7 +86,7 @@ impl Model for Node {
       };
     } };
 
-    ghost invariant = { λ node. IsNode node.code node.memory node.timers node.first_row node.moment node.rest };
+    ghost invariant = { λ n. IsNode n.code n.memory n.timers n.first_row n.moment n.rest };
 }
 
 impl Node {

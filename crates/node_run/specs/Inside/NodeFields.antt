@@ -7,8 +7,8 @@ use Rattle.rounds.specs.Round.{Rest}
 use Rattle.node_run.specs.Inside.Agenda.{IsPlan}
 
 -- The memory is one of the code and there are as many timers as in the code, its handlers can be numbered,
--- and their rows too, the moment is one at which timers can be set, and what is left to do runs handlers of the
--- code.
+-- and their rows too, the moment is one at which timers can be set, and what is left to do runs handlers of
+-- the code.
 pub record IsNode (code : Code) (memory : MemoryState) (timers : Timers) (first_row now : ℕ) (rest : Rest) :
     Type 0 where
   pub memory_of : IsMemoryOf code memory
