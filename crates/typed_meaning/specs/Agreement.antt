@@ -1,0 +1,141 @@
+-- When a part of a typed program does what a part of a source does. A walk over the source gives these facts
+-- form by form, before the typed program is there; they are of use once it is, in a program that breaks no
+-- rule.
+use Rattle.std.specs.Prelude.{◌≡◌, ℕ, Bool, List, [], ◌∷◌, ◌++◌, map, slice_get, slice_index_or, Option, Some, None, ℤ, ⊤}
+use Rattle.int_kinds.specs.declared.kinds.Kind.{Kind}
+use Rattle.write_format.specs.Format.{FormatText}
+use Rattle.worlds.specs.World.{World, Run, Gives}
+use Rattle.worlds.specs.Control.{Calls, Computes, Does, in_order}
+use Rattle.capl_tree.specs.declared.expr.Expr.{Expr}
+use Rattle.capl_tree.specs.declared.statement.Stmt.{Stmt}
+use Rattle.capl_tree.specs.declared.procedure.Param.{Param}
+use Rattle.typed_tree.specs.declared.expression.Place.{Place}
+use Rattle.typed_tree.specs.declared.expression.TExpr.{TExpr}
+use Rattle.typed_tree.specs.declared.statement.TStmt.{TStmt}
+use Rattle.typed_tree.specs.declared.program.Typed.{Typed}
+use Rattle.typed_tree.specs.Expression as typed
+use Rattle.typed_tree.specs.Memory as cells
+use Rattle.typed_tree.specs.Statement as typed_statement
+use Rattle.typed_tree.specs.Program.{body_of}
+use Rattle.capl_meaning.specs.Variable.{Timer, Variable, variable_of_parameter}
+use Rattle.capl_meaning.specs.Names.{Function, Names, OfProgram, Scope, callee, inside_function}
+use Rattle.capl_meaning.specs.Calls.{function_numbered}
+use Rattle.capl_meaning.specs.Store.{This, event_kinds, laid_kinds, timer_number, timer_units}
+use Rattle.capl_meaning.specs.Expression as source
+use Rattle.capl_meaning.specs.Statement as source_statement
+use Rattle.typed_meaning.specs.Laid.{AreDistinct, GivesOnly, IsAmong, IsOpen, IsReal, laid, laid_run, laid_spot, mapped, slot}
+
+-- ---- programs
+
+-- What the names of a program without offences have. No name is declared twice; a timer's unit is found by its
+-- number; and the function that is called is the one of its number, whose parameters are variables.
+pub record ArePlain (names : Names) : Type 0 where
+  pub distinct : AreDistinct names.variables
+  pub units : (v : Variable) (unit : ℕ) → IsAmong v names.variables → v.form ≡ Timer unit →
+      slice_index_or (timer_units names) (timer_number names v) 0 ≡ unit
+  pub numbered : (name : List ℕ) (f : Function) → callee names name ≡ OfProgram f →
+      function_numbered names f.number ≡ Some f
+  pub parameters : (number : ℕ) (f : Function) → function_numbered names number ≡ Some f →
+      (i : ℕ) (p : Param) → slice_get f.parameters i ≡ Some p →
+      IsAmong (variable_of_parameter f.number f.file p) names.variables
+
+-- the cells of a function's parameters
+abbrev pub parameter_slots : Names → Function → List ℕ
+parameter_slots names f = map (λ p. slot names (record { owner = f.number; name = p.name })) f.parameters
+
+-- The tables of a typed program are those of a source's names: the kinds of its cells, the units of its timers,
+-- and the parameters of its functions. The functions stand in an order of their own, which is given by their
+-- numbers in the source.
+pub record Fits (names : Names) (order : List ℕ) (program : Typed) : Type 0 where
+  pub kinds : program.cells ≡ event_kinds ++ laid_kinds names
+  pub timers : program.timers ≡ timer_units names
+  pub functions : (k number : ℕ) → slice_get order k ≡ Some number → (f : Function) ×
+      (function_numbered names number ≡ Some f) × (typed.params_of program k ≡ parameter_slots names f)
+
+-- ---- runs of both
+
+-- each call of a typed function does what the call of the source's function does
+abbrev pub SameCalls :
+    Names → List ℕ → This → Calls source.Memory → Calls cells.Memory → Type 0
+SameCalls names order this call typed_call = (k number : ℕ) → slice_get order k ≡ Some number →
+    (w : World source.Memory) → typed_call k (laid names this w) ≡ laid_run names this (call number w)
+
+-- A run of a source's program beside one of its typed program: with the same `this`, at the same moment, after
+-- the measurement has ended or not, and with calls that do the same.
+pub record Beside (names : Names) (order : List ℕ) : Type 0 where
+  pub plain : ArePlain names
+  pub program : Typed
+  pub fits : Fits names order program
+  pub this : This
+  pub closed : Bool
+  pub moment : ℕ
+  pub call : Calls source.Memory
+  pub typed_call : Calls cells.Memory
+  pub same_calls : SameCalls names order this call typed_call
+
+-- the setting of the source, where a part of it stands
+abbrev pub source_setting : {names : Names} {order : List ℕ} → Beside names order → Scope → source.Setting
+source_setting b scope =
+    record { scope = scope; this = b.this; closed = b.closed; moment = b.moment }
+
+-- the setting of the typed program
+abbrev pub typed_setting : {names : Names} {order : List ℕ} → Beside names order → typed.Setting
+typed_setting b = record { typed = b.program; closed = b.closed; moment = b.moment }
+
+-- two computations give the same, from each world and the world that it is laid out in
+abbrev pub SameNumber : Names → This → Computes source.Memory → Computes cells.Memory → Type 0
+SameNumber names this one other =
+    (w : World source.Memory) → other (laid names this w) ≡ laid_run names this (one w)
+
+-- two statements do the same
+abbrev pub SameEnd : Names → This → Does source.Memory → Does cells.Memory → Type 0
+SameEnd names this one other =
+    (w : World source.Memory) → other (laid names this w) ≡ laid_run names this (one w)
+
+-- ---- expressions
+
+-- a typed expression gives the number that an expression gives
+pub record GivesAs (scope : Scope) (order : List ℕ) (e : Expr) (t : TExpr) : Type 0 where
+  pub same : (b : Beside scope.names order) → SameNumber scope.names b.this
+      (source.value_of (source_setting b scope) b.call e) (typed.value_of (typed_setting b) b.typed_call t)
+
+-- where a run gives places that are so, a typed place is the same place in cells; where there is no typed place,
+-- it gives none
+abbrev pub SamePlace : {names : Names} {order : List ℕ} → Beside names order → (source.Spot → Type 0) →
+    (World source.Memory → Run source.Memory source.Spot) → Option Place → Type 0
+SamePlace b Holds spot None = (w : World source.Memory) → spot w ≡ Gives source.Nowhere w
+SamePlace {names} b Holds spot (Some place) = (w : World source.Memory) →
+    (typed.spot_of (typed_setting b) b.typed_call place (laid names b.this w) ≡
+     mapped names b.this (laid_spot names) (spot w)) ×
+    GivesOnly Holds (spot w)
+
+-- a typed place is the place that an expression is; or there is none and it is none
+pub record StandsAs (scope : Scope) (order : List ℕ) (e : Expr) (place : Option Place) : Type 0 where
+  pub same : (b : Beside scope.names order) → SamePlace b (IsReal scope.names)
+      (source.spot_of (source_setting b scope) b.call e) place
+
+-- the same, of a place that is stored to
+pub record AssignsAs (scope : Scope) (order : List ℕ) (e : Expr) (place : Option Place) : Type 0 where
+  pub same : (b : Beside scope.names order) →
+      SamePlace b (λ spot. IsReal scope.names spot × IsOpen spot) (source.place_spot (source_setting b scope) e
+      (source.spot_of (source_setting b scope) b.call e)) place
+
+-- ---- statements
+
+-- each thing in a list stands at the same place in another
+abbrev pub StandIn : {A : Type 0} → List A → List A → Type 0
+StandIn {A} few many = (i : ℕ) (a : A) → slice_get few i ≡ Some a → slice_get many i ≡ Some a
+
+-- a typed statement, in a program that has these formats, does what a statement does
+pub record DoesAs (scope : Scope) (order : List ℕ) (formats : List FormatText) (s : Stmt) (t : TStmt)
+    : Type 0 where
+  pub same : (b : Beside scope.names order) → StandIn formats b.program.formats → (n : ℕ) →
+      SameEnd scope.names b.this (source_statement.stmt_of (source_setting b scope) b.call n s)
+      (typed_statement.stmt_of (typed_setting b) b.typed_call n t)
+
+-- typed statements in a row do what statements in a row do
+pub record RowDoesAs (scope : Scope) (order : List ℕ) (formats : List FormatText) (all : List Stmt)
+    (typed_all : List TStmt) : Type 0 where
+  pub same : (b : Beside scope.names order) → StandIn formats b.program.formats → (n : ℕ) →
+      SameEnd scope.names b.this (in_order (source_statement.stmt_of (source_setting b scope) b.call n) all)
+      (in_order (typed_statement.stmt_of (typed_setting b) b.typed_call n) typed_all)
