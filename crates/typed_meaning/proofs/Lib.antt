@@ -1,4 +1,8 @@
 -- Lemmas on the definitions of this crate.
+pub mod Calls
 pub mod Cells
+pub mod Expressions
 pub mod Lists
 pub mod Parts
+pub mod Places
+pub mod Runs
