@@ -6,3 +6,4 @@ pub mod Lists
 pub mod Parts
 pub mod Places
 pub mod Runs
+pub mod Statements

@@ -1,26 +1,38 @@
 -- When a part of a typed program does what a part of a source does. A walk over the source gives these facts
 -- form by form, before the typed program is there; they are of use once it is, in a program that breaks no
 -- rule.
-use Rattle.std.specs.Prelude.{◌≡◌, ℕ, Bool, List, [], ◌∷◌, ◌++◌, map, slice_get, slice_index_or, Option, Some, None, ℤ, ⊤}
+use Rattle.std.specs.Prelude.{◌≡◌, ℕ, Bool, false, List, [], ◌∷◌, ◌++◌, filter_map, map, slice_get, slice_index_or, Option, Some, None, ℤ, ⊤}
+use Rattle.std.specs.List.{AllZip}
 use Rattle.int_kinds.specs.declared.kinds.Kind.{Kind}
+use Rattle.write_format.specs.declared.argument.ArgKind.{ArgKind}
+use Rattle.write_format.specs.declared.argument.ArgKind.TheVariants as argument
 use Rattle.write_format.specs.Format.{FormatText}
 use Rattle.worlds.specs.World.{World, Run, Gives}
-use Rattle.worlds.specs.Control.{Calls, Computes, Does, in_order}
+use Rattle.worlds.specs.Control.{Calls, Computes, Does}
 use Rattle.capl_tree.specs.declared.expr.Expr.{Expr}
 use Rattle.capl_tree.specs.declared.statement.Stmt.{Stmt}
+use Rattle.capl_tree.specs.declared.statement.Arm.{Arm}
+use Rattle.capl_tree.specs.declared.statement.Group.{Group}
 use Rattle.capl_tree.specs.declared.procedure.Param.{Param}
 use Rattle.typed_tree.specs.declared.expression.Place.{Place}
 use Rattle.typed_tree.specs.declared.expression.TExpr.{TExpr}
 use Rattle.typed_tree.specs.declared.statement.TStmt.{TStmt}
+use Rattle.typed_tree.specs.declared.statement.TArm.{TArm}
+use Rattle.typed_tree.specs.declared.statement.TGroup.{TGroup}
 use Rattle.typed_tree.specs.declared.program.Typed.{Typed}
 use Rattle.typed_tree.specs.Expression as typed
 use Rattle.typed_tree.specs.Memory as cells
 use Rattle.typed_tree.specs.Statement as typed_statement
 use Rattle.typed_tree.specs.Program.{body_of}
+use Rattle.capl_meaning.specs.declared.sort.Sort.TheVariants as sort
 use Rattle.capl_meaning.specs.Variable.{Timer, Variable, variable_of_parameter}
 use Rattle.capl_meaning.specs.Names.{Function, Names, OfProgram, Scope, callee, inside_function}
 use Rattle.capl_meaning.specs.Calls.{function_numbered}
-use Rattle.capl_meaning.specs.Store.{This, event_kinds, laid_kinds, timer_number, timer_units}
+use Rattle.capl_meaning.specs.Format.{text_in}
+use Rattle.capl_meaning.specs.Message.{array_in}
+use Rattle.capl_meaning.specs.Sort.{is_number, sort_of}
+use Rattle.capl_meaning.specs.Constant.{elements_of}
+use Rattle.capl_meaning.specs.Store.{This, event_kinds, key_of, laid_kinds, timer_number, timer_units}
 use Rattle.capl_meaning.specs.Expression as source
 use Rattle.capl_meaning.specs.Statement as source_statement
 use Rattle.typed_meaning.specs.Laid.{AreDistinct, GivesOnly, IsAmong, IsOpen, IsReal, laid, laid_run, laid_spot, mapped, slot}
@@ -133,9 +145,46 @@ pub record DoesAs (scope : Scope) (order : List ℕ) (formats : List FormatText)
       SameEnd scope.names b.this (source_statement.stmt_of (source_setting b scope) b.call n s)
       (typed_statement.stmt_of (typed_setting b) b.typed_call n t)
 
--- typed statements in a row do what statements in a row do
-pub record RowDoesAs (scope : Scope) (order : List ℕ) (formats : List FormatText) (all : List Stmt)
-    (typed_all : List TStmt) : Type 0 where
+-- a typed statement does what an expression does that stands alone, as a statement or as the first or third part
+-- of a `for`
+pub record AloneDoesAs (scope : Scope) (order : List ℕ) (formats : List FormatText) (e : Expr) (t : TStmt)
+    : Type 0 where
   pub same : (b : Beside scope.names order) → StandIn formats b.program.formats → (n : ℕ) →
-      SameEnd scope.names b.this (in_order (source_statement.stmt_of (source_setting b scope) b.call n) all)
-      (in_order (typed_statement.stmt_of (typed_setting b) b.typed_call n) typed_all)
+      SameEnd scope.names b.this (source_statement.alone_of (source_setting b scope) b.call e)
+      (typed_statement.stmt_of (typed_setting b) b.typed_call n t)
+
+-- two parts that may be missing are there together, and then go with each other
+abbrev pub Both : {A B : Type 0} → (A → B → Type 0) → Option A → Option B → Type 0
+Both R None None = ⊤
+Both R (Some a) (Some b) = R a b
+Both R _ _ = ⊥
+
+-- a typed arm of an `if` does what an arm does
+pub record ArmDoesAs (scope : Scope) (order : List ℕ) (formats : List FormatText) (arm : Arm) (t : TArm)
+    : Type 0 where
+  pub test : GivesAs scope order arm.test t.test
+  pub body : DoesAs scope order formats arm.body t.body
+
+-- a typed group of a `switch` does what a group does, and has its labels in a kind
+pub record GroupDoesAs (scope : Scope) (order : List ℕ) (formats : List FormatText) (k : Kind)
+    (group : Group) (t : TGroup) : Type 0 where
+  pub labels : t.labels ≡ filter_map (λ label. source_statement.label_of scope k label.at label.value) group.labels
+  pub body : AllZip (DoesAs scope order formats) group.body t.body
+
+-- what is known of an argument of `write` before the run is what it is: a number of its kind, the cells of the
+-- array that it names, or its text
+abbrev pub IsArgument : Scope → Expr → ArgKind → Type 0
+IsArgument scope e (argument.Number k) = sort_of scope e ≡ sort.Number k
+IsArgument scope e (argument.Chars base len) = (v : Variable) × (array_in scope e ≡ Some v) ×
+    (is_number (sort_of scope e) ≡ false) × (text_in e ≡ None) ×
+    (AreDistinct scope.names.variables → base ≡ slot scope.names (key_of v)) ×
+    (len ≡ elements_of scope.names v)
+IsArgument scope e (argument.Str text) = (is_number (sort_of scope e) ≡ false) × (text_in e ≡ Some text)
+
+-- ---- procedures
+
+-- the functions of a typed program do what those of the source do, by their numbers in the source
+pub record FunctionsDoAs (names : Names) (order : List ℕ) (program : Typed) : Type 0 where
+  pub bodies : (k number : ℕ) (f : Function) → slice_get order k ≡ Some number →
+      function_numbered names number ≡ Some f →
+      AllZip (DoesAs (inside_function names f) order program.formats) f.body (body_of program k)
