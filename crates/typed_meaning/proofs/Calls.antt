@@ -25,8 +25,8 @@ use Rattle.capl_meaning.specs.Constant.{elements_of}
 use Rattle.capl_meaning.specs.Store.{Key, Store, This, key_of, timer_number}
 use Rattle.capl_meaning.specs.Expression.{InNumber, activity, builtin_value, call_value, calling, timer_in, value_of, values_of, with_arguments, with_store}
 use Rattle.capl_meaning.specs.Expression as source
-use Rattle.typed_meaning.specs.Laid.{HasForm, IsAmong, laid, laid_run, laid_spot, mapped, slot}
-use Rattle.typed_meaning.specs.Agreement.{ArePlain, Beside, Fits, GivesAs, parameter_slots, source_setting, typed_setting}
+use Rattle.typed_meaning.specs.Laid.{AreDistinct, HasForm, IsAmong, laid, laid_run, laid_spot, mapped, slot}
+use Rattle.typed_meaning.specs.Agreement.{ArePlain, Beside, Fits, GivesAs, GivesZero, array_given, parameter_slots, source_setting, timer_given, typed_setting}
 use Rattle.typed_meaning.proofs.Cells.{all_cells, all_kinds, write_laid}
 use Rattle.typed_meaning.proofs.Expressions.{constant_as}
 use Rattle.typed_meaning.proofs.Runs.{map_same, then_same}
@@ -106,30 +106,47 @@ module _ (scope : Scope) (order : List ℕ) where
   unknown_call_as name args at is = constant_as scope order _ _ (λ b w. call_whole b name args at Unknown w is)
 
   -- whether a timer is active
-  pub active_as : (name : Text) (args : List Expr) (at : ℕ) (e : Expr) (v : Variable) (timer : ℕ) → callee scope.names name ≡ OfLanguage builtin.IsTimerActive →
-      args ≡ e ∷ [] → timer_in scope e ≡ Some v → (ArePlain scope.names → timer ≡ timer_number scope.names v) → GivesAs scope order (expr.Call name args at) (Active timer)
-  active_as name args at e v timer is listed named number = record {
+  pub active_as : (name : Text) (args : List Expr) (at : ℕ) (v : Variable) (timer : ℕ) → callee scope.names name ≡ OfLanguage builtin.IsTimerActive →
+      timer_given scope args ≡ Some v → (AreDistinct scope.names.variables → timer ≡ timer_number scope.names v) → GivesAs scope order (expr.Call name args at) (Active timer)
+  active_as name args at v timer is named number = record {
     same = λ b w.
-      ap (λ n. Gives (truth (slice_index_or w.memory.active n false)) (laid scope.names b.this w)) (number b.plain)
-      ∙ ap (laid_run scope.names b.this) (sym (call_whole b name args at (OfLanguage builtin.IsTimerActive) w is
-      ∙ ap (λ l. Gives (builtin_value (source_setting b scope) w builtin.IsTimerActive l) w) listed
+      ap (λ n. Gives (truth (slice_index_or w.memory.active n false)) (laid scope.names b.this w)) (number b.plain.distinct)
+      ∙ ap (laid_run scope.names b.this) (sym (call_whole b name args at (OfLanguage builtin.IsTimerActive) w is ∙ ap (λ n. Gives n w) (activity_of (source_setting b scope) w args)
       ∙ ap (λ o. Gives (option_map_or (activity (source_setting b scope) w.memory.active) o (pos 0)) w) named));
   }
+    where
+      activity_of : (s : source.Setting) (w : World source.Memory) (args : List Expr) → builtin_value s w builtin.IsTimerActive args ≡ option_map_or (activity s w.memory.active) (timer_given s.scope args) (pos 0)
+      activity_of s w [] = refl
+      activity_of s w (e ∷ []) = refl
+      activity_of s w (e ∷ f ∷ more) = refl
 
   -- the moment
   pub now_as : (name : Text) (args : List Expr) (at : ℕ) → callee scope.names name ≡ OfLanguage builtin.TimeNow → GivesAs scope order (expr.Call name args at) Now
   now_as name args at is = record { same = λ b w. ap (laid_run scope.names b.this) (sym (call_whole b name args at (OfLanguage builtin.TimeNow) w is)) }
 
   -- the number of elements of an array
-  pub count_as : (name : Text) (args : List Expr) (at : ℕ) (e : Expr) (v : Variable) → callee scope.names name ≡ OfLanguage builtin.ElCount → args ≡ e ∷ [] →
-      array_in scope e ≡ Some v → GivesAs scope order (expr.Call name args at) (Const (pos (elements_of scope.names v)))
-  count_as name args at e v is listed named =
-      constant_as scope order _ _ (λ b w. call_whole b name args at (OfLanguage builtin.ElCount) w is
-      ∙ ap (λ l. Gives (builtin_value (source_setting b scope) w builtin.ElCount l) w) listed
+  pub count_as : (name : Text) (args : List Expr) (at : ℕ) (v : Variable) → callee scope.names name ≡ OfLanguage builtin.ElCount → array_given scope args ≡ Some v →
+      GivesAs scope order (expr.Call name args at) (Const (pos (elements_of scope.names v)))
+  count_as name args at v is named =
+      constant_as scope order _ _ (λ b w. call_whole b name args at (OfLanguage builtin.ElCount) w is ∙ ap (λ n. Gives n w) (count_of (source_setting b scope) w args)
       ∙ ap (λ o. Gives (option_map_or (λ v. pos (elements_of scope.names v)) o (pos 0)) w) named)
+    where
+      count_of : (s : source.Setting) (w : World source.Memory) (args : List Expr) → builtin_value s w builtin.ElCount args ≡ option_map_or (λ v. pos (elements_of s.scope.names v)) (array_given s.scope args) (pos 0)
+      count_of s w [] = refl
+      count_of s w (e ∷ []) = refl
+      count_of s w (e ∷ f ∷ more) = refl
 
-  -- a function of the language that gives 0 here: a statement of the language, or one that is given what it does not take
-  pub builtin_zero_as : (name : Text) (args : List Expr) (at : ℕ) (found : Builtin) → callee scope.names name ≡ OfLanguage found →
-      ((s : source.Setting) (w : World source.Memory) → s.scope ≡ scope → builtin_value s w found args ≡ pos 0) → GivesAs scope order (expr.Call name args at) (Const (pos 0))
+  -- a function of the language that gives 0: one that stands alone in a program without offences, or that is given what it does not take
+  pub builtin_zero_as : (name : Text) (args : List Expr) (at : ℕ) (found : Builtin) → callee scope.names name ≡ OfLanguage found → GivesZero scope found args → GivesAs scope order (expr.Call name args at) (Const (pos 0))
   builtin_zero_as name args at found is none =
-      constant_as scope order _ _ (λ b w. call_whole b name args at (OfLanguage found) w is ∙ ap (λ n. Gives n w) (none (source_setting b scope) w refl))
+      constant_as scope order _ _ (λ b w. call_whole b name args at (OfLanguage found) w is ∙ ap (λ n. Gives n w) (zero_of (source_setting b scope) w found args none))
+    where
+      zero_of : (s : source.Setting) (w : World source.Memory) (found : Builtin) (args : List Expr) → GivesZero s.scope found args → builtin_value s w found args ≡ pos 0
+      zero_of s w builtin.IsTimerActive [] h = refl
+      zero_of s w builtin.IsTimerActive (e ∷ []) h = ap (λ o. option_map_or (activity s w.memory.active) o (pos 0)) h
+      zero_of s w builtin.IsTimerActive (e ∷ f ∷ more) h = refl
+      zero_of s w builtin.ElCount [] h = refl
+      zero_of s w builtin.ElCount (e ∷ []) h = ap (λ o. option_map_or (λ v. pos (elements_of s.scope.names v)) o (pos 0)) h
+      zero_of s w builtin.ElCount (e ∷ f ∷ more) h = refl
+      zero_of s w builtin.TimeNow args h = elim h [ ]
+      zero_of s w found args h = refl

@@ -308,3 +308,14 @@ module _ (names : Names) (distinct : AreDistinct names.variables) (this : This) 
     where
       reached : 14 ≤ 14 → 14 ≤ length (message_cells (s.message (key_of v)))
       reached h = h
+
+-- the elements of an array are at its first cell
+pub array_laid : (names : Names) → AreDistinct names.variables → (this : This) (s : Store) (v : Variable) (k : Kind) (fixed : Bool) (size : _) → HasForm names v (Array k fixed size) →
+    take (elements_of names v) (drop (slot names (key_of v)) (all_cells names this s)) ≡ row (s.element (key_of v)) 0 (elements_of names v)
+array_laid names distinct this s v k fixed size real =
+    let many = elements_of names v in
+    let a = around names distinct this v real.among s in
+    let own = row (s.element (key_of v)) 0 many in
+    ap (λ l. take many (drop (slot names (key_of v)) l)) (a.whole s (λ u _. refl) ∙ ap (λ l. a.before ++ (l ++ a.behind)) (ap (cells_by s (key_of v) many) real.form_is))
+    ∙ ap (λ n. take many (drop n (a.before ++ (own ++ a.behind)))) (sym a.at)
+    ∙ take_middle a.before own a.behind many (row_long (s.element (key_of v)) 0 many)

@@ -7,3 +7,4 @@ pub mod Parts
 pub mod Places
 pub mod Runs
 pub mod Statements
+pub mod Timers

@@ -15,7 +15,7 @@ pub key_other : (k j : Key) → same_key k j ≡ false → same_key j k ≡ fals
 key_other k j e = rw (nat_eq_equiv.symm j.owner k.owner, nat_list_eq_equiv.symm j.name k.name) e
 
 -- a variable among the later ones has another key
-fresh : (u v : Variable) (us : List Variable) → AllByRecursion (λ x. same_key (key_of x) (key_of u) ≡ false) us → IsAmong v us → same_key (key_of v) (key_of u) ≡ false
+pub fresh : (u v : Variable) (us : List Variable) → AllByRecursion (λ x. same_key (key_of x) (key_of u) ≡ false) us → IsAmong v us → same_key (key_of v) (key_of u) ≡ false
 fresh u v [] all x = elim x [ ]
 fresh u v (x ∷ us) all (inl e) = subst (λ y. same_key (key_of y) (key_of u) ≡ false) e all.0
 fresh u v (x ∷ us) all (inr s) = fresh u v us all.1 s

@@ -1,7 +1,7 @@
 -- When a part of a typed program does what a part of a source does. A walk over the source gives these facts
 -- form by form, before the typed program is there; they are of use once it is, in a program that breaks no
 -- rule.
-use Rattle.std.specs.Prelude.{◌≡◌, ℕ, Bool, false, List, [], ◌∷◌, ◌++◌, filter_map, map, slice_get, slice_index_or, Option, Some, None, ℤ, ⊤}
+use Rattle.std.specs.Prelude.{◌≡◌, ℕ, Bool, true, false, List, [], ◌∷◌, ◌++◌, filter_map, map, slice_get, Option, Some, None, ℤ, ⊤}
 use Rattle.std.specs.List.{AllZip}
 use Rattle.int_kinds.specs.declared.kinds.Kind.{Kind}
 use Rattle.write_format.specs.declared.argument.ArgKind.{ArgKind}
@@ -10,10 +10,12 @@ use Rattle.write_format.specs.Format.{FormatText}
 use Rattle.worlds.specs.World.{World, Run, Gives}
 use Rattle.worlds.specs.Control.{Calls, Computes, Does}
 use Rattle.capl_tree.specs.declared.expr.Expr.{Expr}
+use Rattle.capl_tree.specs.declared.expr.Expr.TheVariants as expr
 use Rattle.capl_tree.specs.declared.statement.Stmt.{Stmt}
 use Rattle.capl_tree.specs.declared.statement.Arm.{Arm}
 use Rattle.capl_tree.specs.declared.statement.Group.{Group}
 use Rattle.capl_tree.specs.declared.procedure.Param.{Param}
+use Rattle.capl_tree.specs.Forms as tree
 use Rattle.typed_tree.specs.declared.expression.Place.{Place}
 use Rattle.typed_tree.specs.declared.expression.TExpr.{TExpr}
 use Rattle.typed_tree.specs.declared.statement.TStmt.{TStmt}
@@ -24,27 +26,27 @@ use Rattle.typed_tree.specs.Expression as typed
 use Rattle.typed_tree.specs.Memory as cells
 use Rattle.typed_tree.specs.Statement as typed_statement
 use Rattle.typed_tree.specs.Program.{body_of}
+use Rattle.capl_meaning.specs.declared.builtin.Builtin.{Builtin}
+use Rattle.capl_meaning.specs.declared.builtin.Builtin.TheVariants as builtin
 use Rattle.capl_meaning.specs.declared.sort.Sort.TheVariants as sort
-use Rattle.capl_meaning.specs.Variable.{Timer, Variable, variable_of_parameter}
-use Rattle.capl_meaning.specs.Names.{Function, Names, OfProgram, Scope, callee, inside_function}
+use Rattle.capl_meaning.specs.Variable.{Variable, variable_of_parameter}
+use Rattle.capl_meaning.specs.Names.{Callee, Function, Names, OfLanguage, OfProgram, Scope, callee, inside_function}
 use Rattle.capl_meaning.specs.Calls.{function_numbered}
 use Rattle.capl_meaning.specs.Format.{text_in}
-use Rattle.capl_meaning.specs.Message.{array_in}
+use Rattle.capl_meaning.specs.Message.{Held, HeldVariable, array_in}
 use Rattle.capl_meaning.specs.Sort.{is_number, sort_of}
 use Rattle.capl_meaning.specs.Constant.{elements_of}
-use Rattle.capl_meaning.specs.Store.{This, event_kinds, key_of, laid_kinds, timer_number, timer_units}
+use Rattle.capl_meaning.specs.Store.{This, event_kinds, key_of, laid_kinds, timer_units}
 use Rattle.capl_meaning.specs.Expression as source
 use Rattle.capl_meaning.specs.Statement as source_statement
 use Rattle.typed_meaning.specs.Laid.{AreDistinct, GivesOnly, IsAmong, IsOpen, IsReal, laid, laid_run, laid_spot, mapped, slot}
 
 -- ---- programs
 
--- What the names of a program without offences have. No name is declared twice; a timer's unit is found by its
--- number; and the function that is called is the one of its number, whose parameters are variables.
+-- What the names of a program without offences have: no name is declared twice. And what those of each program
+-- have: the function that is called is the one of its number, and the parameters of functions are variables.
 pub record ArePlain (names : Names) : Type 0 where
   pub distinct : AreDistinct names.variables
-  pub units : (v : Variable) (unit : ℕ) → IsAmong v names.variables → v.form ≡ Timer unit →
-      slice_index_or (timer_units names) (timer_number names v) 0 ≡ unit
   pub numbered : (name : List ℕ) (f : Function) → callee names name ≡ OfProgram f →
       function_numbered names f.number ≡ Some f
   pub parameters : (number : ℕ) (f : Function) → function_numbered names number ≡ Some f →
@@ -152,6 +154,45 @@ pub record AloneDoesAs (scope : Scope) (order : List ℕ) (formats : List Format
   pub same : (b : Beside scope.names order) → StandIn formats b.program.formats → (n : ℕ) →
       SameEnd scope.names b.this (source_statement.alone_of (source_setting b scope) b.call e)
       (typed_statement.stmt_of (typed_setting b) b.typed_call n t)
+
+-- whether a call that stands alone does what it is for, in place of what it does as an expression
+abbrev pub is_for_effect : Callee → List Expr → Bool
+is_for_effect (OfLanguage builtin.Output) (message ∷ []) = true
+is_for_effect (OfLanguage builtin.Write) (format ∷ arguments) = true
+is_for_effect (OfLanguage builtin.SetTimer) (timer ∷ duration ∷ []) = true
+is_for_effect (OfLanguage builtin.SetTimerCyclic) (timer ∷ duration ∷ []) = true
+is_for_effect (OfLanguage builtin.CancelTimer) (timer ∷ []) = true
+is_for_effect (OfLanguage builtin.Stop) [] = true
+is_for_effect _ _ = false
+
+-- whether an assignment that stands alone copies a message
+abbrev pub is_copy : Option Held → Option Held → Bool
+is_copy (Some (HeldVariable v signals)) (Some from) = true
+is_copy _ _ = false
+
+-- whether an expression that stands alone does what it does as an expression, by its form
+abbrev pub is_evaluated : Expr → Bool
+is_evaluated (tree.Paren inner at) = false
+is_evaluated (expr.Call' name shape args at) = false
+is_evaluated (tree.Assign None left right at) = false
+is_evaluated _ = true
+
+-- the timer that the only one of arguments names, if there is one
+abbrev pub timer_given : Scope → List Expr → Option Variable
+timer_given scope (e ∷ []) = source.timer_in scope e
+timer_given scope _ = None
+
+-- the array that the only one of arguments names, if there is one
+abbrev pub array_given : Scope → List Expr → Option Variable
+array_given scope (e ∷ []) = array_in scope e
+array_given scope _ = None
+
+-- a function of the language gives 0 for these arguments
+abbrev pub GivesZero : Scope → Builtin → List Expr → Type 0
+GivesZero scope builtin.IsTimerActive args = timer_given scope args ≡ None
+GivesZero scope builtin.ElCount args = array_given scope args ≡ None
+GivesZero scope builtin.TimeNow args = ⊥
+GivesZero scope found args = ⊤
 
 -- two parts that may be missing are there together, and then go with each other
 abbrev pub Both : {A B : Type 0} → (A → B → Type 0) → Option A → Option B → Type 0
