@@ -32,7 +32,7 @@ use Rattle.typed_meaning.proofs.Expressions.{constant_as}
 use Rattle.typed_meaning.proofs.Runs.{map_same, then_same}
 
 -- the row of a call's arguments
-abbrev source_row : Expr → (n : Count) × Row_of-Expr n
+abbrev pub source_row : Expr → (n : Count) × Row_of-Expr n
 source_row (expr.Call' _ _ row _) = (_, row)
 source_row _ = (_, end_of-Expr)
 

@@ -2,9 +2,12 @@
 pub mod Calls
 pub mod Cells
 pub mod Expressions
+pub mod Effects
+pub mod Lines
 pub mod Lists
 pub mod Parts
 pub mod Places
+pub mod Procedures
 pub mod Runs
 pub mod Statements
 pub mod Timers

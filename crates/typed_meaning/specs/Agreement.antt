@@ -14,6 +14,8 @@ use Rattle.capl_tree.specs.declared.expr.Expr.TheVariants as expr
 use Rattle.capl_tree.specs.declared.statement.Stmt.{Stmt}
 use Rattle.capl_tree.specs.declared.statement.Arm.{Arm}
 use Rattle.capl_tree.specs.declared.statement.Group.{Group}
+use Rattle.dbc_reader.specs.declared.message.DbcMessage.{DbcMessage}
+use Rattle.capl_tree.specs.declared.file.Program.{Program}
 use Rattle.capl_tree.specs.declared.procedure.Param.{Param}
 use Rattle.capl_tree.specs.Forms as tree
 use Rattle.typed_tree.specs.declared.expression.Place.{Place}
@@ -22,15 +24,17 @@ use Rattle.typed_tree.specs.declared.statement.TStmt.{TStmt}
 use Rattle.typed_tree.specs.declared.statement.TArm.{TArm}
 use Rattle.typed_tree.specs.declared.statement.TGroup.{TGroup}
 use Rattle.typed_tree.specs.declared.program.Typed.{Typed}
+use Rattle.typed_tree.specs.declared.program.THandler.{THandler}
 use Rattle.typed_tree.specs.Expression as typed
 use Rattle.typed_tree.specs.Memory as cells
 use Rattle.typed_tree.specs.Statement as typed_statement
 use Rattle.typed_tree.specs.Program.{body_of}
+use Rattle.typed_tree.specs.Program as typed_procedure
 use Rattle.capl_meaning.specs.declared.builtin.Builtin.{Builtin}
 use Rattle.capl_meaning.specs.declared.builtin.Builtin.TheVariants as builtin
 use Rattle.capl_meaning.specs.declared.sort.Sort.TheVariants as sort
 use Rattle.capl_meaning.specs.Variable.{Variable, variable_of_parameter}
-use Rattle.capl_meaning.specs.Names.{Callee, Function, Names, OfLanguage, OfProgram, Scope, callee, inside_function}
+use Rattle.capl_meaning.specs.Names.{Callee, Function, Names, OfLanguage, OfProgram, Scope, callee, inside_function, names_of}
 use Rattle.capl_meaning.specs.Calls.{function_numbered}
 use Rattle.capl_meaning.specs.Format.{text_in}
 use Rattle.capl_meaning.specs.Message.{Held, HeldVariable, array_in}
@@ -38,8 +42,10 @@ use Rattle.capl_meaning.specs.Sort.{is_number, sort_of}
 use Rattle.capl_meaning.specs.Constant.{elements_of}
 use Rattle.capl_meaning.specs.Store.{This, event_kinds, key_of, laid_kinds, timer_units}
 use Rattle.capl_meaning.specs.Expression as source
+use Rattle.capl_meaning.specs.Procedure.{Handler, handlers_of}
+use Rattle.capl_meaning.specs.Procedure as source_procedure
 use Rattle.capl_meaning.specs.Statement as source_statement
-use Rattle.typed_meaning.specs.Laid.{AreDistinct, GivesOnly, IsAmong, IsOpen, IsReal, laid, laid_run, laid_spot, mapped, slot}
+use Rattle.typed_meaning.specs.Laid.{AreDistinct, GivesOnly, IsAmong, IsOpen, IsReal, laid, laid_memory, laid_run, laid_spot, mapped, slot}
 
 -- ---- programs
 
@@ -222,10 +228,35 @@ IsArgument scope e (argument.Chars base len) = (v : Variable) × (array_in scope
     (len ≡ elements_of scope.names v)
 IsArgument scope e (argument.Str text) = (is_number (sort_of scope e) ≡ false) × (text_in e ≡ Some text)
 
--- ---- procedures
+-- ---- programs
 
 -- the functions of a typed program do what those of the source do, by their numbers in the source
 pub record FunctionsDoAs (names : Names) (order : List ℕ) (program : Typed) : Type 0 where
   pub bodies : (k number : ℕ) (f : Function) → slice_get order k ≡ Some number →
       function_numbered names number ≡ Some f →
       AllZip (DoesAs (inside_function names f) order program.formats) f.body (body_of program k)
+
+-- an event procedure of a typed program does what one of the source does
+pub record HandlerDoesAs (order : List ℕ) (formats : List FormatText) (handler : Handler)
+    (typed_handler : THandler) : Type 0 where
+  pub event : typed_handler.event ≡ handler.event
+  pub file : typed_handler.file ≡ handler.file
+  pub body : AllZip (DoesAs handler.scope order formats) handler.body typed_handler.body
+
+-- a typed program does what a source does: its tables are those of the source's names, and its functions and
+-- event procedures, which stand in program order, do what those of the source do
+pub record ProgramDoesAs (base : List DbcMessage) (program : Program) (typed_program : Typed) : Type 0 where
+  pub order : List ℕ
+  pub fits : Fits (names_of base program) order typed_program
+  pub functions : FunctionsDoAs (names_of base program) order typed_program
+  pub handlers : AllZip (HandlerDoesAs order typed_program.formats)
+      (handlers_of (names_of base program) program) typed_program.handlers
+
+-- how an event procedure ends, with its memory laid out
+abbrev pub laid_ending : Names → This → source_procedure.Ending → typed_procedure.Ending
+laid_ending names this e = record {
+  memory = laid_memory names this e.memory;
+  turns_taken = e.turns_taken;
+  effects = e.effects;
+  outcome = e.outcome;
+}
