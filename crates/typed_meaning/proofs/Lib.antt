@@ -2,12 +2,14 @@
 pub mod Calls
 pub mod Cells
 pub mod Expressions
+pub mod Declared
 pub mod Effects
 pub mod Lines
 pub mod Lists
 pub mod Parts
 pub mod Places
 pub mod Procedures
+pub mod Programs
 pub mod Runs
 pub mod Statements
 pub mod Timers

@@ -38,7 +38,7 @@ use Rattle.typed_meaning.proofs.Runs.{then_same}
 
 -- ---- what is named is among the variables
 
-found_among : (test : Variable → Bool) (vs : List Variable) (v : Variable) → find test vs ≡ Some v → IsAmong v vs
+pub found_among : {A : Type 0} (test : A → Bool) (vs : List A) (v : A) → find test vs ≡ Some v → IsAmong v vs
 found_among test [] v e = absurd (let f : None ≡ Some v = e in cc)
 found_among test (u ∷ us) v e = go (found_among test us v) (test u) e
   where

@@ -40,10 +40,10 @@ cells_before names (v ∷ vs) k =
 abbrev pub slot : Names → Key → ℕ
 slot names k = 15 + cells_before names names.variables k
 
--- a variable is among others
-abbrev pub IsAmong : Variable → List Variable → Type 0
-IsAmong v [] = ⊥
-IsAmong v (u ∷ us) = (u ≡ v) ⊎ IsAmong v us
+-- a thing is one of those in a list
+abbrev pub IsAmong : {A : Type 0} → A → List A → Type 0
+IsAmong x [] = ⊥
+IsAmong x (y ∷ ys) = (y ≡ x) ⊎ IsAmong x ys
 
 -- no two variables are of one procedure, or global, and have one name
 abbrev pub AreDistinct : List Variable → Type 0
