@@ -1,13 +1,12 @@
 -- Calls: of functions of the program, and of those of the language.
 use mathlib.Core.Former.{Count}
-use Rattle.std.proofs.Common.{◌≡◌, ℕ, zero, suc, Bool, true, false, List, [], ◌∷◌, Option, Some, None, refl, sym, ap, ◌∙◌, subst}
+use Rattle.std.proofs.Common.{◌≡◌, ℕ, zero, suc, false, List, [], ◌∷◌, Some, refl, sym, ap, ◌∙◌, subst}
 use Rattle.std.specs.Prelude.{ℤ, pos, map, slice_get, slice_index_or}
 use Rattle.std.specs.List.{AllZip}
 use Rattle.std.specs.Option.{option_map_or}
-use Rattle.int_kinds.specs.Kind.{wrap}
 use Rattle.int_kinds.specs.Arithmetic.{truth}
 use Rattle.sim_outside.specs.declared.text.Text.{Text}
-use Rattle.worlds.specs.World.{World, Run, Gives, Fails, and_then, run_map}
+use Rattle.worlds.specs.World.{World, Gives}
 use Rattle.capl_tree.specs.declared.expr.Expr.{Expr, Row_of-Expr, end_of-Expr, more_of-Expr, items-the_row-Expr, items_hidden-the_row-Expr-1}
 use Rattle.capl_tree.specs.declared.expr.Expr.TheVariants as expr
 use Rattle.capl_tree.specs.declared.procedure.Param.{Param}
@@ -20,13 +19,12 @@ use Rattle.capl_meaning.specs.declared.builtin.Builtin.TheVariants as builtin
 use Rattle.capl_meaning.specs.Variable.{Variable, variable_of_parameter}
 use Rattle.capl_meaning.specs.Names.{Callee, Function, Names, OfLanguage, OfProgram, Scope, Unknown, callee}
 use Rattle.capl_meaning.specs.Calls.{function_numbered}
-use Rattle.capl_meaning.specs.Message.{array_in}
 use Rattle.capl_meaning.specs.Constant.{elements_of}
-use Rattle.capl_meaning.specs.Store.{Key, Store, This, key_of, timer_number}
+use Rattle.capl_meaning.specs.Store.{Store, This, timer_number}
 use Rattle.capl_meaning.specs.Expression.{InNumber, activity, builtin_value, call_value, calling, timer_in, value_of, values_of, with_arguments, with_store}
 use Rattle.capl_meaning.specs.Expression as source
-use Rattle.typed_meaning.specs.Laid.{AreDistinct, HasForm, IsAmong, laid, laid_run, laid_spot, mapped, slot}
-use Rattle.typed_meaning.specs.Agreement.{ArePlain, Beside, Fits, GivesAs, GivesZero, array_given, parameter_slots, source_setting, timer_given, typed_setting}
+use Rattle.typed_meaning.specs.Laid.{AreDistinct, IsAmong, laid, laid_run, slot}
+use Rattle.typed_meaning.specs.Agreement.{ArePlain, Beside, GivesAs, GivesZero, array_given, parameter_slots, source_setting, timer_given, typed_setting}
 use Rattle.typed_meaning.proofs.Cells.{all_cells, all_kinds, write_laid}
 use Rattle.typed_meaning.proofs.Expressions.{constant_as}
 use Rattle.typed_meaning.proofs.Runs.{map_same, then_same}
@@ -61,7 +59,7 @@ module _ (names : Names) (order : List ℕ) (b : Beside names order) where
       ap (λ kinds. b.typed_call k (cells.with_cells (typed.with_arguments kinds (typed.params_of b.program k) ns (all_cells names b.this w.memory.store)) (laid names b.this w))) b.fits.kinds
       ∙ ap (λ slots. b.typed_call k (cells.with_cells (typed.with_arguments (all_kinds names) slots ns (all_cells names b.this w.memory.store)) (laid names b.this w))) params
       ∙ ap (λ all. b.typed_call k (cells.with_cells all (laid names b.this w)))
-        (arguments_laid names b.plain b.this f f.parameters (b.plain.parameters f.number f is) ns w.memory.store)
+      (arguments_laid names b.plain b.this f f.parameters (b.plain.parameters f.number f is) ns w.memory.store)
       ∙ b.same_calls k f.number at (with_store (with_arguments f.number f.parameters ns w.memory.store) w)
 
 module _ (scope : Scope) (order : List ℕ) where
@@ -92,13 +90,13 @@ module _ (scope : Scope) (order : List ℕ) where
       let row = source_row (expr.Call name args at) in
       let row' = typed_row (Call k typed_args) in
       let zipped : AllZip (GivesAs scope order) (items-the_row-Expr row.0 row.1) (items-the_row-TExpr row'.0 row'.1) =
-          subst (λ l. AllZip (GivesAs scope order) l (items-the_row-TExpr row'.0 row'.1)) (sym (items_hidden-the_row-Expr-1 args))
-          (subst (λ l. AllZip (GivesAs scope order) args l) (sym (items_hidden-the_row-TExpr-1 typed_args)) same_args) in
+      subst (λ l. AllZip (GivesAs scope order) l (items-the_row-TExpr row'.0 row'.1)) (sym (items_hidden-the_row-Expr-1 args))
+      (subst (λ l. AllZip (GivesAs scope order) args l) (sym (items_hidden-the_row-TExpr-1 typed_args)) same_args) in
       record {
         same = λ b w.
-          then_same scope.names b.this (λ ns. ns) (λ n. n) (values_of (source_setting b scope) b.call row.1 w) _ _ _ (values_same b w row.1 row'.1 zipped) (λ ns w.
-          calling_same scope.names order b f k ns w (b.plain.numbered name f is) numbered)
-          ∙ ap (laid_run scope.names b.this) (sym (call_whole b name args at (OfProgram f) w is));
+            then_same scope.names b.this (λ ns. ns) (λ n. n) (values_of (source_setting b scope) b.call row.1 w) _ _ _ (values_same b w row.1 row'.1 zipped) (λ ns w.
+            calling_same scope.names order b f k ns w (b.plain.numbered name f is) numbered)
+            ∙ ap (laid_run scope.names b.this) (sym (call_whole b name args at (OfProgram f) w is));
       }
 
   -- a call of nothing
@@ -110,9 +108,9 @@ module _ (scope : Scope) (order : List ℕ) where
       timer_given scope args ≡ Some v → (AreDistinct scope.names.variables → timer ≡ timer_number scope.names v) → GivesAs scope order (expr.Call name args at) (Active timer)
   active_as name args at v timer is named number = record {
     same = λ b w.
-      ap (λ n. Gives (truth (slice_index_or w.memory.active n false)) (laid scope.names b.this w)) (number b.plain.distinct)
-      ∙ ap (laid_run scope.names b.this) (sym (call_whole b name args at (OfLanguage builtin.IsTimerActive) w is ∙ ap (λ n. Gives n w) (activity_of (source_setting b scope) w args)
-      ∙ ap (λ o. Gives (option_map_or (activity (source_setting b scope) w.memory.active) o (pos 0)) w) named));
+        ap (λ n. Gives (truth (slice_index_or w.memory.active n false)) (laid scope.names b.this w)) (number b.plain.distinct)
+        ∙ ap (laid_run scope.names b.this) (sym (call_whole b name args at (OfLanguage builtin.IsTimerActive) w is ∙ ap (λ n. Gives n w) (activity_of (source_setting b scope) w args)
+        ∙ ap (λ o. Gives (option_map_or (activity (source_setting b scope) w.memory.active) o (pos 0)) w) named));
   }
     where
       activity_of : (s : source.Setting) (w : World source.Memory) (args : List Expr) → builtin_value s w builtin.IsTimerActive args ≡ option_map_or (activity s w.memory.active) (timer_given s.scope args) (pos 0)

@@ -1,10 +1,10 @@
 -- Reading and storing in the cells that a store is laid out in.
-use Rattle.std.proofs.Common.{◌≡◌, ℕ, zero, suc, ◌+◌, ◌-◌, ◌<◌, ◌≤◌, Bool, true, false, ◌&&◌, List, [], ◌∷◌, ◌++◌, length, Option, Some, None, refl, sym, ap, ◌∙◌, subst, arith, length-append, append_assoc, append-nil, get_or, set, get_or-take, get_or-drop}
-use Rattle.std.specs.Prelude.{ℤ, pos, ◌==◌, nat_eq, if◌then◌else◌, flat_map, map, take, drop, replicate, slice_set, slice_index_or, slice_get}
+use Rattle.std.proofs.Common.{◌≡◌, ℕ, zero, suc, ◌+◌, ◌<◌, ◌≤◌, Bool, true, false, ◌&&◌, List, [], ◌∷◌, ◌++◌, length, refl, sym, ap, ◌∙◌, arith, length-append, append_assoc, get_or, set, get_or-take, get_or-drop}
+use Rattle.std.specs.Prelude.{ℤ, pos, ◌==◌, nat_eq, if◌then◌else◌, map, take, drop, replicate, slice_set}
 use Rattle.std.specs.List.{splice}
 use Rattle.std.proofs.lemmas.Bool.{eqb-true}
 use Rattle.std.proofs.lemmas.Cmp.{nat_eq_equiv}
-use Rattle.std.proofs.lemmas.List.{length-map, length-set}
+use Rattle.std.proofs.lemmas.List.{length-set}
 use Rattle.int_kinds.specs.declared.kinds.Kind.{Kind}
 use Rattle.int_kinds.specs.declared.kinds.Kind.TheVariants.{Long}
 use Rattle.int_kinds.specs.Kind.{wrap}
@@ -12,17 +12,16 @@ use Rattle.int_kinds.specs.Arithmetic.{residue}
 use Rattle.signal_codec.specs.declared.layout.Layout.{Layout}
 use Rattle.signal_codec.specs.Signal.{bit_numbers, payload_with, payload_with_bits, signal_value}
 use Rattle.message_cells.specs.Message.{bytes_of, bytes_of_number, message_of, number_at, payload_of, size, with_bytes, with_message as with_message_at, written_can, written_dlc, written_id, written_rtr}
-use Rattle.capl_meaning.specs.declared.field.MessageField.{MessageField}
 use Rattle.capl_meaning.specs.declared.field.MessageField.TheVariants.{Id, Dlc, Rtr, Can, Dir, Time}
 use Rattle.capl_meaning.specs.Variable.{Form, Number, Array, Message, MessageType, Timer, Misfit, Variable}
 use Rattle.capl_meaning.specs.Names.{Names}
 use Rattle.capl_meaning.specs.Message.{Held, HeldFrame, HeldVariable}
 use Rattle.capl_meaning.specs.Constant.{elements_of}
-use Rattle.capl_meaning.specs.Store.{Key, MessageRecord, Store, This, byte_after, cells_by, cells_of, event_cells, event_kinds, key_of, kinds_by, laid_kinds, lay, message_cells, payload, row, same_key, with_bytes as with_bytes_in, with_element, with_field, with_message, with_number, with_payload, with_signal}
+use Rattle.capl_meaning.specs.Store.{MessageRecord, Store, This, cells_by, cells_of, event_cells, event_kinds, key_of, kinds_by, laid_kinds, lay, message_cells, payload, row, same_key, with_element, with_message, with_number, with_payload}
 use Rattle.capl_meaning.specs.Expression.{InBytes, InElement, InField, InNumber, InSignal, Nowhere, held_message}
 use Rattle.capl_meaning.specs.Expression as source
 use Rattle.typed_tree.specs.Memory as typed
-use Rattle.typed_meaning.specs.Laid.{AreDistinct, HasForm, IsAmong, IsHeld, IsOpen, IsReal, cell_count, cells_before, cells_by_form, laid_field, laid_spot, message_slot, slot}
+use Rattle.typed_meaning.specs.Laid.{AreDistinct, HasForm, IsAmong, IsHeld, IsOpen, IsReal, cell_count, cells_by_form, laid_spot, message_slot, slot}
 use Rattle.typed_meaning.proofs.Lists.{at_middle, replicate_at, replicate_long, row_at, row_long, row_same, row_set, row_splice, set_middle, splice_middle, take_middle}
 use Rattle.typed_meaning.proofs.Parts.{key_self, parted}
 
@@ -112,7 +111,7 @@ module _ (names : Names) (distinct : AreDistinct names.variables) (this : This) 
       let p = parted names f (kinds_long names) names.variables distinct v among in
       let at : length (event_kinds ++ p.0) ≡ slot names (key_of v) = length-append event_kinds p.0 ∙ ap (λ n. 15 + n) p.2 in
       let whole : all_kinds names ≡ (event_kinds ++ p.0) ++ (own ++ p.1) =
-          ap (λ l. event_kinds ++ l) (p.3 f (λ u _. refl)) ∙ sym (append_assoc event_kinds p.0 (f v ++ p.1)) ∙ ap (λ l. (event_kinds ++ p.0) ++ (l ++ p.1)) is in
+      ap (λ l. event_kinds ++ l) (p.3 f (λ u _. refl)) ∙ sym (append_assoc event_kinds p.0 (f v ++ p.1)) ∙ ap (λ l. (event_kinds ++ p.0) ++ (l ++ p.1)) is in
       ap (λ l. get_or l (slot names (key_of v) + i) Long) whole
       ∙ ap (λ n. get_or ((event_kinds ++ p.0) ++ (own ++ p.1)) (n + i) Long) (sym at)
       ∙ at_middle (event_kinds ++ p.0) own p.1 i Long (omega (arith, less, kinds_long names v, ap length is))
@@ -238,11 +237,11 @@ module _ (names : Names) (distinct : AreDistinct names.variables) (this : This) 
       let first : at + 6 + i ≡ at + (6 + i) = omega arith in
       let last : at + 6 + i + length bytes ≡ at + (6 + (i + length bytes)) = omega arith in
       let is : cells_of names t v ≡ splice own (6 + i) (6 + (i + length bytes)) (map pos bytes) =
-          ap (cells_by t (key_of v) (elements_of names v)) real.form_is ∙ ap (λ b. message_cells (if b then after else s.message (key_of v))) (key_self (key_of v))
-          ∙ bytes_put i bytes (s.message (key_of v)) fits in
+      ap (cells_by t (key_of v) (elements_of names v)) real.form_is ∙ ap (λ b. message_cells (if b then after else s.message (key_of v))) (key_self (key_of v))
+      ∙ bytes_put i bytes (s.message (key_of v)) fits in
       ap (λ n. splice (all_cells names this s) n (at + 6 + i + length bytes) (map pos bytes)) first ∙ ap (λ n. splice (all_cells names this s) (at + (6 + i)) n (map pos bytes)) last
       ∙ sym (cells_put names distinct this v real.among s t own (ap (cells_by s (key_of v) (elements_of names v)) real.form_is) (message_only names v after s)
-        (6 + i) (6 + (i + length bytes)) (within (omega (arith, fits))) (within (omega (arith, fits))) (map pos bytes) is)
+      (6 + i) (6 + (i + length bytes)) (within (omega (arith, fits))) (within (omega (arith, fits))) (map pos bytes) is)
     where
       within : {n : ℕ} → n ≤ 14 → n ≤ length (message_cells (s.message (key_of v)))
       within h = h
@@ -254,27 +253,27 @@ module _ (names : Names) (distinct : AreDistinct names.variables) (this : This) 
   write_laid s (InNumber k v) n real stored =
       let e : slot names (key_of v) ≡ slot names (key_of v) + zero = omega arith in
       let kind : typed.kind_of (all_kinds names) (slot names (key_of v)) ≡ k =
-          ap (λ i. typed.kind_of (all_kinds names) i) e
-          ∙ kind_at names distinct this v real.1.among zero (rw (ap (cells_by_form (elements_of names v)) real.1.form_is) (omega arith)) (k ∷ []) (ap (kinds_by (elements_of names v)) real.1.form_is) in
+      ap (λ i. typed.kind_of (all_kinds names) i) e
+      ∙ kind_at names distinct this v real.1.among zero (rw (ap (cells_by_form (elements_of names v)) real.1.form_is) (omega arith)) (k ∷ []) (ap (kinds_by (elements_of names v)) real.1.form_is) in
       let x = wrap k n in
       let t = with_number (key_of v) x s in
       ap (λ j. slice_set (all_cells names this s) (slot names (key_of v)) (wrap j n)) kind
       ∙ ap (λ i. slice_set (all_cells names this s) i x) e
       ∙ sym (cell_set names distinct this v real.1.among s t (s.number (key_of v) ∷ []) (ap (cells_by s (key_of v) (elements_of names v)) real.1.form_is) (number_only names v x s) zero (omega arith) x
-        (ap (cells_by t (key_of v) (elements_of names v)) real.1.form_is ∙ ap (λ b. (if b then x else s.number (key_of v)) ∷ []) (key_self (key_of v))))
+      (ap (cells_by t (key_of v) (elements_of names v)) real.1.form_is ∙ ap (λ b. (if b then x else s.number (key_of v)) ∷ []) (key_self (key_of v))))
   write_laid s (InElement k v i) n real stored =
       let many = elements_of names v in
       let kind : typed.kind_of (all_kinds names) (slot names (key_of v) + i) ≡ k =
-          kind_at names distinct this v real.2.among i (rw (ap (cells_by_form many) real.2.form_is) real.3) (replicate many k) (ap (kinds_by many) real.2.form_is) ∙ replicate_at many i k Long real.3 in
+      kind_at names distinct this v real.2.among i (rw (ap (cells_by_form many) real.2.form_is) real.3) (replicate many k) (ap (kinds_by many) real.2.form_is) ∙ replicate_at many i k Long real.3 in
       let x = wrap k n in
       let t = with_element (key_of v) i x s in
       let start : zero + i ≡ i = omega arith in
       let mine : t.element (key_of v) i ≡ x = rw (key_self (key_of v), nat_eq_equiv.refl i) refl in
       ap (λ j. slice_set (all_cells names this s) (slot names (key_of v) + i) (wrap j n)) kind
       ∙ sym (cell_set names distinct this v real.2.among s t (row (s.element (key_of v)) 0 many) (ap (cells_by s (key_of v) many) real.2.form_is) (element_only names v i x s) i
-        (omega (arith, row_long (s.element (key_of v)) 0 many, real.3)) x
-        (ap (cells_by t (key_of v) many) real.2.form_is
-        ∙ row_set (s.element (key_of v)) (t.element (key_of v)) 0 many i x real.3 (ap (t.element (key_of v)) start ∙ mine) (λ m other. elsewhere x m (λ same. other (same ∙ sym start)) (nat_eq m i) refl)))
+      (omega (arith, row_long (s.element (key_of v)) 0 many, real.3)) x
+      (ap (cells_by t (key_of v) many) real.2.form_is
+      ∙ row_set (s.element (key_of v)) (t.element (key_of v)) 0 many i x real.3 (ap (t.element (key_of v)) start ∙ mine) (λ m other. elsewhere x m (λ same. other (same ∙ sym start)) (nat_eq m i) refl)))
     where
       elsewhere : (x : ℤ) (m : ℕ) → ¬ (m ≡ i) → (b : Bool) → nat_eq m i ≡ b → (with_element (key_of v) i x s).element (key_of v) m ≡ s.element (key_of v) m
       elsewhere x m other true is = absurd (other (eqb-true m i is))
@@ -304,7 +303,7 @@ module _ (names : Names) (distinct : AreDistinct names.variables) (this : This) 
       let e : slot names (key_of v) ≡ slot names (key_of v) + zero = omega arith in
       ap (λ n. splice (all_cells names this s) n (slot names (key_of v) + 14) (message_cells m)) e
       ∙ sym (cells_put names distinct this v real.among s t own (ap (cells_by s (key_of v) (elements_of names v)) real.form_is) (message_only names v m s) 0 14 (omega arith) (reached (omega arith)) (message_cells m)
-        (ap (cells_by t (key_of v) (elements_of names v)) real.form_is ∙ ap (λ b. message_cells (if b then m else s.message (key_of v))) (key_self (key_of v))))
+      (ap (cells_by t (key_of v) (elements_of names v)) real.form_is ∙ ap (λ b. message_cells (if b then m else s.message (key_of v))) (key_self (key_of v))))
     where
       reached : 14 ≤ 14 → 14 ≤ length (message_cells (s.message (key_of v)))
       reached h = h

@@ -1,6 +1,6 @@
 -- What the names of each program have.
-use Rattle.std.proofs.Common.{◌≡◌, ℕ, zero, suc, ◌+◌, ◌≤◌, ◌<◌, ◌⊎◌, inl, inr, Bool, true, false, List, [], ◌∷◌, ◌++◌, Option, Some, None, refl, sym, ap, ◌∙◌, subst, arith}
-use Rattle.std.specs.Prelude.{⊤, ◌==◌, nat_eq, cond, filter_map, find, flat_map, map, slice_get}
+use Rattle.std.proofs.Common.{◌≡◌, ℕ, zero, suc, ◌≤◌, inl, inr, Bool, true, false, List, [], ◌∷◌, ◌++◌, Option, Some, None, refl, ap, ◌∙◌, subst, arith}
+use Rattle.std.specs.Prelude.{⊤, ◌==◌, cond, filter_map, find, flat_map, map, slice_get}
 use Rattle.std.specs.List.{AllByRecursion, cons_option}
 use Rattle.std.specs.Option.{option_map_or}
 use Rattle.std.specs.Str.{bytes_eq}
@@ -8,7 +8,6 @@ use Rattle.std.proofs.lemmas.Bool.{eqb-true}
 use Rattle.std.proofs.lemmas.Cmp.{nat_eq_equiv}
 use Rattle.vm_host.specs.declared.event.Event.{Event}
 use Rattle.dbc_reader.specs.declared.message.DbcMessage.{DbcMessage}
-use Rattle.capl_tree.specs.declared.declaration.Decl.{Decl}
 use Rattle.capl_tree.specs.declared.file.FileTree.{FileTree}
 use Rattle.capl_tree.specs.declared.file.Program.{Program}
 use Rattle.capl_tree.specs.declared.file.TopItem.{TopItem}
@@ -16,13 +15,11 @@ use Rattle.capl_tree.specs.declared.file.TopItem.TheVariants as top
 use Rattle.capl_tree.specs.declared.procedure.Head.{Head}
 use Rattle.capl_tree.specs.declared.procedure.Head.TheVariants as head
 use Rattle.capl_tree.specs.declared.procedure.Param.{Param}
-use Rattle.capl_tree.specs.declared.procedure.Proc.{Proc}
 use Rattle.capl_tree.specs.declared.statement.Stmt.{Stmt}
 use Rattle.capl_meaning.specs.declared.builtin.Builtin.{Builtin}
-use Rattle.capl_meaning.specs.Variable.{Part, Globals, Procedure, Variable, parameters_of, parts_of, parts_of_files, parts_of_items, variable_of_parameter, variables_of, variables_of_part}
-use Rattle.capl_meaning.specs.Names.{Callee, Function, Names, OfLanguage, OfProgram, Unknown, builtin_named, callee, callee_before, callee_by, function_by, function_of_part, inside, names_of}
-use Rattle.capl_meaning.specs.Calls.{function_numbered}
-use Rattle.capl_meaning.specs.Procedure.{Handler, event_of, handlers_of, handlers_of_part}
+use Rattle.capl_meaning.specs.Variable.{Part, Globals, Procedure, parameters_of, parts_of, parts_of_files, parts_of_items, variable_of_parameter, variables_of, variables_of_part}
+use Rattle.capl_meaning.specs.Names.{Function, Names, OfLanguage, OfProgram, Unknown, builtin_named, callee, callee_before, callee_by, function_by, function_of_part, inside, names_of}
+use Rattle.capl_meaning.specs.Procedure.{Handler, event_of, handlers_of_part}
 use Rattle.typed_meaning.specs.Laid.{AreDistinct, IsAmong}
 use Rattle.typed_meaning.specs.Agreement.{ArePlain}
 use Rattle.typed_meaning.proofs.Places.{found_among}

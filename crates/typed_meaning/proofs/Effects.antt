@@ -1,7 +1,6 @@
 -- Expressions that stand alone: lines, frames, copies, timers and `stop`, and all that is evaluated.
-use mathlib.Core.Former.{Count}
-use Rattle.std.proofs.Common.{◌≡◌, ℕ, zero, suc, Bool, true, false, List, [], ◌∷◌, Option, Some, None, refl, sym, ap, ◌∙◌, subst}
-use Rattle.std.specs.Prelude.{ℤ, pos, filter, if◌then◌else◌, map, slice_get, slice_index_or, unwrap_or}
+use Rattle.std.proofs.Common.{◌≡◌, ℕ, Bool, true, false, List, [], ◌∷◌, Option, Some, None, refl, sym, ap, ◌∙◌}
+use Rattle.std.specs.Prelude.{filter, if◌then◌else◌, map, slice_get, slice_index_or, unwrap_or}
 use Rattle.std.specs.List.{AllZip}
 use Rattle.std.specs.Option.{option_map_or}
 use Rattle.sim_outside.specs.declared.text.Text.{Text}
@@ -12,30 +11,29 @@ use Rattle.write_format.specs.Line.{line_of}
 use Rattle.vm_host.specs.Duration.{micros}
 use Rattle.vm_host.specs.Effect as effect
 use Rattle.message_cells.specs.Message.{frame_of, message_of, with_message as with_message_at}
-use Rattle.worlds.specs.World.{World, Run, Gives, Fails, and_then, run_map, after_effect}
-use Rattle.worlds.specs.Control.{Calls, Does, End, GoesOn, nothing}
-use Rattle.capl_tree.specs.declared.expr.Expr.{Expr, Row_of-Expr, items-the_row-Expr, items_hidden-the_row-Expr-1}
+use Rattle.worlds.specs.World.{World, Gives, after_effect}
+use Rattle.worlds.specs.Control.{Does, GoesOn}
+use Rattle.capl_tree.specs.declared.expr.Expr.{Expr, items-the_row-Expr, items_hidden-the_row-Expr-1}
 use Rattle.capl_tree.specs.declared.expr.Expr.TheVariants as expr
 use Rattle.capl_tree.specs.Forms as tree
 use Rattle.typed_tree.specs.declared.expression.TExpr.{TExpr}
 use Rattle.typed_tree.specs.declared.statement.TStmt.{TStmt}
 use Rattle.typed_tree.specs.declared.statement.TStmt.TheVariants as t
-use Rattle.typed_tree.specs.Expression as typed
 use Rattle.typed_tree.specs.Memory as cells
 use Rattle.typed_tree.specs.Statement as typed_statement
 use Rattle.capl_meaning.specs.declared.builtin.Builtin.TheVariants as builtin
 use Rattle.capl_meaning.specs.Variable.{Variable}
-use Rattle.capl_meaning.specs.Names.{Callee, OfLanguage, OfProgram, Scope, Unknown, callee}
+use Rattle.capl_meaning.specs.Names.{Callee, OfLanguage, Scope, callee}
 use Rattle.capl_meaning.specs.Format.{text_in}
-use Rattle.capl_meaning.specs.Message.{Held, HeldFrame, HeldVariable, message_in}
+use Rattle.capl_meaning.specs.Message.{Held, HeldVariable, message_in}
 use Rattle.capl_meaning.specs.Sort.{is_number, sort_of}
-use Rattle.capl_meaning.specs.Store.{Key, This, key_of, message_cells, timer_number, unit_of}
+use Rattle.capl_meaning.specs.Store.{key_of, message_cells, timer_number, unit_of}
 use Rattle.capl_meaning.specs.Expression.{held_message, timer_in, with_store}
 use Rattle.capl_meaning.specs.Expression as source
 use Rattle.capl_meaning.specs.Statement.{alone_of, arguments_of, assigns, calls_alone, cancels, copies, drops, fitting_pieces, sends, sets, sets_timer, with_line, writes_line}
 use Rattle.capl_meaning.specs.Statement as source_statement
-use Rattle.typed_meaning.specs.Laid.{AreDistinct, HasForm, IsHeld, laid, laid_run, mapped, message_slot, slot}
-use Rattle.typed_meaning.specs.Agreement.{AloneDoesAs, Beside, GivesAs, IsArgument, SameEnd, StandIn, is_copy, is_evaluated, is_for_effect, source_setting, typed_setting}
+use Rattle.typed_meaning.specs.Laid.{AreDistinct, laid, laid_run, message_slot, slot}
+use Rattle.typed_meaning.specs.Agreement.{AloneDoesAs, Beside, GivesAs, IsArgument, SameEnd, is_copy, is_evaluated, is_for_effect, source_setting, typed_setting}
 use Rattle.typed_meaning.proofs.Calls.{source_row}
 use Rattle.typed_meaning.proofs.Cells.{all_cells, copy_laid, message_laid}
 use Rattle.typed_meaning.proofs.Lines.{line_same, numbers_same}
@@ -109,11 +107,11 @@ module _ (scope : Scope) (order : List ℕ) (formats : List FormatText) where
       (AreDistinct scope.names.variables → cell ≡ message_slot scope.names held) → AloneDoesAs scope order formats (expr.Call name (message ∷ []) at) (t.Send cell)
   send_as name message at held cell is named where_ = record {
     same = λ b stand n w.
-      let names = scope.names in
-      unless_same b (λ w. after_effect (effect.Send (frame_of (message_cells (held_message b.this w.memory.store held)))) w) (λ w. after_effect (effect.Send (frame_of (message_of cell w.memory.cells))) w) w
-      (ap (λ m. after_effect (effect.Send (frame_of m)) (laid names b.this w))
-      (ap (λ c. message_of c (all_cells names b.this w.memory.store)) (where_ b.plain.distinct) ∙ message_laid names b.plain.distinct b.this w.memory.store held (message_named scope message held named)))
-      ∙ ap (laid_run names b.this) (sym (call_alone b name (message ∷ []) at (OfLanguage builtin.Output) w is ∙ ap (λ o. sends (source_setting b scope) o w) named));
+        let names = scope.names in
+        unless_same b (λ w. after_effect (effect.Send (frame_of (message_cells (held_message b.this w.memory.store held)))) w) (λ w. after_effect (effect.Send (frame_of (message_of cell w.memory.cells))) w) w
+        (ap (λ m. after_effect (effect.Send (frame_of m)) (laid names b.this w))
+        (ap (λ c. message_of c (all_cells names b.this w.memory.store)) (where_ b.plain.distinct) ∙ message_laid names b.plain.distinct b.this w.memory.store held (message_named scope message held named)))
+        ∙ ap (laid_run names b.this) (sym (call_alone b name (message ∷ []) at (OfLanguage builtin.Output) w is ∙ ap (λ o. sends (source_setting b scope) o w) named));
   }
 
   pub no_send_as : (name : Text) (message : Expr) (at : ℕ) → callee scope.names name ≡ OfLanguage builtin.Output → message_in scope message ≡ None →
@@ -131,16 +129,16 @@ module _ (scope : Scope) (order : List ℕ) (formats : List FormatText) where
       AloneDoesAs scope order formats (expr.Call name (timer ∷ duration ∷ []) at) (t.Set number cyclic u)
   set_same name timer duration at cyclic v number u named where_ f whole = record {
     same = λ b stand n w.
-      let names = scope.names in
-      let real = timer_named scope timer v named in
-      then_same names b.this (λ m. m) (λ end. end) (source.value_of (source_setting b scope) b.call duration w) _ (sets (source_setting b scope) v cyclic) _ (f.same b w) (λ m w.
-      unless_same b (λ w. after_effect (effect.Set (timer_number names v) (micros (unwrap_or (unit_of v.form) 0) m) cyclic) (source_statement.with_timer (timer_number names v) true w))
-      (λ w. after_effect (effect.Set number (micros (slice_index_or b.program.timers number 0) m) cyclic) (cells.with_timer number true w)) w
-      (ap (λ k. after_effect (effect.Set k (micros (slice_index_or b.program.timers k 0) m) cyclic) (cells.with_timer k true (laid names b.this w))) (where_ b.plain.distinct)
-      ∙ ap (λ units. after_effect (effect.Set (timer_number names v) (micros (slice_index_or units (timer_number names v) 0) m) cyclic) (cells.with_timer (timer_number names v) true (laid names b.this w))) b.fits.timers
-      ∙ ap (λ unit. after_effect (effect.Set (timer_number names v) (micros unit m) cyclic) (cells.with_timer (timer_number names v) true (laid names b.this w)))
+        let names = scope.names in
+        let real = timer_named scope timer v named in
+        then_same names b.this (λ m. m) (λ end. end) (source.value_of (source_setting b scope) b.call duration w) _ (sets (source_setting b scope) v cyclic) _ (f.same b w) (λ m w.
+        unless_same b (λ w. after_effect (effect.Set (timer_number names v) (micros (unwrap_or (unit_of v.form) 0) m) cyclic) (source_statement.with_timer (timer_number names v) true w))
+        (λ w. after_effect (effect.Set number (micros (slice_index_or b.program.timers number 0) m) cyclic) (cells.with_timer number true w)) w
+        (ap (λ k. after_effect (effect.Set k (micros (slice_index_or b.program.timers k 0) m) cyclic) (cells.with_timer k true (laid names b.this w))) (where_ b.plain.distinct)
+        ∙ ap (λ units. after_effect (effect.Set (timer_number names v) (micros (slice_index_or units (timer_number names v) 0) m) cyclic) (cells.with_timer (timer_number names v) true (laid names b.this w))) b.fits.timers
+        ∙ ap (λ unit. after_effect (effect.Set (timer_number names v) (micros unit m) cyclic) (cells.with_timer (timer_number names v) true (laid names b.this w)))
         (unit_found names b.plain.distinct v real.0 real.1 ∙ sym (ap (λ form. unwrap_or (unit_of form) 0) real.1.form_is))))
-      ∙ ap (laid_run names b.this) (sym (whole b w ∙ ap (λ o. sets_timer (source_setting b scope) o cyclic (source.value_of (source_setting b scope) b.call duration) w) named));
+        ∙ ap (laid_run names b.this) (sym (whole b w ∙ ap (λ o. sets_timer (source_setting b scope) o cyclic (source.value_of (source_setting b scope) b.call duration) w) named));
   }
 
   pub set_as : (name : Text) (timer duration : Expr) (at : ℕ) (v : Variable) (number : ℕ) (u : TExpr) → callee scope.names name ≡ OfLanguage builtin.SetTimer → timer_in scope timer ≡ Some v →
@@ -160,23 +158,23 @@ module _ (scope : Scope) (order : List ℕ) (formats : List FormatText) where
       AloneDoesAs scope order formats (expr.Call name (timer ∷ duration ∷ []) at) t.Empty
   no_set_as name timer duration at is named = record {
     same = λ b stand n w. ap (laid_run scope.names b.this) (sym (call_alone b name (timer ∷ duration ∷ []) at (OfLanguage builtin.SetTimer) w is
-      ∙ ap (λ o. sets_timer (source_setting b scope) o false (source.value_of (source_setting b scope) b.call duration) w) named));
+        ∙ ap (λ o. sets_timer (source_setting b scope) o false (source.value_of (source_setting b scope) b.call duration) w) named));
   }
 
   pub no_set_cyclic_as : (name : Text) (timer duration : Expr) (at : ℕ) → callee scope.names name ≡ OfLanguage builtin.SetTimerCyclic → timer_in scope timer ≡ None →
       AloneDoesAs scope order formats (expr.Call name (timer ∷ duration ∷ []) at) t.Empty
   no_set_cyclic_as name timer duration at is named = record {
     same = λ b stand n w. ap (laid_run scope.names b.this) (sym (call_alone b name (timer ∷ duration ∷ []) at (OfLanguage builtin.SetTimerCyclic) w is
-      ∙ ap (λ o. sets_timer (source_setting b scope) o true (source.value_of (source_setting b scope) b.call duration) w) named));
+        ∙ ap (λ o. sets_timer (source_setting b scope) o true (source.value_of (source_setting b scope) b.call duration) w) named));
   }
 
   pub cancel_as : (name : Text) (timer : Expr) (at : ℕ) (v : Variable) (number : ℕ) → callee scope.names name ≡ OfLanguage builtin.CancelTimer → timer_in scope timer ≡ Some v →
       (AreDistinct scope.names.variables → number ≡ timer_number scope.names v) → AloneDoesAs scope order formats (expr.Call name (timer ∷ []) at) (t.Cancel number)
   cancel_as name timer at v number is named where_ = record {
     same = λ b stand n w.
-      unless_same b (λ w. after_effect (effect.Cancel (timer_number scope.names v)) (source_statement.with_timer (timer_number scope.names v) false w))
-      (λ w. after_effect (effect.Cancel number) (cells.with_timer number false w)) w (ap (λ k. after_effect (effect.Cancel k) (cells.with_timer k false (laid scope.names b.this w))) (where_ b.plain.distinct))
-      ∙ ap (laid_run scope.names b.this) (sym (call_alone b name (timer ∷ []) at (OfLanguage builtin.CancelTimer) w is ∙ ap (λ o. cancels (source_setting b scope) o w) named));
+        unless_same b (λ w. after_effect (effect.Cancel (timer_number scope.names v)) (source_statement.with_timer (timer_number scope.names v) false w))
+        (λ w. after_effect (effect.Cancel number) (cells.with_timer number false w)) w (ap (λ k. after_effect (effect.Cancel k) (cells.with_timer k false (laid scope.names b.this w))) (where_ b.plain.distinct))
+        ∙ ap (laid_run scope.names b.this) (sym (call_alone b name (timer ∷ []) at (OfLanguage builtin.CancelTimer) w is ∙ ap (λ o. cancels (source_setting b scope) o w) named));
   }
 
   pub no_cancel_as : (name : Text) (timer : Expr) (at : ℕ) → callee scope.names name ≡ OfLanguage builtin.CancelTimer → timer_in scope timer ≡ None →
@@ -198,14 +196,14 @@ module _ (scope : Scope) (order : List ℕ) (formats : List FormatText) where
       AllZip (GivesAs scope order) (filter (λ e. is_number (sort_of scope e)) arguments) us → AloneDoesAs scope order formats (expr.Call name (format ∷ arguments) at) (t.Write number us)
   write_as name format arguments at pieces kinds text number us is fitting argued made there f = record {
     same = λ b stand n w.
-      let names = scope.names in
-      let s = source_setting b scope in
-      then_same names b.this (λ ns. ns) (λ end. end) (source_statement.numbers_of s b.call arguments w) _ (λ ns w. Gives GoesOn (with_line s pieces arguments ns w)) (typed_statement.writes (typed_setting b) number)
-      (numbers_same scope order b arguments us f w) (λ ns w.
-      ap (λ o. Gives GoesOn (option_map_or (typed_statement.with_line ns (laid names b.this w)) o (laid names b.this w))) (stand number text there)
-      ∙ ap (λ l. Gives GoesOn (after_effect (effect.Line l) (laid names b.this w)))
+        let names = scope.names in
+        let s = source_setting b scope in
+        then_same names b.this (λ ns. ns) (λ end. end) (source_statement.numbers_of s b.call arguments w) _ (λ ns w. Gives GoesOn (with_line s pieces arguments ns w)) (typed_statement.writes (typed_setting b) number)
+        (numbers_same scope order b arguments us f w) (λ ns w.
+        ap (λ o. Gives GoesOn (option_map_or (typed_statement.with_line ns (laid names b.this w)) o (laid names b.this w))) (stand number text there)
+        ∙ ap (λ l. Gives GoesOn (after_effect (effect.Line l) (laid names b.this w)))
         (ap (λ elements. line_of elements ns (all_cells names b.this w.memory.store)) made ∙ line_same s b.plain.distinct b.this w.memory.store pieces arguments kinds argued ns))
-      ∙ ap (laid_run names b.this) (sym (call_alone b name (format ∷ arguments) at (OfLanguage builtin.Write) w is ∙ ap (λ o. writes_line s b.call o arguments w) fitting));
+        ∙ ap (laid_run names b.this) (sym (call_alone b name (format ∷ arguments) at (OfLanguage builtin.Write) w is ∙ ap (λ o. writes_line s b.call o arguments w) fitting));
   }
 
   -- a line whose format does not fit is not written, and nothing is evaluated for it
@@ -213,7 +211,7 @@ module _ (scope : Scope) (order : List ℕ) (formats : List FormatText) where
       fitting_pieces (map (sort_of scope) arguments) (text_in format) ≡ None → AloneDoesAs scope order formats (expr.Call name (format ∷ arguments) at) t.Empty
   no_write_as name format arguments at is fitting = record {
     same = λ b stand n w. ap (laid_run scope.names b.this) (sym (call_alone b name (format ∷ arguments) at (OfLanguage builtin.Write) w is
-      ∙ ap (λ o. writes_line (source_setting b scope) b.call o arguments w) fitting));
+        ∙ ap (λ o. writes_line (source_setting b scope) b.call o arguments w) fitting));
   }
 
   -- ---- copies
@@ -223,20 +221,20 @@ module _ (scope : Scope) (order : List ℕ) (formats : List FormatText) where
       AloneDoesAs scope order formats (tree.Assign None left right at) (t.Copy to_cell from_cell)
   copy_as left right at v signals from to_cell from_cell to_is from_is to_at from_at = record {
     same = λ b stand n w.
-      let names = scope.names in
-      let s = source_setting b scope in
-      let all = all_cells names b.this w.memory.store in
-      let to_real = message_named scope left (HeldVariable v signals) to_is in
-      let m = held_message b.this w.memory.store from in
-      let whole : alone_of s b.call (tree.Assign None left right at) w ≡ copies s v from w =
-          ap (λ o. assigns s o (message_in scope right) (drops s b.call (tree.Assign None left right at)) w) to_is
-          ∙ ap (λ o. assigns s (Some (HeldVariable v signals)) o (drops s b.call (tree.Assign None left right at)) w) from_is in
-      ap (λ all. Gives GoesOn (cells.with_cells all (laid names b.this w)))
-      (ap (λ c. with_message_at c (message_of from_cell all) all) (to_at b.plain.distinct)
-      ∙ ap (λ c. with_message_at (slot names (key_of v)) (message_of c all) all) (from_at b.plain.distinct)
-      ∙ ap (λ cells. with_message_at (slot names (key_of v)) cells all) (message_laid names b.plain.distinct b.this w.memory.store from (message_named scope right from from_is))
-      ∙ copy_laid names b.plain.distinct b.this w.memory.store v to_real.0 to_real.1 m)
-      ∙ ap (laid_run names b.this) (sym whole);
+        let names = scope.names in
+        let s = source_setting b scope in
+        let all = all_cells names b.this w.memory.store in
+        let to_real = message_named scope left (HeldVariable v signals) to_is in
+        let m = held_message b.this w.memory.store from in
+        let whole : alone_of s b.call (tree.Assign None left right at) w ≡ copies s v from w =
+        ap (λ o. assigns s o (message_in scope right) (drops s b.call (tree.Assign None left right at)) w) to_is
+        ∙ ap (λ o. assigns s (Some (HeldVariable v signals)) o (drops s b.call (tree.Assign None left right at)) w) from_is in
+        ap (λ all. Gives GoesOn (cells.with_cells all (laid names b.this w)))
+        (ap (λ c. with_message_at c (message_of from_cell all) all) (to_at b.plain.distinct)
+        ∙ ap (λ c. with_message_at (slot names (key_of v)) (message_of c all) all) (from_at b.plain.distinct)
+        ∙ ap (λ cells. with_message_at (slot names (key_of v)) cells all) (message_laid names b.plain.distinct b.this w.memory.store from (message_named scope right from from_is))
+        ∙ copy_laid names b.plain.distinct b.this w.memory.store v to_real.0 to_real.1 m)
+        ∙ ap (laid_run names b.this) (sym whole);
   }
 
   -- an assignment that copies no message

@@ -1,10 +1,7 @@
 -- Each form of a typed expression gives what its form of expressions gives.
-use mathlib.Core.Former.{Count}
-use Rattle.std.proofs.Common.{◌≡◌, ℕ, zero, suc, ◌+◌, Bool, true, false, ◌&&◌, List, [], ◌∷◌, Option, Some, None, refl, sym, ap, ◌∙◌, subst}
-use Rattle.std.specs.Prelude.{ℤ, pos, bit_and, bit_or, bit_xor, map, slice_get, slice_index_or, if◌then◌else◌}
-use Rattle.std.specs.List.{AllZip}
+use Rattle.std.proofs.Common.{◌≡◌, ℕ, Bool, true, false, List, Option, Some, None, refl, sym, ap, ◌∙◌, subst}
+use Rattle.std.specs.Prelude.{ℤ, pos, bit_and, bit_or, bit_xor, if◌then◌else◌}
 use Rattle.std.specs.Option.{option_map, option_map_or}
-use Rattle.std.specs.Ordering.{int_eq}
 use Rattle.int_kinds.specs.declared.kinds.Kind.{Kind}
 use Rattle.int_kinds.specs.declared.kinds.Kind.TheVariants as kind
 use Rattle.int_kinds.specs.declared.operators.BinOp.{BinOp}
@@ -16,36 +13,29 @@ use Rattle.int_kinds.specs.Arithmetic.{quotient, remainder, residue, truth, valu
 use Rattle.int_kinds.proofs.Wrapping.{wrap-wrap}
 use Rattle.sim_outside.specs.declared.text.Text.{Text}
 use Rattle.worlds.specs.World.{World, Run, Gives, Fails, and_then, run_map}
-use Rattle.worlds.specs.Control.{Calls, Computes, deciding}
-use Rattle.capl_tree.specs.declared.expr.Expr.{Expr, Row_of-Expr, end_of-Expr, more_of-Expr, items-the_row-Expr}
+use Rattle.capl_tree.specs.declared.expr.Expr.{Expr}
 use Rattle.capl_tree.specs.declared.expr.Expr.TheVariants as expr
 use Rattle.capl_tree.specs.declared.expr.Field.{Field}
-use Rattle.capl_tree.specs.declared.procedure.Param.{Param}
 use Rattle.capl_tree.specs.Forms as tree
 use Rattle.typed_tree.specs.declared.expression.Place.{Place}
 use Rattle.typed_tree.specs.declared.expression.Place.TheVariants.{Cell}
-use Rattle.typed_tree.specs.declared.expression.TExpr.{TExpr, Row_of-TExpr, end_of-TExpr, more_of-TExpr, items-the_row-TExpr}
-use Rattle.typed_tree.specs.declared.expression.TExpr.TheVariants.{Const, Load, Bump, Call', Active, Now}
+use Rattle.typed_tree.specs.declared.expression.TExpr.{TExpr}
+use Rattle.typed_tree.specs.declared.expression.TExpr.TheVariants.{Const, Load, Bump}
 use Rattle.typed_tree.specs.Forms.{Binary, Both, Cond, Convert, Either, Store, Unary, Update}
 use Rattle.typed_tree.specs.SoundExpression.{IsOperation, IsPrefixOperation}
 use Rattle.typed_tree.specs.Expression as typed
 use Rattle.typed_tree.specs.Memory as cells
-use Rattle.capl_meaning.specs.declared.builtin.Builtin.{Builtin}
-use Rattle.capl_meaning.specs.declared.builtin.Builtin.TheVariants as builtin
-use Rattle.capl_meaning.specs.Variable.{Variable, variable_of_parameter}
-use Rattle.capl_meaning.specs.Names.{Callee, Function, Names, OfLanguage, OfProgram, Scope, ThisForm, ThisKey, Unknown, callee, direction, means}
-use Rattle.capl_meaning.specs.Calls.{function_numbered}
-use Rattle.capl_meaning.specs.Message.{array_in, is_number_place}
+use Rattle.capl_meaning.specs.Variable.{Variable}
+use Rattle.capl_meaning.specs.Names.{Names, Scope, ThisKey, direction, means}
 use Rattle.capl_meaning.specs.Sort.{kind_in, sort_of}
 use Rattle.capl_meaning.specs.Operator.{prefix_value, truth_of}
-use Rattle.capl_meaning.specs.Constant.{branches_kind, elements_of, number_value, operands_kind, prefix_kind}
-use Rattle.capl_meaning.specs.Store.{This, event_cells, key_of, lay, timer_number}
-use Rattle.capl_meaning.specs.Store as store
+use Rattle.capl_meaning.specs.Constant.{branches_kind, number_value, operands_kind, prefix_kind}
+use Rattle.capl_meaning.specs.Store.{This}
 use Rattle.capl_meaning.specs.Expression.{Nowhere, InNumber, builtin_value, call_value, calling, gives_or_traps, operates, place_spot, reads, spot_of, step_operator, steps, stores, timer_in, value_of, value_of_this, values_of, with_arguments, with_store}
 use Rattle.capl_meaning.specs.Expression as source
-use Rattle.typed_meaning.specs.Laid.{GivesOnly, HasForm, IsAmong, IsOpen, IsReal, laid, laid_run, laid_spot, mapped, slot}
-use Rattle.typed_meaning.specs.Agreement.{ArePlain, AssignsAs, Beside, Fits, GivesAs, SameNumber, StandsAs, parameter_slots, source_setting, typed_setting}
-use Rattle.typed_meaning.proofs.Cells.{all_cells, all_kinds, read_laid, write_laid}
+use Rattle.typed_meaning.specs.Laid.{GivesOnly, IsOpen, IsReal, laid, laid_run, laid_spot}
+use Rattle.typed_meaning.specs.Agreement.{AssignsAs, Beside, GivesAs, StandsAs, source_setting, typed_setting}
+use Rattle.typed_meaning.proofs.Cells.{all_cells, read_laid, write_laid}
 use Rattle.typed_meaning.proofs.Runs.{deciding_same, map_same, then_only, then_same}
 
 -- ---- reading and storing
@@ -74,7 +64,7 @@ module _ (names : Names) (order : List ℕ) (b : Beside names order) where
 
 -- ---- operators
 
--- what an operator gives is a number of its kind
+-- a truth is a number of every kind
 truth_held : (k : Kind) (t : Bool) → wrap k (truth t) ≡ truth t
 truth_held kind.Byte true = refl
 truth_held kind.Byte false = refl
@@ -103,6 +93,7 @@ divided : (k : Kind) (o : Option ℤ) (n : ℤ) → option_map (wrap k) o ≡ So
 divided k None n e = absurd (let f : None ≡ Some n = e in cc)
 divided k (Some m) n e = wrapped k m n e
 
+-- what an operator gives is a number of its kind
 pub value_held : (operator : BinOp) (k : Kind) (a c n : ℤ) → value operator k a c ≡ Some n → wrap k n ≡ n
 value_held op.OrElse k a c n e = absurd (let f : None ≡ Some n = e in cc)
 value_held op.AndAlso k a c n e = absurd (let f : None ≡ Some n = e in cc)
@@ -123,6 +114,7 @@ value_held op.Mul k a c n e = wrapped k _ n e
 value_held op.Div k a c n e = divided k (quotient (wrap k a) (wrap k c)) n e
 value_held op.Rem k a c n e = divided k (remainder (wrap k a) (wrap k c)) n e
 
+-- an operator gives the same, or traps for the same cause
 pub operates_same : (names : Names) (this : This) (operator : BinOp) (k : Kind) (m n : ℤ) (w : World source.Memory) →
     typed.operates operator k m n (laid names this w) ≡ laid_run names this (operates operator k m n w)
 operates_same names this operator k m n w = go (value operator k m n)
@@ -188,9 +180,9 @@ module _ (scope : Scope) (order : List ℕ) where
       StandsAs scope order e (Some place) → GivesAs scope order e (Load place)
   load e place read f = record {
     same = λ b w.
-      then_only scope.names b.this (IsReal scope.names) (laid_spot scope.names) (λ n. n) (spot_of (source_setting b scope) b.call e w) _ (reads (source_setting b scope)) typed.reads
-      (f.same b w).0 (f.same b w).1 (λ spot w real. reads_same scope.names order b scope spot w real)
-      ∙ ap (laid_run scope.names b.this) (sym (read b w (f.same b w).1));
+        then_only scope.names b.this (IsReal scope.names) (laid_spot scope.names) (λ n. n) (spot_of (source_setting b scope) b.call e w) _ (reads (source_setting b scope)) typed.reads
+        (f.same b w).0 (f.same b w).1 (λ spot w real. reads_same scope.names order b scope spot w real)
+        ∙ ap (laid_run scope.names b.this) (sym (read b w (f.same b w).1));
   }
 
   -- where there is no place, 0
@@ -233,9 +225,9 @@ module _ (scope : Scope) (order : List ℕ) where
       GivesAs scope order (tree.Unary operator inner at) (Unary operator k t)
   prefix_as operator inner at k t is kind f = record {
     same = λ b w.
-      map_same scope.names b.this (prefix_value operator (prefix_kind scope inner)) (typed.prefix_value operator k) (value_of (source_setting b scope) b.call inner w) _ (f.same b w)
-      (λ n. prefix_same operator k n ∙ ap (λ j. prefix_value operator j n) kind)
-      ∙ ap (laid_run scope.names b.this) (sym (whole b w operator is));
+        map_same scope.names b.this (prefix_value operator (prefix_kind scope inner)) (typed.prefix_value operator k) (value_of (source_setting b scope) b.call inner w) _ (f.same b w)
+        (λ n. prefix_same operator k n ∙ ap (λ j. prefix_value operator j n) kind)
+        ∙ ap (laid_run scope.names b.this) (sym (whole b w operator is));
   }
     where
       whole : (b : Beside scope.names order) (w : World source.Memory) (operator : UnOp) → IsPrefixOperation operator → value_of (source_setting b scope) b.call (tree.Unary operator inner at) w ≡
@@ -248,11 +240,11 @@ module _ (scope : Scope) (order : List ℕ) where
       GivesAs scope order left t → GivesAs scope order right u → GivesAs scope order (tree.Binary operator left right at) (Binary operator k t u)
   binary_as operator left right at k t u is kind f g = record {
     same = λ b w.
-      ap (λ j. typed.value_of (typed_setting b) b.typed_call (Binary operator j t u) (laid scope.names b.this w)) kind
-      ∙ then_same scope.names b.this (λ n. n) (λ n. n) (value_of (source_setting b scope) b.call left w) _ _ _ (f.same b w) (λ m w.
+        ap (λ j. typed.value_of (typed_setting b) b.typed_call (Binary operator j t u) (laid scope.names b.this w)) kind
+        ∙ then_same scope.names b.this (λ n. n) (λ n. n) (value_of (source_setting b scope) b.call left w) _ _ _ (f.same b w) (λ m w.
         then_same scope.names b.this (λ n. n) (λ n. n) (value_of (source_setting b scope) b.call right w) _ _ _ (g.same b w) (λ n w.
         operates_same scope.names b.this operator (operands_kind scope operator left right) m n w))
-      ∙ ap (laid_run scope.names b.this) (sym (whole b w operator is));
+        ∙ ap (laid_run scope.names b.this) (sym (whole b w operator is));
   }
     where
       whole : (b : Beside scope.names order) (w : World source.Memory) (operator : BinOp) → IsOperation operator → value_of (source_setting b scope) b.call (tree.Binary operator left right at) w ≡
@@ -278,9 +270,9 @@ module _ (scope : Scope) (order : List ℕ) where
       GivesAs scope order test t → GivesAs scope order one u → GivesAs scope order other v → GivesAs scope order (tree.Cond test one other at) (Cond t (Convert k u) (Convert k v))
   choice_as test one other at k t u v kind f g h = record {
     same = λ b w.
-      deciding_same scope.names b.this (value_of (source_setting b scope) b.call test w) _ _ _ _ _ (f.same b w)
-      (λ w. map_same scope.names b.this (wrap (branches_kind scope one other)) (wrap k) _ _ (g.same b w) (λ n. ap (λ j. wrap j n) kind))
-      (λ w. map_same scope.names b.this (wrap (branches_kind scope one other)) (wrap k) _ _ (h.same b w) (λ n. ap (λ j. wrap j n) kind));
+        deciding_same scope.names b.this (value_of (source_setting b scope) b.call test w) _ _ _ _ _ (f.same b w)
+        (λ w. map_same scope.names b.this (wrap (branches_kind scope one other)) (wrap k) _ _ (g.same b w) (λ n. ap (λ j. wrap j n) kind))
+        (λ w. map_same scope.names b.this (wrap (branches_kind scope one other)) (wrap k) _ _ (h.same b w) (λ n. ap (λ j. wrap j n) kind));
   }
 
   -- ---- assignments
@@ -297,19 +289,19 @@ module _ (scope : Scope) (order : List ℕ) where
   pub store_nowhere_as : (left right : Expr) (at : ℕ) (t : TExpr) → AssignsAs scope order left None → GivesAs scope order right t → GivesAs scope order (tree.Assign None left right at) t
   store_nowhere_as left right at t f g = record {
     same = λ b w.
-      g.same b w ∙ ap (laid_run scope.names b.this) (sym (ap (λ r. and_then r (λ spot w. and_then (value_of (source_setting b scope) b.call right w) (stores (source_setting b scope) spot))) (f.same b w)
-      ∙ gives_all (value_of (source_setting b scope) b.call right w)));
+        g.same b w ∙ ap (laid_run scope.names b.this) (sym (ap (λ r. and_then r (λ spot w. and_then (value_of (source_setting b scope) b.call right w) (stores (source_setting b scope) spot))) (f.same b w)
+        ∙ gives_all (value_of (source_setting b scope) b.call right w)));
   }
 
   pub update_as : (operator : BinOp) (left right : Expr) (at : ℕ) (k : Kind) (place : Place) (t : TExpr) → k ≡ operands_kind scope operator left right →
       AssignsAs scope order left (Some place) → GivesAs scope order right t → GivesAs scope order (tree.Assign (Some operator) left right at) (Update operator k k place t)
   update_as operator left right at k place t kind f g = record {
     same = λ b w.
-      let names = scope.names in
-      let s = source_setting b scope in
-      let j = operands_kind scope operator left right in
-      ap (λ i. typed.value_of (typed_setting b) b.typed_call (Update operator i i place t) (laid names b.this w)) kind
-      ∙ then_only names b.this (λ spot. IsReal names spot × IsOpen spot) (laid_spot names) (λ n. n) _ _ _ _ (f.same b w).0 (f.same b w).1 (λ spot w real.
+        let names = scope.names in
+        let s = source_setting b scope in
+        let j = operands_kind scope operator left right in
+        ap (λ i. typed.value_of (typed_setting b) b.typed_call (Update operator i i place t) (laid names b.this w)) kind
+        ∙ then_only names b.this (λ spot. IsReal names spot × IsOpen spot) (laid_spot names) (λ n. n) _ _ _ _ (f.same b w).0 (f.same b w).1 (λ spot w real.
         then_same names b.this (λ n. n) (λ n. n) (reads s spot w) _ _ (working b (laid_spot names spot)) (reads_same names order b scope spot w real.0) (λ old w.
         then_same names b.this (λ n. n) (λ n. n) (value_of s b.call right w) _ _ (operating b (laid_spot names spot) old) (g.same b w) (λ n w.
         then_only names b.this (λ new. wrap j new ≡ new) (λ n. n) (λ n. n) (operates operator j old n w) _ _ (storing b (laid_spot names spot)) (operates_same names b.this operator j old n w) (operates_held operator j old n w) (λ new w held.
@@ -330,12 +322,12 @@ module _ (scope : Scope) (order : List ℕ) where
       AssignsAs scope order left None → GivesAs scope order right t → GivesAs scope order (tree.Assign (Some operator) left right at) (Binary operator k (Const (pos 0)) t)
   update_nowhere_as operator left right at k t kind f g = record {
     same = λ b w.
-      let names = scope.names in
-      let s = source_setting b scope in
-      let j = operands_kind scope operator left right in
-      ap (λ i. typed.value_of (typed_setting b) b.typed_call (Binary operator i (Const (pos 0)) t) (laid names b.this w)) kind
-      ∙ then_same names b.this (λ n. n) (λ n. n) (value_of s b.call right w) _ _ _ (g.same b w) (λ n w. operates_same names b.this operator j (pos 0) n w ∙ ap (laid_run names b.this) (sym (gives_all (operates operator j (pos 0) n w))))
-      ∙ ap (laid_run names b.this) (sym (ap (λ r. and_then r (λ spot w. and_then (reads s spot w) (λ old w. and_then (value_of s b.call right w) (λ n w. and_then (operates operator j old n w) (stores s spot))))) (f.same b w)));
+        let names = scope.names in
+        let s = source_setting b scope in
+        let j = operands_kind scope operator left right in
+        ap (λ i. typed.value_of (typed_setting b) b.typed_call (Binary operator i (Const (pos 0)) t) (laid names b.this w)) kind
+        ∙ then_same names b.this (λ n. n) (λ n. n) (value_of s b.call right w) _ _ _ (g.same b w) (λ n w. operates_same names b.this operator j (pos 0) n w ∙ ap (laid_run names b.this) (sym (gives_all (operates operator j (pos 0) n w))))
+        ∙ ap (laid_run names b.this) (sym (ap (λ r. and_then r (λ spot w. and_then (reads s spot w) (λ old w. and_then (value_of s b.call right w) (λ n w. and_then (operates operator j old n w) (stores s spot))))) (f.same b w)));
   }
 
   -- ---- `++` and `--`
@@ -347,9 +339,9 @@ module _ (scope : Scope) (order : List ℕ) where
       let names = scope.names in
       let s = source_setting b scope in
       let last : Bool → cells.Spot → ℤ → ℤ → World cells.Memory → Run cells.Memory ℤ =
-          λ behind spot old new w. run_map (λ now. if behind then old else now) (typed.stores (typed_setting b) spot new w) in
+      λ behind spot old new w. run_map (λ now. if behind then old else now) (typed.stores (typed_setting b) spot new w) in
       let further : Bool → cells.Spot → ℤ → World cells.Memory → Run cells.Memory ℤ =
-          λ behind spot old w. and_then (typed.operates (step_operator up) (join k kind.Long) old (pos 1) w) (last behind spot old) in
+      λ behind spot old w. and_then (typed.operates (step_operator up) (join k kind.Long) old (pos 1) w) (last behind spot old) in
       then_only names b.this (λ spot. IsReal names spot × IsOpen spot) (laid_spot names) (λ n. n) _ _ _ _ (f.same b w).0 (f.same b w).1 (λ spot w real.
       then_same names b.this (λ n. n) (λ n. n) (reads s spot w) _ _ (further behind (laid_spot names spot)) (reads_same names order b scope spot w real.0) (λ old w.
       then_same names b.this (λ n. n) (λ n. n) (operates (step_operator up) (join k kind.Long) old (pos 1) w) _ _ (last behind (laid_spot names spot) old)

@@ -1,5 +1,5 @@
 -- The line of a format, with arrays in cells and with their texts.
-use Rattle.std.proofs.Common.{◌≡◌, ℕ, zero, suc, Bool, true, false, List, [], ◌∷◌, ◌++◌, Option, Some, None, refl, sym, ap, ◌∙◌, subst}
+use Rattle.std.proofs.Common.{◌≡◌, ℕ, Bool, true, false, List, [], ◌∷◌, ◌++◌, Some, refl, sym, ap, ◌∙◌}
 use Rattle.std.specs.Prelude.{ℤ, cond, drop, filter, if◌then◌else◌, map, take, unsigned_abs, unwrap_or}
 use Rattle.std.specs.List.{AllZip}
 use Rattle.std.specs.Option.{option_map_or}
@@ -11,22 +11,20 @@ use Rattle.write_format.specs.declared.code.Field.{Field}
 use Rattle.write_format.specs.declared.piece.Piece.{Piece}
 use Rattle.write_format.specs.declared.piece.Piece.TheVariants as piece
 use Rattle.write_format.specs.Element.{Element}
-use Rattle.write_format.specs.Format.{FormatText, element_of, elements_of as format_elements, rendered}
-use Rattle.write_format.specs.Line.{before_zero, character_of, filled, first_of, line_of, number_text, text_in as text_in_cells}
-use Rattle.worlds.specs.World.{World, Run, Gives, and_then, run_map}
+use Rattle.write_format.specs.Format.{element_of, elements_of as format_elements}
+use Rattle.write_format.specs.Line.{before_zero, character_of, filled, first_of, line_of, number_text}
+use Rattle.worlds.specs.World.{World, and_then, run_map}
 use Rattle.capl_tree.specs.declared.expr.Expr.{Expr}
 use Rattle.typed_tree.specs.declared.expression.TExpr.{TExpr}
-use Rattle.typed_tree.specs.Expression as typed
 use Rattle.typed_tree.specs.Statement as typed_statement
 use Rattle.capl_meaning.specs.declared.sort.Sort.{Sort}
 use Rattle.capl_meaning.specs.declared.sort.Sort.TheVariants as sort
 use Rattle.capl_meaning.specs.Variable.{Variable}
-use Rattle.capl_meaning.specs.Names.{Names, Scope}
-use Rattle.capl_meaning.specs.Format.{text_in}
+use Rattle.capl_meaning.specs.Names.{Scope}
 use Rattle.capl_meaning.specs.Message.{array_in}
 use Rattle.capl_meaning.specs.Sort.{is_number, sort_of}
 use Rattle.capl_meaning.specs.Constant.{elements_of}
-use Rattle.capl_meaning.specs.Store.{Store, This, key_of, row}
+use Rattle.capl_meaning.specs.Store.{Store, This, key_of}
 use Rattle.capl_meaning.specs.Expression as source
 use Rattle.capl_meaning.specs.Statement as source_statement
 use Rattle.capl_meaning.specs.Statement.{argument_by, arguments_of, characters_of, text_of}

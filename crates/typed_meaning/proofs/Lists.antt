@@ -1,8 +1,8 @@
 -- A part of a list, between what stands before and behind it.
-use Rattle.std.proofs.Common.{◌≡◌, ℕ, zero, suc, ◌+◌, ◌-◌, ◌<◌, ◌≤◌, Bool, true, false, List, [], ◌∷◌, ◌++◌, length, refl, sym, ap, ◌∙◌, arith, length-append, get_or, set, append_assoc, append-nil, take_at, drop_at, get_or-append-add}
-use Rattle.std.specs.Prelude.{ℤ, pos, map, take, drop, replicate, if◌then◌else◌, ◌&&◌, nat_le, nat_lt, slice_index_or}
+use Rattle.std.proofs.Common.{◌≡◌, ℕ, zero, suc, ◌+◌, ◌-◌, ◌<◌, ◌≤◌, Bool, true, false, List, [], ◌∷◌, ◌++◌, length, refl, sym, ap, ◌∙◌, arith, get_or, set, append_assoc, take_at, drop_at, get_or-append-add}
+use Rattle.std.specs.Prelude.{ℤ, pos, map, take, drop, replicate, nat_le, nat_lt, slice_index_or}
 use Rattle.std.specs.List.{splice}
-use Rattle.std.proofs.lemmas.List.{get_or_append_left, set-append_left, set-append_right, take-append-le, drop-append-le, length-map}
+use Rattle.std.proofs.lemmas.List.{get_or_append_left, set-append_left, set-append_right, take-append-le, drop-append-le}
 use Rattle.std.proofs.lemmas.Bool.{leb-true, leb-false, ltb-true, ltb-false}
 use Rattle.capl_meaning.specs.Store.{byte_after, row}
 
@@ -141,14 +141,14 @@ module _ (i : ℕ) (bytes : List ℕ) (f : ℕ → ℤ) where
       let g = byte_after i bytes f in
       let before : take i (row f 0 n) ≡ row f 0 i = ap (λ k. take i (row f 0 k)) all ∙ ap (take i) (row_parts f 0 i (long + rest)) ∙ take_at (row f 0 i) (row f (0 + i) (long + rest)) i (row_long f 0 i) in
       let after : drop (i + long) (row f 0 n) ≡ row f (i + long) rest =
-          ap (λ k. drop (i + long) (row f 0 k)) also ∙ ap (drop (i + long)) (row_parts f 0 (i + long) rest)
-          ∙ drop_at (row f 0 (i + long)) (row f (0 + (i + long)) rest) (i + long) (row_long f 0 (i + long)) ∙ ap (λ k. row f k rest) behind in
+      ap (λ k. drop (i + long) (row f 0 k)) also ∙ ap (drop (i + long)) (row_parts f 0 (i + long) rest)
+      ∙ drop_at (row f 0 (i + long)) (row f (0 + (i + long)) rest) (i + long) (row_long f 0 (i + long)) ∙ ap (λ k. row f k rest) behind in
       let one : row g 0 i ≡ row f 0 i = row_same f g 0 i (λ m _ less. byte_below m (omega (arith, less))) in
       let two : row g i long ≡ map pos bytes = row_bytes i bytes g byte_inside in
       let three : row g (i + long) rest ≡ row f (i + long) rest = row_same f g (i + long) rest (λ m least _. byte_above m least) in
       let whole : row g 0 n ≡ row g 0 i ++ (row g i long ++ row g (i + long) rest) =
-          ap (row g 0) all ∙ row_parts g 0 i (long + rest) ∙ ap (λ l. row g 0 i ++ l) (row_parts g (0 + i) long rest)
-          ∙ ap (λ k. row g 0 i ++ (row g k long ++ row g ((0 + i) + long) rest)) start ∙ ap (λ k. row g 0 i ++ (row g i long ++ row g k rest)) further in
+      ap (row g 0) all ∙ row_parts g 0 i (long + rest) ∙ ap (λ l. row g 0 i ++ l) (row_parts g (0 + i) long rest)
+      ∙ ap (λ k. row g 0 i ++ (row g k long ++ row g ((0 + i) + long) rest)) start ∙ ap (λ k. row g 0 i ++ (row g i long ++ row g k rest)) further in
       ap (λ l. l ++ (map pos bytes ++ drop (i + long) (row f 0 n))) before ∙ ap (λ l. row f 0 i ++ (map pos bytes ++ l)) after
       ∙ ap (λ l. l ++ (map pos bytes ++ row f (i + long) rest)) (sym one) ∙ ap (λ l. row g 0 i ++ (l ++ row f (i + long) rest)) (sym two)
       ∙ ap (λ l. row g 0 i ++ (row g i long ++ l)) (sym three) ∙ sym whole

@@ -1,10 +1,9 @@
 -- Each form of a typed place is the place of its form of expressions.
-use Rattle.std.proofs.Common.{◌≡◌, ℕ, zero, suc, ◌+◌, ◌-◌, ◌<◌, ◌≤◌, ◌⊎◌, inl, inr, Bool, true, false, ◌&&◌, List, [], ◌∷◌, Option, Some, None, refl, sym, ap, ◌∙◌, subst, arith}
-use Rattle.std.specs.Prelude.{ℤ, pos, negsuc, nat_lt, not, find, if◌then◌else◌, cond}
+use Rattle.std.proofs.Common.{◌≡◌, ℕ, ◌+◌, ◌-◌, ◌<◌, ◌≤◌, inl, inr, Bool, true, false, List, [], ◌∷◌, Option, Some, None, refl, sym, ap, ◌∙◌, subst, arith}
+use Rattle.std.specs.Prelude.{ℤ, pos, negsuc, nat_lt, find, if◌then◌else◌, cond}
 use Rattle.std.specs.Option.{option_and_then, option_map_or, option_or}
 use Rattle.std.proofs.lemmas.Bool.{ltb-true}
 use Rattle.int_kinds.specs.declared.kinds.Kind.{Kind}
-use Rattle.int_kinds.specs.declared.kinds.Kind.TheVariants as kind
 use Rattle.signal_codec.specs.declared.layout.Layout.{Layout}
 use Rattle.sim_outside.specs.declared.text.Text.{Text}
 use Rattle.message_cells.specs.Message.{size}
@@ -25,19 +24,20 @@ use Rattle.typed_tree.specs.Expression as typed
 use Rattle.typed_tree.specs.Memory as cells
 use Rattle.capl_meaning.specs.declared.field.MessageField.{MessageField}
 use Rattle.capl_meaning.specs.declared.field.MessageField.TheVariants.{Id, Dlc, Rtr, Can, Dir, Time}
-use Rattle.capl_meaning.specs.Variable.{Form, Number, Array, Message, MessageType, Timer, Misfit, Variable}
+use Rattle.capl_meaning.specs.Variable.{Form, Number, Array, Message, Timer, Misfit, Variable}
 use Rattle.capl_meaning.specs.Names.{Names, Scope, ThisForm, NoThis, ThisFrame, ThisKey, global, is_global, is_local, means}
-use Rattle.capl_meaning.specs.Message.{Held, HeldFrame, HeldVariable, Member, IsField, IsSignal, IsUnusable, IsUnknown, array_by, array_in, held_by, held_this, is_assignable_field, is_number_place, is_open_array, is_open_field, is_open_member, is_open_number, is_open_part, is_variable, member_named, message_in, signals_of, signals_of_type}
+use Rattle.capl_meaning.specs.Message.{Held, HeldFrame, HeldVariable, Member, IsField, IsSignal, IsUnusable, IsUnknown, array_by, array_in, held_by, held_this, is_number_place, is_open_array, is_open_member, is_open_number, is_open_part, is_variable, member_named, message_in, signals_of, signals_of_type}
 use Rattle.capl_meaning.specs.Constant.{elements_of}
 use Rattle.capl_meaning.specs.Store.{This, key_of}
 use Rattle.capl_meaning.specs.Expression.{Nowhere, InNumber, InElement, InField, InBytes, InSignal, element_spot, field_spot, indexing, kind_of_elements, part_spot, place_spot, spot_of, spot_of_form, spot_of_member, spot_of_name, value_of}
 use Rattle.capl_meaning.specs.Expression as source
 use Rattle.typed_meaning.specs.Laid.{AreDistinct, GivesOnly, HasForm, IsAmong, IsHeld, IsOpen, IsReal, laid, laid_field, laid_run, laid_spot, mapped, message_slot, slot}
-use Rattle.typed_meaning.specs.Agreement.{AssignsAs, Beside, GivesAs, SamePlace, StandsAs, source_setting, typed_setting}
+use Rattle.typed_meaning.specs.Agreement.{AssignsAs, Beside, GivesAs, StandsAs, source_setting, typed_setting}
 use Rattle.typed_meaning.proofs.Runs.{then_same}
 
 -- ---- what is named is among the variables
 
+-- what is found in a list is one of those in it
 pub found_among : {A : Type 0} (test : A → Bool) (vs : List A) (v : A) → find test vs ≡ Some v → IsAmong v vs
 found_among test [] v e = absurd (let f : None ≡ Some v = e in cc)
 found_among test (u ∷ us) v e = go (found_among test us v) (test u) e
@@ -46,6 +46,7 @@ found_among test (u ∷ us) v e = go (found_among test us v) (test u) e
     go further true h = let f : Some u ≡ Some v = h in inl cc
     go further false h = inr (further h)
 
+-- what a name means is one of the variables
 pub means_among : (s : Scope) (name : List ℕ) (at : ℕ) (v : Variable) → means s name at ≡ Some v → IsAmong v s.names.variables
 means_among s name at v e = go (find (is_local s.owner name at) s.names.variables) refl e
   where
@@ -69,6 +70,7 @@ array_of_form names u v (Message type_) among is e = absurd (let f : None ≡ So
 array_of_form names u v (Timer unit) among is e = absurd (let f : None ≡ Some v = e in cc)
 array_of_form names u v Misfit among is e = absurd (let f : None ≡ Some v = e in cc)
 
+-- what is named as an array is one
 pub array_named : (s : Scope) (e : Expr) (v : Variable) → array_in s e ≡ Some v → IsArray s.names v
 array_named s (tree.Paren inner at) v h = array_named s inner v h
 array_named s (expr.Name name at) v h = go (means s name at) refl h
@@ -87,6 +89,7 @@ held_of_form names u held (Number k fixed) among is e = absurd (let f : None ≡
 held_of_form names u held (Timer unit) among is e = absurd (let f : None ≡ Some held = e in cc)
 held_of_form names u held Misfit among is e = absurd (let f : None ≡ Some held = e in cc)
 
+-- what is named as a message is one
 pub message_named : (s : Scope) (e : Expr) (held : Held) → message_in s e ≡ Some held → IsHeld s.names held
 message_named s (tree.Paren inner at) held h = message_named s inner held h
 message_named s (expr.This at) held h = go s.this h
@@ -148,9 +151,10 @@ module _ (scope : Scope) (order : List ℕ) where
       (AreDistinct scope.names.variables → cell ≡ slot scope.names (key_of v)) → StandsAs scope order (expr.Name name at) (Some (Cell cell))
   number_place name at v k fixed cell is form where_ = record {
     same = λ b w.
-      let e : spot_of_name (means scope name at) ≡ InNumber k v = ap spot_of_name is ∙ ap (spot_of_form v) form in
-      (ap (λ n. Gives (cells.InCell n) (laid scope.names b.this w)) (where_ b.plain.distinct) ∙ ap (λ spot. Gives (laid_spot scope.names spot) (laid scope.names b.this w)) (sym e),
-      rw e (fixed, record { among = means_among scope name at v is; form_is = form }));
+        let e : spot_of_name (means scope name at) ≡ InNumber k v = ap spot_of_name is ∙ ap (spot_of_form v) form in (
+          ap (λ n. Gives (cells.InCell n) (laid scope.names b.this w)) (where_ b.plain.distinct) ∙ ap (λ spot. Gives (laid_spot scope.names spot) (laid scope.names b.this w)) (sym e),
+          rw e (fixed, record { among = means_among scope name at v is; form_is = form }),
+        );
   }
 
   -- a name that is no number variable
@@ -163,18 +167,19 @@ module _ (scope : Scope) (order : List ℕ) where
       StandsAs scope order (tree.Index base index at) (Some (Elem cell len i))
   element_place base index at v cell len i is where_ long f = record {
     same = λ b w.
-      let names = scope.names in
-      let array = array_named scope base v is in
-      let s = source_setting b scope in
-      let run = value_of s b.call index w in
-      let found : kind_of_elements v.form ≡ array.kind = ap kind_of_elements array.form.form_is in
-      let whole : spot_of s b.call (tree.Index base index at) w ≡ and_then run (λ i w. indexing (elements_of names v) i w (InElement array.kind v)) =
-          ap (λ a. element_spot s a (value_of s b.call index) w) is ∙ ap (λ k. and_then run (λ i w. indexing (elements_of names v) i w (InElement k v))) found in
-      let ready = index_same names b.this (IsReal names) (elements_of names v) run _ (InElement array.kind v) (λ j. cells.InCell (cell + j)) (f.same b w)
-          (λ j. ap (λ n. cells.InCell (n + j)) (where_ b.plain.distinct)) (λ j less. (array.fixed, array.size_given, array.form, less)) in
-      let typed_index = typed.value_of (typed_setting b) b.typed_call i (laid names b.this w) in
-      (ap (λ n. and_then typed_index (λ i w. typed.indexing n i w (λ j. cells.InCell (cell + j)))) long ∙ ready.0 ∙ ap (mapped names b.this (laid_spot names)) (sym whole),
-      subst (GivesOnly (IsReal names)) (sym whole) ready.1);
+        let names = scope.names in
+        let array = array_named scope base v is in
+        let s = source_setting b scope in
+        let run = value_of s b.call index w in
+        let found : kind_of_elements v.form ≡ array.kind = ap kind_of_elements array.form.form_is in
+        let whole : spot_of s b.call (tree.Index base index at) w ≡ and_then run (λ i w. indexing (elements_of names v) i w (InElement array.kind v)) =
+        ap (λ a. element_spot s a (value_of s b.call index) w) is ∙ ap (λ k. and_then run (λ i w. indexing (elements_of names v) i w (InElement k v))) found in
+        let ready = index_same names b.this (IsReal names) (elements_of names v) run _ (InElement array.kind v) (λ j. cells.InCell (cell + j)) (f.same b w)
+        (λ j. ap (λ n. cells.InCell (n + j)) (where_ b.plain.distinct)) (λ j less. (array.fixed, array.size_given, array.form, less)) in
+        let typed_index = typed.value_of (typed_setting b) b.typed_call i (laid names b.this w) in (
+          ap (λ n. and_then typed_index (λ i w. typed.indexing n i w (λ j. cells.InCell (cell + j)))) long ∙ ready.0 ∙ ap (mapped names b.this (laid_spot names)) (sym whole),
+          subst (GivesOnly (IsReal names)) (sym whole) ready.1,
+        );
   }
 
   -- an index of what is no array
@@ -193,11 +198,12 @@ module _ (scope : Scope) (order : List ℕ) where
       StandsAs scope order (tree.Member base (Named name at) here) (Some (place_of_field message field))
   field_place base name at here message held field is member where_ = record {
     same = λ b w.
-      let names = scope.names in
-      let whole : spot_of (source_setting b scope) b.call (tree.Member base (Named name at) here) w ≡ Gives (InField held field) w =
-          member_whole b base (Named name at) here held w is ∙ ap (λ m. Gives (spot_of_member held m) w) member in
-      (place field b w ∙ ap (λ n. Gives (laid_field n field) (laid names b.this w)) (where_ b.plain.distinct) ∙ ap (mapped names b.this (laid_spot names)) (sym whole),
-      subst (GivesOnly (IsReal names)) (sym whole) (message_named scope base held is));
+        let names = scope.names in
+        let whole : spot_of (source_setting b scope) b.call (tree.Member base (Named name at) here) w ≡ Gives (InField held field) w =
+        member_whole b base (Named name at) here held w is ∙ ap (λ m. Gives (spot_of_member held m) w) member in (
+          place field b w ∙ ap (λ n. Gives (laid_field n field) (laid names b.this w)) (where_ b.plain.distinct) ∙ ap (mapped names b.this (laid_spot names)) (sym whole),
+          subst (GivesOnly (IsReal names)) (sym whole) (message_named scope base held is),
+        );
   }
     where
       place : (f : MessageField) (b : Beside scope.names order) (w : World source.Memory) →
@@ -214,11 +220,12 @@ module _ (scope : Scope) (order : List ℕ) where
       StandsAs scope order (tree.Member base (Named name at) here) (Some (Signal message layout))
   signal_place base name at here message held layout is member where_ = record {
     same = λ b w.
-      let names = scope.names in
-      let whole : spot_of (source_setting b scope) b.call (tree.Member base (Named name at) here) w ≡ Gives (InSignal held layout) w =
-          member_whole b base (Named name at) here held w is ∙ ap (λ m. Gives (spot_of_member held m) w) member in
-      (ap (λ n. Gives (cells.InSignal n layout) (laid names b.this w)) (where_ b.plain.distinct) ∙ ap (mapped names b.this (laid_spot names)) (sym whole),
-      subst (GivesOnly (IsReal names)) (sym whole) (message_named scope base held is));
+        let names = scope.names in
+        let whole : spot_of (source_setting b scope) b.call (tree.Member base (Named name at) here) w ≡ Gives (InSignal held layout) w =
+        member_whole b base (Named name at) here held w is ∙ ap (λ m. Gives (spot_of_member held m) w) member in (
+          ap (λ n. Gives (cells.InSignal n layout) (laid names b.this w)) (where_ b.plain.distinct) ∙ ap (mapped names b.this (laid_spot names)) (sym whole),
+          subst (GivesOnly (IsReal names)) (sym whole) (message_named scope base held is),
+        );
   }
 
   -- a member that is neither
@@ -237,14 +244,14 @@ module _ (scope : Scope) (order : List ℕ) where
       StandsAs scope order (tree.Member base (tree.Bytes k index at) here) (Some (Bytes message k i))
   bytes_place base k index at here message held i is where_ f = record {
     same = λ b w.
-      let names = scope.names in
-      let s = source_setting b scope in
-      let run = value_of s b.call index w in
-      let whole : spot_of s b.call (tree.Member base (tree.Bytes k index at) here) w ≡ and_then run (λ i w. indexing (9 - size k) i w (InBytes held k)) =
-          member_whole b base (tree.Bytes k index at) here held w is in
-      let ready = index_same names b.this (IsReal names) (9 - size k) run _ (InBytes held k) (cells.InBytes message k) (f.same b w)
-          (λ j. ap (λ n. cells.InBytes n k j) (where_ b.plain.distinct)) (λ j less. (message_named scope base held is, within k j less)) in
-      (ready.0 ∙ ap (mapped names b.this (laid_spot names)) (sym whole), subst (GivesOnly (IsReal names)) (sym whole) ready.1);
+        let names = scope.names in
+        let s = source_setting b scope in
+        let run = value_of s b.call index w in
+        let whole : spot_of s b.call (tree.Member base (tree.Bytes k index at) here) w ≡ and_then run (λ i w. indexing (9 - size k) i w (InBytes held k)) =
+        member_whole b base (tree.Bytes k index at) here held w is in
+        let ready = index_same names b.this (IsReal names) (9 - size k) run _ (InBytes held k) (cells.InBytes message k) (f.same b w)
+        (λ j. ap (λ n. cells.InBytes n k j) (where_ b.plain.distinct)) (λ j less. (message_named scope base held is, within k j less)) in
+        (ready.0 ∙ ap (mapped names b.this (laid_spot names)) (sym whole), subst (GivesOnly (IsReal names)) (sym whole) ready.1);
   }
     where
       within : (k : Kind) (j : ℕ) → j < 9 - size k → j + size k ≤ 8
@@ -317,11 +324,12 @@ module _ (scope : Scope) (order : List ℕ) where
   }
   assignable e (Some place) is f = record {
     same = λ b w.
-      let s = source_setting b scope in
-      let whole : place_spot s e (spot_of s b.call e) w ≡ spot_of s b.call e w = ap (λ t. if t then spot_of s b.call e w else Gives Nowhere w) is in
-      ((f.same b w).0 ∙ ap (mapped scope.names b.this (laid_spot scope.names)) (sym whole),
-      subst (GivesOnly (λ spot. IsReal scope.names spot × IsOpen spot)) (sym whole)
-      (both_given (IsReal scope.names) IsOpen (spot_of s b.call e w) (f.same b w).1 (open_place s b.call e w is)));
+        let s = source_setting b scope in
+        let whole : place_spot s e (spot_of s b.call e) w ≡ spot_of s b.call e w = ap (λ t. if t then spot_of s b.call e w else Gives Nowhere w) is in (
+          (f.same b w).0 ∙ ap (mapped scope.names b.this (laid_spot scope.names)) (sym whole),
+          subst (GivesOnly (λ spot. IsReal scope.names spot × IsOpen spot)) (sym whole)
+              (both_given (IsReal scope.names) IsOpen (spot_of s b.call e w) (f.same b w).1 (open_place s b.call e w is)),
+        );
   }
 
   -- an expression that is not assignable

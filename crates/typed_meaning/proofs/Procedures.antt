@@ -1,20 +1,18 @@
 -- Calls, by induction on the turns that are left at most, and how event procedures end.
-use Rattle.std.proofs.Common.{◌≡◌, ℕ, zero, suc, Bool, List, [], ◌∷◌, Option, Some, None, refl, sym, ap, ◌∙◌}
+use Rattle.std.proofs.Common.{◌≡◌, ℕ, zero, suc, Bool, List, [], Option, Some, refl, sym, ap, ◌∙◌}
 use Rattle.std.specs.Prelude.{slice_get}
 use Rattle.std.specs.List.{AllZip}
 use Rattle.std.specs.Option.{option_map_or}
 use Rattle.int_kinds.specs.declared.kinds.Kind.{Kind}
 use Rattle.worlds.specs.World.{World, Run, Gives, Fails}
-use Rattle.worlds.specs.Control.{End, in_order, number_given}
+use Rattle.worlds.specs.Control.{End, number_given}
 use Rattle.capl_tree.specs.declared.statement.Stmt.{Stmt}
 use Rattle.typed_tree.specs.declared.program.Typed.{Typed}
 use Rattle.typed_tree.specs.declared.statement.TStmt.{TStmt}
 use Rattle.typed_tree.specs.Expression as typed
-use Rattle.typed_tree.specs.Memory as cells
 use Rattle.typed_tree.specs.Program.{body_of}
 use Rattle.typed_tree.specs.Program as typed_procedure
-use Rattle.capl_meaning.specs.Names.{Function, Names, Scope, ThisForm, inside_function}
-use Rattle.capl_meaning.specs.Calls.{function_numbered}
+use Rattle.capl_meaning.specs.Names.{Names, Scope, ThisForm, inside_function}
 use Rattle.capl_meaning.specs.Store.{This}
 use Rattle.capl_meaning.specs.Expression as source
 use Rattle.capl_meaning.specs.Procedure as source_procedure

@@ -1,5 +1,5 @@
 -- A typed program that does what a source does: its event procedures end as those of the source.
-use Rattle.std.proofs.Common.{◌≡◌, ℕ, zero, suc, Bool, List, [], ◌∷◌, Option, Some, None, refl, sym, ap, ◌∙◌, subst}
+use Rattle.std.proofs.Common.{◌≡◌, ℕ, zero, suc, Bool, List, [], ◌∷◌, Some, None, subst}
 use Rattle.std.specs.Prelude.{slice_get}
 use Rattle.std.specs.List.{AllByRecursion, AllZip}
 use Rattle.dbc_reader.specs.declared.message.DbcMessage.{DbcMessage}
@@ -14,7 +14,7 @@ use Rattle.capl_meaning.specs.Expression as source
 use Rattle.capl_meaning.specs.Procedure.{Handler, handlers_of}
 use Rattle.capl_meaning.specs.Procedure as source_procedure
 use Rattle.typed_meaning.specs.Laid.{AreDistinct, laid_memory}
-use Rattle.typed_meaning.specs.Agreement.{ArePlain, DoesAs, Fits, FunctionsDoAs, HandlerDoesAs, ProgramDoesAs, laid_ending}
+use Rattle.typed_meaning.specs.Agreement.{ArePlain, Fits, FunctionsDoAs, HandlerDoesAs, ProgramDoesAs, laid_ending}
 use Rattle.typed_meaning.proofs.Declared.{handlers_named, plain_names}
 use Rattle.typed_meaning.proofs.Procedures.{ending_same}
 
@@ -39,6 +39,7 @@ handler_ends order program h u does this closed moment turns memory names is =
     typed_procedure.ending_of (record { typed = program; closed = closed; moment = moment }) u turns (laid_memory names this memory) ≡ laid_ending names this (source_procedure.ending_of h this closed moment turns memory)) is
     (λ plain fits functions. ending_same h.scope.names order plain program fits functions this closed moment h.scope.owner h.scope.file h.scope.this h.scope.gives h.body u.body turns memory does.body)
 
+-- an event procedure of a typed program ends as that of the source
 pub program_ends : (base : List DbcMessage) (program : Program) (typed_program : Typed) → ProgramDoesAs base program typed_program → AreDistinct (variables_of base program) →
     (i : ℕ) (h : Handler) (u : THandler) → slice_get (handlers_of (names_of base program) program) i ≡ Some h → slice_get typed_program.handlers i ≡ Some u →
     (this : This) (closed : Bool) (moment turns : ℕ) (memory : source.Memory) →

@@ -1,9 +1,9 @@
 -- One part of a run after another, where each does the same in cells.
-use Rattle.std.proofs.Common.{◌≡◌, ℕ, zero, suc, Bool, true, false, List, [], ◌∷◌, refl, sym, ap, ◌∙◌}
+use Rattle.std.proofs.Common.{◌≡◌, ℕ, zero, suc, Bool, true, false, refl, ap, ◌∙◌}
 use Rattle.std.specs.Prelude.{ℤ, pos, if◌then◌else◌}
 use Rattle.std.specs.Ordering.{int_eq}
 use Rattle.worlds.specs.World.{World, Run, Gives, Fails, and_then, run_map, taking_turn_of}
-use Rattle.worlds.specs.Control.{Computes, Does, End, GoesOn, Breaks, Continues, Returns, deciding, do_loop, followed_by, for_loop, going_on, in_order, leaving_switch, loop, looping, nothing, round, while_loop}
+use Rattle.worlds.specs.Control.{Computes, Does, End, GoesOn, Breaks, Continues, Returns, deciding, do_loop, followed_by, for_loop, going_on, leaving_switch, loop, looping, nothing, round, while_loop}
 use Rattle.capl_meaning.specs.Names.{Names}
 use Rattle.capl_meaning.specs.Store.{This}
 use Rattle.capl_meaning.specs.Expression as source

@@ -1,6 +1,6 @@
 -- Each form of a typed statement does what its form of statements does.
 use mathlib.Core.Former.{Count}
-use Rattle.std.proofs.Common.{◌≡◌, ℕ, zero, suc, Bool, true, false, List, [], ◌∷◌, ◌++◌, Option, Some, None, refl, sym, ap, ◌∙◌, subst}
+use Rattle.std.proofs.Common.{◌≡◌, ℕ, zero, suc, Bool, List, [], ◌∷◌, ◌++◌, Option, Some, None, refl, sym, ap, ◌∙◌, subst}
 use Rattle.std.specs.Prelude.{ℤ, pos, filter_map, length, slice_get, unwrap_or}
 use Rattle.std.specs.List.{AllZip}
 use Rattle.int_kinds.specs.declared.kinds.Kind.{Kind}
@@ -30,9 +30,8 @@ use Rattle.capl_meaning.specs.Names.{Scope}
 use Rattle.capl_meaning.specs.Constant.{prefix_kind}
 use Rattle.capl_meaning.specs.Expression as source
 use Rattle.capl_meaning.specs.Statement as source_statement
-use Rattle.typed_meaning.specs.Laid.{laid, laid_run, mapped}
+use Rattle.typed_meaning.specs.Laid.{laid, laid_run}
 use Rattle.typed_meaning.specs.Agreement.{AloneDoesAs, ArmDoesAs, Beside, Both, DoesAs, GivesAs, GroupDoesAs, SameEnd, SameNumber, StandIn, source_setting, typed_setting}
-use Rattle.typed_meaning.proofs.Expressions.{cast_as}
 use Rattle.typed_meaning.proofs.Runs.{deciding_same, do_same, followed_same, for_same, leaving_same, map_same, nothing_same, then_same, while_same}
 
 -- ---- more formats
@@ -147,7 +146,7 @@ module _ (scope : Scope) (order : List ℕ) (formats : List FormatText) where
     groups_same k (more_of-Group labels shape body rest) (more_of-TGroup labels' shape' body' rest') zero h w =
         followed_same scope.names b.this _ _ (typed_statement.stmts_of (typed_setting b) b.typed_call n body') (typed_statement.groups_of (typed_setting b) b.typed_call n rest' zero)
         (row_same body body' (zip_as (DoesAs scope order formats) _ (items-the_row-Stmt _ body) _ (items-the_row-TStmt _ body')
-          (sym (items_shown-the_row-Stmt-0 shape body)) (sym (items_shown-the_row-TStmt-0 shape' body')) h.0.body))
+        (sym (items_shown-the_row-Stmt-0 shape body)) (sym (items_shown-the_row-TStmt-0 shape' body')) h.0.body))
         (groups_same k rest rest' zero h.1) w
     groups_same k (more_of-Group labels shape body rest) (more_of-TGroup labels' shape' body' rest') (suc i) h w = groups_same k rest rest' i h.1 w
 
@@ -185,10 +184,10 @@ module _ (scope : Scope) (order : List ℕ) (formats : List FormatText) where
       DoesAs scope order formats (stmt.Return (Some e) at) (t.Return (Some (form.Convert k u)))
   return_value_as e at k u is f = record {
     same = λ b stand n w.
-      then_same scope.names b.this (λ n. n) (λ end. end) (run_map (wrap k) (source.value_of (source_setting b scope) b.call e w)) _ (λ n w. Gives (Returns n) w) (λ n w. Gives (Returns n) w)
-      (map_same scope.names b.this (wrap k) (wrap k) _ _ (f.same b w) (λ n. refl)) (λ n w. refl)
-      ∙ ap (laid_run scope.names b.this) (mapped_twice k (source.value_of (source_setting b scope) b.call e w)
-      ∙ ap (λ g. run_map (λ n. Returns (source_statement.wrapped_to g n)) (source.value_of (source_setting b scope) b.call e w)) (sym is));
+        then_same scope.names b.this (λ n. n) (λ end. end) (run_map (wrap k) (source.value_of (source_setting b scope) b.call e w)) _ (λ n w. Gives (Returns n) w) (λ n w. Gives (Returns n) w)
+        (map_same scope.names b.this (wrap k) (wrap k) _ _ (f.same b w) (λ n. refl)) (λ n w. refl)
+        ∙ ap (laid_run scope.names b.this) (mapped_twice k (source.value_of (source_setting b scope) b.call e w)
+        ∙ ap (λ g. run_map (λ n. Returns (source_statement.wrapped_to g n)) (source.value_of (source_setting b scope) b.call e w)) (sym is));
   }
     where
       mapped_twice : (k : Kind) (r : Run source.Memory ℤ) → and_then (run_map (wrap k) r) (λ n w. Gives (Returns n) w) ≡ run_map (λ n. Returns (wrap k n)) r
@@ -199,8 +198,8 @@ module _ (scope : Scope) (order : List ℕ) (formats : List FormatText) where
   pub return_other_as : (e : Expr) (at : ℕ) (u : TExpr) → scope.gives ≡ None → GivesAs scope order e u → DoesAs scope order formats (stmt.Return (Some e) at) (t.Return (Some u))
   return_other_as e at u is f = record {
     same = λ b stand n w.
-      map_same scope.names b.this (λ n. Returns (source_statement.wrapped_to scope.gives n)) Returns (source.value_of (source_setting b scope) b.call e w) _ (f.same b w)
-      (λ n. ap (λ g. Returns (source_statement.wrapped_to g n)) (sym is));
+        map_same scope.names b.this (λ n. Returns (source_statement.wrapped_to scope.gives n)) Returns (source.value_of (source_setting b scope) b.call e w) _ (f.same b w)
+        (λ n. ap (λ g. Returns (source_statement.wrapped_to g n)) (sym is));
   }
 
   pub block_as : (all : List Stmt) (us : List TStmt) → AllZip (DoesAs scope order formats) all us → DoesAs scope order formats (stmt.Block all) (t.Block us)
@@ -270,8 +269,8 @@ module _ (scope : Scope) (order : List ℕ) (formats : List FormatText) where
       DoesAs scope order formats (tree.For init test step body) (t.For init' test' step' body')
   for_as init test step body init' test' step' body' f g h i = record {
     same = λ b stand n w.
-      for_made (typed_setting b) b.typed_call n init' test' step' body' (laid scope.names b.this w)
-      ∙ for_same scope.names b.this n _ (typed_statement.for_test (typed_setting b) b.typed_call test') _ _ _
+        for_made (typed_setting b) b.typed_call n init' test' step' body' (laid scope.names b.this w)
+        ∙ for_same scope.names b.this n _ (typed_statement.for_test (typed_setting b) b.typed_call test') _ _ _
         (typed_part (typed_setting b) b.typed_call n init') (typed_part (typed_setting b) b.typed_call n step') (typed_does b stand n body') (part_same b stand n init init' f) (test_same b test test' g) (part_same b stand n step step' h) (i.same b stand n) w;
   }
 
@@ -283,21 +282,21 @@ module _ (scope : Scope) (order : List ℕ) (formats : List FormatText) where
       let zipped = zip_as (GroupDoesAs scope order formats k) groups (items-the_row-Group row.0 row.1) us (items-the_row-TGroup row'.0 row'.1) (items_hidden-the_row-Group-3 groups) (items_hidden-the_row-TGroup-3 us) h in
       record {
         same = λ b stand n w.
-          let names = scope.names in
-          let s = source_setting b scope in
-          let value = source.value_of s b.call on w in
-          let labels = typed_statement.labels_of row'.1 in
-          let going : Kind → ℤ → World source.Memory → Run source.Memory End =
-              λ j v w. and_then (source_statement.groups_of s b.call n row.1 (source_statement.group_for (wrap j v) (source_statement.labels_of scope j row.1)) w) leaving_switch in
-          let typed_going : ℤ → World cells.Memory → Run cells.Memory End =
-              λ v w. and_then (typed_statement.groups_of (typed_setting b) b.typed_call n row'.1 (typed_statement.group_for v labels) w) leaving_switch in
-          wrapped_first k (typed.value_of (typed_setting b) b.typed_call u (laid names b.this w)) typed_going
-          ∙ then_same names b.this (λ v. v) (λ end. end) value (typed.value_of (typed_setting b) b.typed_call u (laid names b.this w)) (going k) (λ v. typed_going (wrap k v)) (f.same b w) (λ v w.
+            let names = scope.names in
+            let s = source_setting b scope in
+            let value = source.value_of s b.call on w in
+            let labels = typed_statement.labels_of row'.1 in
+            let going : Kind → ℤ → World source.Memory → Run source.Memory End =
+            λ j v w. and_then (source_statement.groups_of s b.call n row.1 (source_statement.group_for (wrap j v) (source_statement.labels_of scope j row.1)) w) leaving_switch in
+            let typed_going : ℤ → World cells.Memory → Run cells.Memory End =
+            λ v w. and_then (typed_statement.groups_of (typed_setting b) b.typed_call n row'.1 (typed_statement.group_for v labels) w) leaving_switch in
+            wrapped_first k (typed.value_of (typed_setting b) b.typed_call u (laid names b.this w)) typed_going
+            ∙ then_same names b.this (λ v. v) (λ end. end) value (typed.value_of (typed_setting b) b.typed_call u (laid names b.this w)) (going k) (λ v. typed_going (wrap k v)) (f.same b w) (λ v w.
             then_same names b.this (λ end. end) (λ end. end) (source_statement.groups_of s b.call n row.1 (source_statement.group_for (wrap k v) (source_statement.labels_of scope k row.1)) w) _ _ _
             (ap (λ i. typed_statement.groups_of (typed_setting b) b.typed_call n row'.1 i (laid names b.this w)) (found (wrap k v) labels ∙ ap (source_statement.group_for (wrap k v)) (labels_same k row.1 row'.1 zipped))
             ∙ groups_same b stand n k row.1 row'.1 (source_statement.group_for (wrap k v) (source_statement.labels_of scope k row.1)) zipped w)
             (leaving_same names b.this))
-          ∙ ap (λ j. laid_run names b.this (and_then value (going j))) kind;
+            ∙ ap (λ j. laid_run names b.this (and_then value (going j))) kind;
       }
     where
       wrapped_first : (k : Kind) (r : Run cells.Memory ℤ) (next : ℤ → World cells.Memory → Run cells.Memory End) → and_then (run_map (wrap k) r) next ≡ and_then r (λ v. next (wrap k v))

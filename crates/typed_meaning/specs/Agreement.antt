@@ -1,7 +1,7 @@
 -- When a part of a typed program does what a part of a source does. A walk over the source gives these facts
 -- form by form, before the typed program is there; they are of use once it is, in a program that breaks no
 -- rule.
-use Rattle.std.specs.Prelude.{◌≡◌, ℕ, Bool, true, false, List, [], ◌∷◌, ◌++◌, filter_map, map, slice_get, Option, Some, None, ℤ, ⊤}
+use Rattle.std.specs.Prelude.{◌≡◌, ℕ, Bool, true, false, List, [], ◌∷◌, ◌++◌, filter_map, map, slice_get, Option, Some, None, ⊤}
 use Rattle.std.specs.List.{AllZip}
 use Rattle.int_kinds.specs.declared.kinds.Kind.{Kind}
 use Rattle.write_format.specs.declared.argument.ArgKind.{ArgKind}
@@ -49,8 +49,9 @@ use Rattle.typed_meaning.specs.Laid.{AreDistinct, GivesOnly, IsAmong, IsOpen, Is
 
 -- ---- programs
 
--- What the names of a program without offences have: no name is declared twice. And what those of each program
--- have: the function that is called is the one of its number, and the parameters of functions are variables.
+-- What the names of a program without offences have: no name is declared twice. And what those of each
+-- program have: the function that is called is the one of its number, and the parameters of functions are
+-- variables.
 pub record ArePlain (names : Names) : Type 0 where
   pub distinct : AreDistinct names.variables
   pub numbered : (name : List ℕ) (f : Function) → callee names name ≡ OfProgram f →
@@ -63,9 +64,9 @@ pub record ArePlain (names : Names) : Type 0 where
 abbrev pub parameter_slots : Names → Function → List ℕ
 parameter_slots names f = map (λ p. slot names (record { owner = f.number; name = p.name })) f.parameters
 
--- The tables of a typed program are those of a source's names: the kinds of its cells, the units of its timers,
--- and the parameters of its functions. The functions stand in an order of their own, which is given by their
--- numbers in the source.
+-- The tables of a typed program are those of a source's names: the kinds of its cells, the units of its
+-- timers, and the parameters of its functions. The functions stand in an order of their own, which is given
+-- by their numbers in the source.
 pub record Fits (names : Names) (order : List ℕ) (program : Typed) : Type 0 where
   pub kinds : program.cells ≡ event_kinds ++ laid_kinds names
   pub timers : program.timers ≡ timer_units names
@@ -80,8 +81,8 @@ abbrev pub SameCalls :
 SameCalls names order this call typed_call = (k number : ℕ) → slice_get order k ≡ Some number →
     (w : World source.Memory) → typed_call k (laid names this w) ≡ laid_run names this (call number w)
 
--- A run of a source's program beside one of its typed program: with the same `this`, at the same moment, after
--- the measurement has ended or not, and with calls that do the same.
+-- A run of a source's program beside one of its typed program: with the same `this`, at the same moment,
+-- after the measurement has ended or not, and with calls that do the same.
 pub record Beside (names : Names) (order : List ℕ) : Type 0 where
   pub plain : ArePlain names
   pub program : Typed
@@ -119,14 +120,14 @@ pub record GivesAs (scope : Scope) (order : List ℕ) (e : Expr) (t : TExpr) : T
   pub same : (b : Beside scope.names order) → SameNumber scope.names b.this
       (source.value_of (source_setting b scope) b.call e) (typed.value_of (typed_setting b) b.typed_call t)
 
--- where a run gives places that are so, a typed place is the same place in cells; where there is no typed place,
--- it gives none
+-- where a run gives places that are so, a typed place is the same place in cells; where there is no typed
+-- place, it gives none
 abbrev pub SamePlace : {names : Names} {order : List ℕ} → Beside names order → (source.Spot → Type 0) →
     (World source.Memory → Run source.Memory source.Spot) → Option Place → Type 0
 SamePlace b Holds spot None = (w : World source.Memory) → spot w ≡ Gives source.Nowhere w
 SamePlace {names} b Holds spot (Some place) = (w : World source.Memory) →
     (typed.spot_of (typed_setting b) b.typed_call place (laid names b.this w) ≡
-     mapped names b.this (laid_spot names) (spot w)) ×
+    mapped names b.this (laid_spot names) (spot w)) ×
     GivesOnly Holds (spot w)
 
 -- a typed place is the place that an expression is; or there is none and it is none
@@ -137,8 +138,8 @@ pub record StandsAs (scope : Scope) (order : List ℕ) (e : Expr) (place : Optio
 -- the same, of a place that is stored to
 pub record AssignsAs (scope : Scope) (order : List ℕ) (e : Expr) (place : Option Place) : Type 0 where
   pub same : (b : Beside scope.names order) →
-      SamePlace b (λ spot. IsReal scope.names spot × IsOpen spot) (source.place_spot (source_setting b scope) e
-      (source.spot_of (source_setting b scope) b.call e)) place
+      SamePlace b (λ spot. IsReal scope.names spot × IsOpen spot)
+      (source.place_spot (source_setting b scope) e (source.spot_of (source_setting b scope) b.call e)) place
 
 -- ---- statements
 
@@ -153,8 +154,8 @@ pub record DoesAs (scope : Scope) (order : List ℕ) (formats : List FormatText)
       SameEnd scope.names b.this (source_statement.stmt_of (source_setting b scope) b.call n s)
       (typed_statement.stmt_of (typed_setting b) b.typed_call n t)
 
--- a typed statement does what an expression does that stands alone, as a statement or as the first or third part
--- of a `for`
+-- a typed statement does what an expression does that stands alone, as a statement or as the first or third
+-- part of a `for`
 pub record AloneDoesAs (scope : Scope) (order : List ℕ) (formats : List FormatText) (e : Expr) (t : TStmt)
     : Type 0 where
   pub same : (b : Beside scope.names order) → StandIn formats b.program.formats → (n : ℕ) →
@@ -215,11 +216,12 @@ pub record ArmDoesAs (scope : Scope) (order : List ℕ) (formats : List FormatTe
 -- a typed group of a `switch` does what a group does, and has its labels in a kind
 pub record GroupDoesAs (scope : Scope) (order : List ℕ) (formats : List FormatText) (k : Kind)
     (group : Group) (t : TGroup) : Type 0 where
-  pub labels : t.labels ≡ filter_map (λ label. source_statement.label_of scope k label.at label.value) group.labels
+  pub labels : t.labels ≡
+      filter_map (λ label. source_statement.label_of scope k label.at label.value) group.labels
   pub body : AllZip (DoesAs scope order formats) group.body t.body
 
--- what is known of an argument of `write` before the run is what it is: a number of its kind, the cells of the
--- array that it names, or its text
+-- what is known of an argument of `write` before the run is what it is: a number of its kind, the cells of
+-- the array that it names, or its text
 abbrev pub IsArgument : Scope → Expr → ArgKind → Type 0
 IsArgument scope e (argument.Number k) = sort_of scope e ≡ sort.Number k
 IsArgument scope e (argument.Chars base len) = (v : Variable) × (array_in scope e ≡ Some v) ×

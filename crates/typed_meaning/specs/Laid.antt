@@ -1,8 +1,7 @@
 -- How the memory of a source stands in the cells of its typed program: first the cells of the event, then
 -- those of the variables in program order of their declarations.
-use Rattle.std.specs.Prelude.{◌≡◌, ℕ, ◌+◌, ◌<◌, ◌≤◌, ◌⊎◌, Bool, true, false, if◌then◌else◌, List, [], ◌∷◌, ◌++◌, length, Option, Some, None, ⊤}
+use Rattle.std.specs.Prelude.{◌≡◌, ℕ, ◌+◌, ◌<◌, ◌≤◌, ◌⊎◌, Bool, true, false, if◌then◌else◌, List, [], ◌∷◌, ◌++◌, ⊤}
 use Rattle.std.specs.List.{AllByRecursion}
-use Rattle.int_kinds.specs.declared.kinds.Kind.{Kind}
 use Rattle.message_cells.specs.Message.{size}
 use Rattle.worlds.specs.World.{World, Run, Gives, Fails}
 use Rattle.capl_meaning.specs.declared.field.MessageField.{MessageField}
