@@ -136,7 +136,8 @@ plain_names base program distinct = record {
 
 -- ---- event procedures
 
-all_append : {A : Type 0} (P : A → Type 0) (xs ys : List A) → AllByRecursion P xs → AllByRecursion P ys → AllByRecursion P (xs ++ ys)
+-- what holds of each of two lists holds of each of both
+pub all_append : {A : Type 0} (P : A → Type 0) (xs ys : List A) → AllByRecursion P xs → AllByRecursion P ys → AllByRecursion P (xs ++ ys)
 all_append P [] ys f g = g
 all_append P (x ∷ xs) ys f g = (f.0, all_append P xs ys f.1 g)
 

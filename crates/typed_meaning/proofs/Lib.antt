@@ -3,6 +3,7 @@ pub mod Calls
 pub mod Cells
 pub mod Expressions
 pub mod Declared
+pub mod Distinct
 pub mod Effects
 pub mod Lines
 pub mod Lists

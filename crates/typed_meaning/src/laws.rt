@@ -33,6 +33,7 @@ ghost use Rattle.capl_meaning.specs.Constant.{operands_kind};
 ghost use Rattle.capl_meaning.specs.Store.{Store, This, event_kinds, key_of, laid_kinds, with_message};
 ghost use Rattle.capl_meaning.specs.Expression.{spot_of_name, step_operator, timer_in};
 ghost use Rattle.capl_meaning.specs.Expression as source;
+ghost use Rattle.capl_meaning.specs.Offences.{offences_of};
 ghost use Rattle.capl_meaning.specs.Procedure.{Handler, ending_of, handlers_of};
 ghost use Rattle.capl_meaning.specs.Statement.{fitting_pieces};
 ghost use Rattle.typed_meaning.specs.Laid.{AreDistinct, HasForm, IsHeld, IsOpen, IsReal, laid_memory, laid_spot, message_slot, slot};
@@ -52,6 +53,13 @@ pub fn event_procedures_end_as_in_the_source()
         typed_procedure.ending_of (record { typed = typed_program; closed = closed; moment = moment })
         typed_handler turns (laid_memory (names_of base program) this memory) ≡
         laid_ending (names_of base program) this (ending_of handler this closed moment turns memory) }
+{}
+
+/// In a program without offences no procedure has two variables of one name, and there are no two globals
+/// of one.
+pub fn accepted_programs_declare_no_name_twice()
+    ensures { (base : List DbcMessage) (program : Program) → offences_of base program ≡ [] →
+        AreDistinct (variables_of base program) }
 {}
 
 /// Reading and storing at a place in the cells that a store is laid out in is reading and storing at the
@@ -131,6 +139,7 @@ mod tests {
     #[test]
     fn laws_can_be_called() {
         super::event_procedures_end_as_in_the_source();
+        super::accepted_programs_declare_no_name_twice();
         super::cells_hold_the_store();
         super::broken_expressions_have_trees();
         super::broken_statements_have_trees();
