@@ -12,5 +12,6 @@ pub mod Places
 pub mod Procedures
 pub mod Programs
 pub mod Runs
+pub mod Starts
 pub mod Statements
 pub mod Timers

@@ -46,6 +46,7 @@ use Rattle.capl_meaning.specs.Procedure.{Handler, handlers_of}
 use Rattle.capl_meaning.specs.Procedure as source_procedure
 use Rattle.capl_meaning.specs.Statement as source_statement
 use Rattle.typed_meaning.specs.Laid.{AreDistinct, GivesOnly, IsAmong, IsOpen, IsReal, laid, laid_memory, laid_run, laid_spot, mapped, slot}
+use Rattle.typed_meaning.specs.Starts.{StartsAs}
 
 -- ---- programs
 
@@ -245,11 +246,13 @@ pub record HandlerDoesAs (order : List ℕ) (formats : List FormatText) (handler
   pub file : typed_handler.file ≡ handler.file
   pub body : AllZip (DoesAs handler.scope order formats) handler.body typed_handler.body
 
--- a typed program does what a source does: its tables are those of the source's names, and its functions and
--- event procedures, which stand in program order, do what those of the source do
+-- a typed program does what a source does: its tables are those of the source's names, its starts make the
+-- first store, and its functions and event procedures, which stand in program order, do what those of the
+-- source do
 pub record ProgramDoesAs (base : List DbcMessage) (program : Program) (typed_program : Typed) : Type 0 where
   pub order : List ℕ
   pub fits : Fits (names_of base program) order typed_program
+  pub starts : StartsAs (names_of base program) typed_program
   pub functions : FunctionsDoAs (names_of base program) order typed_program
   pub handlers : AllZip (HandlerDoesAs order typed_program.formats)
       (handlers_of (names_of base program) program) typed_program.handlers

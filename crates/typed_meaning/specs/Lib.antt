@@ -1,3 +1,4 @@
 -- The definitions of this crate.
 pub mod Agreement
 pub mod Laid
+pub mod Starts

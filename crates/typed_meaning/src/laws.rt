@@ -1,6 +1,6 @@
 //! Laws of agreement. Each call does nothing: its contract is the law.
 
-ghost use Rattle.std.specs.Prelude.{◌≡◌, ℕ, List, [], ◌∷◌, ◌++◌, false, map, slice_get, Option, Some, None, Bool, ℤ, pos};
+ghost use Rattle.std.specs.Prelude.{◌≡◌, ℕ, List, [], ◌∷◌, ◌++◌, false, flat_map, map, slice_get, Option, Some, None, Bool, ℤ, pos};
 ghost use Rattle.int_kinds.specs.Kind.{join};
 ghost use Rattle.int_kinds.specs.declared.kinds.Kind.{Kind};
 ghost use Rattle.int_kinds.specs.declared.kinds.Kind.TheVariants.{Long};
@@ -30,14 +30,16 @@ ghost use Rattle.capl_meaning.specs.Format.{text_in};
 ghost use Rattle.capl_meaning.specs.Message.{Held, array_in, is_number_place, message_in};
 ghost use Rattle.capl_meaning.specs.Sort.{kind_in, sort_of};
 ghost use Rattle.capl_meaning.specs.Constant.{operands_kind};
-ghost use Rattle.capl_meaning.specs.Store.{Store, This, event_kinds, key_of, laid_kinds, with_message};
+ghost use Rattle.capl_meaning.specs.Store.{Store, This, event_kinds, key_of, laid_kinds, lay, with_message};
 ghost use Rattle.capl_meaning.specs.Expression.{spot_of_name, step_operator, timer_in};
 ghost use Rattle.capl_meaning.specs.Expression as source;
+ghost use Rattle.capl_meaning.specs.Initial.{first_store};
 ghost use Rattle.capl_meaning.specs.Offences.{offences_of};
 ghost use Rattle.capl_meaning.specs.Procedure.{Handler, ending_of, handlers_of};
 ghost use Rattle.capl_meaning.specs.Statement.{fitting_pieces};
 ghost use Rattle.typed_meaning.specs.Laid.{AreDistinct, HasForm, IsHeld, IsOpen, IsReal, laid_memory, laid_spot, message_slot, slot};
 ghost use Rattle.typed_meaning.specs.Agreement.{AloneDoesAs, GivesAs, GivesZero, ProgramDoesAs, laid_ending};
+ghost use Rattle.typed_meaning.specs.Starts.{first_cells_of};
 
 /// Where a typed program does what a source does in which no name is declared twice, each event procedure
 /// ends, from each memory, `this`, moment and number of turns, after the measurement has ended or not, in
@@ -63,7 +65,8 @@ pub fn accepted_programs_declare_no_name_twice()
 {}
 
 /// Reading and storing at a place in the cells that a store is laid out in is reading and storing at the
-/// place itself, and copying a message there is copying it in the store.
+/// place itself, and copying a message there is copying it in the store. The first store is laid out
+/// variable by variable.
 pub fn cells_hold_the_store()
     ensures reads { (names : Names) → AreDistinct names.variables → (this : This) (s : Store)
         (spot : source.Spot) → IsReal names spot →
@@ -84,6 +87,8 @@ pub fn cells_hold_the_store()
           store = with_message (key_of v) (source.held_message this s from) s;
           active = [];
         })).cells }
+    ensures first { (names : Names) → AreDistinct names.variables →
+        lay names (first_store names) ≡ flat_map (first_cells_of names) names.variables }
 {}
 
 /// What stands where a number is needed and breaks a rule has a tree that does the same.

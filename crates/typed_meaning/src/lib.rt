@@ -4,7 +4,8 @@
 //! in specs/ lays a store out in cells, behind those of the event, and a place of the source in a place
 //! in cells. `Agreement` says when a typed expression, place, statement, function or program does what
 //! one of the source does: from each store, `this`, moment and number of turns, the run of the one on
-//! the cells that the store is laid out in is that of the other, with its memory laid out.
+//! the cells that the store is laid out in is that of the other, with its memory laid out. `Starts` has
+//! what the cells hold at first.
 //!
 //! proofs/ has a lemma for each form: where the parts agree, the whole agrees. `Places` has those of
 //! places, `Expressions` and `Calls` those of expressions, `Effects` those of expressions that stand

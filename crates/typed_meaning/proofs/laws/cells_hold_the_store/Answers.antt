@@ -5,6 +5,7 @@ use Rattle.capl_meaning.specs.Store.{key_of}
 use Rattle.capl_meaning.specs.Expression.{held_message}
 use Rattle.typed_meaning.specs.Laid.{slot}
 use Rattle.typed_meaning.proofs.Cells.{all_cells, copy_laid, message_laid, read_laid, write_laid}
+use Rattle.typed_meaning.proofs.Starts.{first_laid}
 use Rattle.typed_meaning.proofs.laws.cells_hold_the_store.Goals as goal
 
 pub returns-clause-reads : goal.returns-clause-reads
@@ -17,3 +18,6 @@ pub returns-clause-copies : goal.returns-clause-copies
 returns-clause-copies c = λ names distinct this s v type_ from form held.
     ap (λ cells. with_message_at (slot names (key_of v)) cells (all_cells names this s)) (message_laid names distinct this s from held)
     ∙ copy_laid names distinct this s v type_ form (held_message this s from)
+
+pub returns-clause-first : goal.returns-clause-first
+returns-clause-first c = first_laid
