@@ -1,6 +1,7 @@
 -- Lemmas on the definitions of this crate.
 pub mod Calls
 pub mod Cells
+pub mod EventCells
 pub mod Expressions
 pub mod Declared
 pub mod Distinct
@@ -12,6 +13,8 @@ pub mod Places
 pub mod Procedures
 pub mod Programs
 pub mod Runs
+pub mod Seen
+pub mod SeenStatements
 pub mod Starts
 pub mod Statements
 pub mod Timers

@@ -268,7 +268,7 @@ both_given P Q (Gives a w) p q = (p, q)
 both_given P Q (Fails o w) p q = tt
 
 -- whatever an index leads to is so
-indexed_only : (P : source.Spot → Type 0) (len : ℕ) (r : Run source.Memory ℤ) (spot : ℕ → source.Spot) → ((j : ℕ) → P (spot j)) →
+pub indexed_only : (P : source.Spot → Type 0) (len : ℕ) (r : Run source.Memory ℤ) (spot : ℕ → source.Spot) → ((j : ℕ) → P (spot j)) →
     GivesOnly P (and_then r (λ i w. indexing len i w spot))
 indexed_only P len (Fails o w) spot h = tt
 indexed_only P len (Gives (negsuc i) w) spot h = tt

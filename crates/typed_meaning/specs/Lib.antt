@@ -2,3 +2,4 @@
 pub mod Agreement
 pub mod Laid
 pub mod Starts
+pub mod Seen

@@ -1,6 +1,6 @@
 //! Laws of agreement. Each call does nothing: its contract is the law.
 
-ghost use Rattle.std.specs.Prelude.{◌≡◌, ℕ, List, [], ◌∷◌, ◌++◌, false, flat_map, map, slice_get, Option, Some, None, Bool, ℤ, pos};
+ghost use Rattle.std.specs.Prelude.{◌≡◌, ℕ, List, [], ◌∷◌, ◌++◌, false, flat_map, length, map, slice_get, Option, Some, None, Bool, ℤ, pos};
 ghost use Rattle.int_kinds.specs.Kind.{join};
 ghost use Rattle.int_kinds.specs.declared.kinds.Kind.{Kind};
 ghost use Rattle.int_kinds.specs.declared.kinds.Kind.TheVariants.{Long};
@@ -30,7 +30,7 @@ ghost use Rattle.capl_meaning.specs.Format.{text_in};
 ghost use Rattle.capl_meaning.specs.Message.{Held, array_in, is_number_place, message_in};
 ghost use Rattle.capl_meaning.specs.Sort.{kind_in, sort_of};
 ghost use Rattle.capl_meaning.specs.Constant.{operands_kind};
-ghost use Rattle.capl_meaning.specs.Store.{Store, This, event_kinds, key_of, laid_kinds, lay, with_message};
+ghost use Rattle.capl_meaning.specs.Store.{Store, This, event_cells, event_kinds, key_of, laid_kinds, lay, with_message};
 ghost use Rattle.capl_meaning.specs.Expression.{spot_of_name, step_operator, timer_in};
 ghost use Rattle.capl_meaning.specs.Expression as source;
 ghost use Rattle.capl_meaning.specs.Initial.{first_store};
@@ -39,6 +39,7 @@ ghost use Rattle.capl_meaning.specs.Procedure.{Handler, ending_of, handlers_of};
 ghost use Rattle.capl_meaning.specs.Statement.{fitting_pieces};
 ghost use Rattle.typed_meaning.specs.Laid.{AreDistinct, HasForm, IsHeld, IsOpen, IsReal, laid_memory, laid_spot, message_slot, slot};
 ghost use Rattle.typed_meaning.specs.Agreement.{AloneDoesAs, GivesAs, GivesZero, ProgramDoesAs, laid_ending};
+ghost use Rattle.typed_meaning.specs.Seen.{SameSeen};
 ghost use Rattle.typed_meaning.specs.Starts.{first_cells_of};
 
 /// Where a typed program does what a source does in which no name is declared twice, each event procedure
@@ -55,6 +56,17 @@ pub fn event_procedures_end_as_in_the_source()
         typed_procedure.ending_of (record { typed = typed_program; closed = closed; moment = moment })
         typed_handler turns (laid_memory (names_of base program) this memory) ≡
         laid_ending (names_of base program) this (ending_of handler this closed moment turns memory) }
+{}
+
+/// How an event procedure ends depends on `this` only as far as the procedure sees it: on the frame where
+/// it is for frames, on the key where it is for keys, and else on neither. Any 15 cells are those of an
+/// event.
+pub fn what_is_not_seen_changes_nothing()
+    ensures endings { (handler : Handler) (one other : This) → SameSeen handler.scope.this one other →
+        (closed : Bool) (moment turns : ℕ) (memory : source.Memory) →
+        ending_of handler one closed moment turns memory ≡
+        ending_of handler other closed moment turns memory }
+    ensures any_cells { (first : List ℤ) → length first ≡ 15 → (this : This) × (event_cells this ≡ first) }
 {}
 
 /// In a program without offences no procedure has two variables of one name, and there are no two globals
@@ -145,6 +157,7 @@ mod tests {
     fn laws_can_be_called() {
         super::event_procedures_end_as_in_the_source();
         super::accepted_programs_declare_no_name_twice();
+        super::what_is_not_seen_changes_nothing();
         super::cells_hold_the_store();
         super::broken_expressions_have_trees();
         super::broken_statements_have_trees();

@@ -5,7 +5,7 @@
 //! in cells. `Agreement` says when a typed expression, place, statement, function or program does what
 //! one of the source does: from each store, `this`, moment and number of turns, the run of the one on
 //! the cells that the store is laid out in is that of the other, with its memory laid out. `Starts` has
-//! what the cells hold at first.
+//! what the cells hold at first, and `Seen` what a procedure sees of `this`: the frame, the key or neither.
 //!
 //! proofs/ has a lemma for each form: where the parts agree, the whole agrees. `Places` has those of
 //! places, `Expressions` and `Calls` those of expressions, `Effects` those of expressions that stand
