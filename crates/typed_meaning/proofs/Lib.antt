@@ -18,3 +18,4 @@ pub mod SeenStatements
 pub mod Starts
 pub mod Statements
 pub mod Timers
+pub mod Zips
