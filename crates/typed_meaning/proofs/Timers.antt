@@ -7,9 +7,9 @@ use Rattle.std.proofs.lemmas.Bool.{ltb-false}
 use Rattle.capl_tree.specs.declared.expr.Expr.{Expr}
 use Rattle.capl_tree.specs.declared.expr.Expr.TheVariants as expr
 use Rattle.capl_tree.specs.Forms as tree
-use Rattle.capl_meaning.specs.Variable.{Form, Number, Array, Message, Timer, Misfit, Variable}
+use Rattle.capl_meaning.specs.Variable.{Form, Number, Array, Message, Timer, Misfit, Variable, is_timer}
 use Rattle.capl_meaning.specs.Names.{Names, Scope, means}
-use Rattle.capl_meaning.specs.Store.{is_timer, key_of, same_key, timer_number, timer_units, unit_of}
+use Rattle.capl_meaning.specs.Store.{key_of, same_key, timer_number, timer_units, unit_of}
 use Rattle.capl_meaning.specs.Expression.{timer_by, timer_in}
 use Rattle.typed_meaning.specs.Laid.{AreDistinct, HasForm, IsAmong}
 use Rattle.typed_meaning.proofs.Parts.{fresh, key_self}
