@@ -2,6 +2,8 @@
 mod ActiveTimers
 mod DueTimers
 mod HostRuns
+mod MessageChoices
 mod NodeTasks
 mod Plans
+mod ProcedureTables
 mod TaskEffects

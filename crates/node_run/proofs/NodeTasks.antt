@@ -215,9 +215,16 @@ done_with node trigger memory last outcome = with_procedure node.doing.node trig
 module _ {B R : Type 0} (after_request : B → ℕ → FrameFields → B) (meaning : RecordMeaning R) (number : ℕ) (node : NodeInRound) (bus : B) (into : R) (meter : List MeterRow)
     (trigger : Trigger) (rest : Rest) (timers : Timers) (handler : ℕ) (closed : Bool) (memory memory_after : MemoryState) (took : Took node trigger rest timers) (runs : Runs node trigger handler closed memory)
     (outcome : Outcome) (stop : Bool) (bus_after : B) (between : R) (timers_after : Timers) (meter_after : List MeterRow)
-    (run : RunsHandler after_request meaning node.doing.node.memory.code closed handler node.doing.node.memory.turns (node.first_row + handler) memory
+    (code : Code) (same_code : code ≡ node.doing.node.memory.code)
+    (run_of_code : RunsHandler after_request meaning code closed handler node.doing.node.memory.turns (node.first_row + handler) memory
     (parts number node.moment false bus into timers) meter outcome memory_after (parts number node.moment stop bus_after between timers_after) meter_after)
   where
+    run : RunsHandler after_request meaning node.doing.node.memory.code closed handler node.doing.node.memory.turns (node.first_row + handler) memory
+        (parts number node.moment false bus into timers) meter outcome memory_after (parts number node.moment stop bus_after between timers_after) meter_after
+    run =
+        subst (λ (k : Code). RunsHandler after_request meaning k closed handler node.doing.node.memory.turns (node.first_row + handler) memory
+        (parts number node.moment false bus into timers) meter outcome memory_after (parts number node.moment stop bus_after between timers_after) meter_after) same_code run_of_code
+
     by_procedure : DoesProcedure by_code node.doing.node handler trigger.occurrence node.moment (done_with node trigger memory_after run.last outcome)
     by_procedure = record {
       end = run_end node memory_after run.last outcome;
@@ -298,28 +305,36 @@ module _ {B R : Type 0} (after_request : B → ℕ → FrameFields → B) (meani
 -- a refused run is refused at the first lines of the task
 pub refused_run : {B R : Type 0} (after_request : B → ℕ → FrameFields → B) (meaning : RecordMeaning R) (number : ℕ) (node : NodeInRound) (bus : B) (into : R) (meter meter_after : List MeterRow)
     (trigger : Trigger) (rest : Rest) (timers : Timers) (handler : ℕ) (closed : Bool) (memory : MemoryState) (after : Parts B R) → Took node trigger rest timers → Runs node trigger handler closed memory
-    → RefusesHandler after_request meaning node.doing.node.memory.code closed handler node.doing.node.memory.turns memory (parts number node.moment false bus into timers) after
+    → (code : Code) → code ≡ node.doing.node.memory.code
+    → RefusesHandler after_request meaning code closed handler node.doing.node.memory.turns memory (parts number node.moment false bus into timers) after
     → meter_after ≡ meter → IsTaskRefused meaning number node into after.into meter meter_after
-refused_run {B} {R} after_request meaning number node bus into meter meter_after trigger rest timers handler closed memory after took runs run same = record {
-  lines = lines_of run.at.effects;
-  between = run.between.into;
-  first_lines = lines_begin_task node trigger rest handler memory (parts number node.moment false bus into timers) run.start run.at.effects
-      (record { next = took.next; runs = runs.runs; begins = run.begins; this = runs.this; fires = took.fires })
-      (λ outcome last ends. run.first_effects outcome last (subst (λ b. EndsIn node.doing.node.memory.code b node.moment run.start outcome last) (sym runs.closing) ends));
-  taken = run.come_to.lines;
-  refusal = elim run.refusal as (λ _. (after.into ≡ run.between.into) ⊎ ((text : List ℕ) × RefusesEntry meaning run.between.into (entry.Line node.moment number text) after.into)) [
-    | inl same ↦ inl same
-    | inr refused ↦ elim refused as (λ _. (after.into ≡ run.between.into) ⊎ ((text : List ℕ) × RefusesEntry meaning run.between.into (entry.Line node.moment number text) after.into)) [
-      | inl same ↦ inl same
-      | inr line ↦ inr (
-        line.0,
-        subst (λ m. RefusesEntry meaning run.between.into (entry.Line m number line.0) after.into) run.come_to.moment
-            (subst (λ n. RefusesEntry meaning run.between.into (entry.Line run.between.moment n line.0) after.into) run.come_to.number line.1),
-      )
-    ]
-  ];
-  metered = inl same;
-}
+refused_run {B} {R} after_request meaning number node bus into meter meter_after trigger rest timers handler closed memory after took runs code same_code run_of_code same =
+    refused_own took runs
+    (subst (λ (k : Code). RefusesHandler after_request meaning k closed handler node.doing.node.memory.turns memory (parts number node.moment false bus into timers) after) same_code run_of_code) same
+  where
+    refused_own : Took node trigger rest timers → Runs node trigger handler closed memory
+        → RefusesHandler after_request meaning node.doing.node.memory.code closed handler node.doing.node.memory.turns memory (parts number node.moment false bus into timers) after
+        → meter_after ≡ meter → IsTaskRefused meaning number node into after.into meter meter_after
+    refused_own took runs run same = record {
+      lines = lines_of run.at.effects;
+      between = run.between.into;
+      first_lines = lines_begin_task node trigger rest handler memory (parts number node.moment false bus into timers) run.start run.at.effects
+          (record { next = took.next; runs = runs.runs; begins = run.begins; this = runs.this; fires = took.fires })
+          (λ outcome last ends. run.first_effects outcome last (subst (λ b. EndsIn node.doing.node.memory.code b node.moment run.start outcome last) (sym runs.closing) ends));
+      taken = run.come_to.lines;
+      refusal = elim run.refusal as (λ _. (after.into ≡ run.between.into) ⊎ ((text : List ℕ) × RefusesEntry meaning run.between.into (entry.Line node.moment number text) after.into)) [
+        | inl same ↦ inl same
+        | inr refused ↦ elim refused as (λ _. (after.into ≡ run.between.into) ⊎ ((text : List ℕ) × RefusesEntry meaning run.between.into (entry.Line node.moment number text) after.into)) [
+          | inl same ↦ inl same
+          | inr line ↦ inr (
+            line.0,
+            subst (λ m. RefusesEntry meaning run.between.into (entry.Line m number line.0) after.into) run.come_to.moment
+                (subst (λ n. RefusesEntry meaning run.between.into (entry.Line run.between.moment n line.0) after.into) run.come_to.number line.1),
+          )
+        ]
+      ];
+      metered = inl same;
+    }
 
 -- ---- what was taken
 
@@ -328,28 +343,27 @@ some_next : (due : Option Trigger) (rest : Rest) (next : Option (Trigger × Rest
 some_next due rest next false is some = is
 some_next due rest next true is some = absurd (cc)
 
-taken_of : (handlers : List Handler) (node : NodeInRound) (taken : Option Trigger) (trigger : Trigger) (rest : Rest) (timers : Timers) → handlers ≡ node.doing.node.memory.code.handlers
-    → IsSome (next_of code_reaction node.moment node.doing) → taken ≡ Some trigger → (next : Option (Trigger × Rest)) → next_in handlers node.doing.rest node.doing.node.timers node.moment ≡ next
+taken_of : (node : NodeInRound) (taken : Option Trigger) (trigger : Trigger) (rest : Rest) (timers : Timers)
+    → IsSome (next_of code_reaction node.moment node.doing) → taken ≡ Some trigger
+    → (next : Option (Trigger × Rest)) → next_in node.doing.node.memory.code.handlers node.doing.rest node.doing.node.timers node.moment ≡ next
     → MatchOption next (taken ≡ None) (λ n. (taken ≡ Some n.0) × (rest ≡ n.1) × (timers ≡ timers_at_begin n.0.occurrence node.moment node.doing.node.timers))
     → Took node trigger rest timers
-taken_of handlers node taken trigger rest timers same some is None next none = absurd (let e = sym is ∙ none in cc)
-taken_of handlers node taken trigger rest timers same some is (Some n) next facts =
+taken_of node taken trigger rest timers some is None next none = absurd (let e = sym is ∙ none in cc)
+taken_of node taken trigger rest timers some is (Some n) next facts =
     let own : n.0 ≡ trigger = some_same (sym facts.0 ∙ is) in
-    let here : next_in node.doing.node.memory.code.handlers node.doing.rest node.doing.node.timers node.moment ≡ Some n =
-    subst (λ hs. next_in hs node.doing.rest node.doing.node.timers node.moment ≡ Some n) same next in
     record {
-      next = some_next _ node.doing.rest (Some n) node.doing.node.is_halted here some
+      next = some_next _ node.doing.rest (Some n) node.doing.node.is_halted next some
           ∙ ap (λ (t : Trigger). Some (t, n.1)) own ∙ ap (λ (r : Rest). Some (trigger, r)) (sym facts.1);
       fires = facts.2 ∙ ap (λ (t : Trigger). timers_at_begin t.occurrence node.moment node.doing.node.timers) own;
     }
 
 -- what was taken of what was left is what the node does next
-pub took : (handlers : List Handler) (node view : NodeInRound) (taken : Option Trigger) (trigger : Trigger) (rest : Rest) (timers : Timers) → handlers ≡ view.doing.node.memory.code.handlers
+pub took : (node view : NodeInRound) (taken : Option Trigger) (trigger : Trigger) (rest : Rest) (timers : Timers)
     → view ≡ node → IsSome (next_of code_reaction node.moment node.doing) → taken ≡ Some trigger
-    → IsNextTaken handlers view.doing.rest view.doing.node.timers view.moment taken rest timers → Took view trigger rest timers
-took handlers node view taken trigger rest timers same is_view some is facts =
-    taken_of handlers view taken trigger rest timers same (subst (λ n. IsSome (next_of code_reaction n.moment n.doing)) (sym is_view) some) is
-    (next_in handlers view.doing.rest view.doing.node.timers view.moment) refl facts
+    → IsNextTaken view.doing.node.memory.code.handlers view.doing.rest view.doing.node.timers view.moment taken rest timers → Took view trigger rest timers
+took node view taken trigger rest timers is_view some is facts =
+    taken_of view taken trigger rest timers (subst (λ n. IsSome (next_of code_reaction n.moment n.doing)) (sym is_view) some) is
+    (next_in view.doing.node.memory.code.handlers view.doing.rest view.doing.node.timers view.moment) refl facts
 
 -- whether the lines of a halt are there
 pub halt_told : (outcome : Outcome) (text : List ℕ) → halt_lines outcome ≡ text ∷ [] → true ≡ halts outcome

@@ -4,4 +4,5 @@ pub mod Fault
 pub mod Handler
 pub mod Host
 pub mod NodeFields
+pub mod Tables
 pub mod Wanted

@@ -7,9 +7,9 @@ ghost use Rattle.node_run.specs.Inside.Wanted.{is_wanted};
 ghost use Rattle.rounds.specs.Procedures.{numbers_where, procedures_for};
 ghost use Rattle.rounds.specs.Round.{frame_triggers, key_triggers, nothing_left, rest_of, triggers};
 
-use crate::procedures::{Wanted, first_handler, is_wanted, key_handler, message_handler};
+use crate::procedures::Procedures;
+use crate::wanted::{Wanted, is_wanted};
 use bytecode::Handler;
-use can_frame::sel_key;
 use rounds::{Occurrence, Round, Seen, Trigger};
 use sim_outside::NoMemory;
 use std::alloc::Global;
@@ -51,28 +51,27 @@ impl Agenda {
     /// What is to do in a round with the frame that is seen and the keys that are pressed.
     pub(crate) fn of_round(
         alloc: Global,
-        handlers: &[Handler],
+        procedures: &Procedures,
         round: Round,
         seen: Option<Seen>,
         keys: &[u8],
     ) -> Result<Agenda, NoMemory>
-        requires { length handlers.now < 2 ^ 32 }
         ensures { IfOk result (λ agenda.
-            agenda ≡ rest_of (procedures_for (events_of handlers.now)) round seen keys.now) }
+            agenda ≡ rest_of (procedures_for (events_of procedures.now.handlers)) round seen keys.now) }
     {
         let mut agenda = Agenda::empty(alloc);
         match round {
-            Round::PreStart => add(&mut agenda.first, handlers, &Occurrence::PreStart)?,
+            Round::PreStart => add(&mut agenda.first, procedures, &Occurrence::PreStart)?,
             Round::Start => {
-                add(&mut agenda.first, handlers, &Occurrence::Start)?;
-                add_keys(&mut agenda.last, handlers, keys)?;
+                add(&mut agenda.first, procedures, &Occurrence::Start)?;
+                add_keys(&mut agenda.last, procedures, keys)?;
             }
             Round::Moment => {
-                add_frame(&mut agenda.first, handlers, seen)?;
+                add_frame(&mut agenda.first, procedures, seen)?;
                 agenda.asks_timers = true;
-                add_keys(&mut agenda.last, handlers, keys)?;
+                add_keys(&mut agenda.last, procedures, keys)?;
             }
-            Round::Stop => add(&mut agenda.first, handlers, &Occurrence::Stop)?,
+            Round::Stop => add(&mut agenda.first, procedures, &Occurrence::Stop)?,
         }
         Ok(agenda)
     }
@@ -81,27 +80,29 @@ impl Agenda {
 /// Adds the frame that is seen, where there is one that has a procedure.
 fn add_frame(
     list: &mut VecDeque<Trigger>,
-    handlers: &[Handler],
+    procedures: &Procedures,
     seen: Option<Seen>,
 ) -> Result<(), NoMemory>
-    requires { length handlers.now < 2 ^ 32 }
-    ensures { OnOk result
-        (list.new.items ≡ list.old.items ++ frame_triggers (procedures_for (events_of handlers.now)) seen) }
+    ensures { OnOk result (list.new.items ≡ list.old.items
+        ++ frame_triggers (procedures_for (events_of procedures.now.handlers)) seen) }
 {
     if let Some(seen) = seen {
-        add(list, handlers, &Occurrence::Frame(seen))?;
+        add(list, procedures, &Occurrence::Frame(seen))?;
     }
     Ok(())
 }
 
 /// Adds the keys that have a procedure.
-fn add_keys(list: &mut VecDeque<Trigger>, handlers: &[Handler], keys: &[u8]) -> Result<(), NoMemory>
-    requires { length handlers.now < 2 ^ 32 }
-    ensures { OnOk result
-        (list.new.items ≡ list.old.items ++ key_triggers (procedures_for (events_of handlers.now)) keys.now) }
+fn add_keys(
+    list: &mut VecDeque<Trigger>,
+    procedures: &Procedures,
+    keys: &[u8],
+) -> Result<(), NoMemory>
+    ensures { OnOk result (list.new.items ≡ list.old.items
+        ++ key_triggers (procedures_for (events_of procedures.now.handlers)) keys.now) }
 {
     for key in keys {
-        add(list, handlers, &Occurrence::Key(*key))?;
+        add(list, procedures, &Occurrence::Key(*key))?;
     }
     Ok(())
 }
@@ -109,27 +110,26 @@ fn add_keys(list: &mut VecDeque<Trigger>, handlers: &[Handler], keys: &[u8]) -> 
 /// Adds an occurrence with each of its procedures.
 fn add(
     list: &mut VecDeque<Trigger>,
-    handlers: &[Handler],
+    procedures: &Procedures,
     occurrence: &Occurrence,
 ) -> Result<(), NoMemory>
-    requires { length handlers.now < 2 ^ 32 }
     ensures { OnOk result (list.new.items
-        ≡ list.old.items ++ triggers (procedures_for (events_of handlers.now)) occurrence.now) }
+        ≡ list.old.items ++ triggers (procedures_for (events_of procedures.now.handlers)) occurrence.now) }
 {
     match occurrence {
-        Occurrence::PreStart => add_all(list, handlers, Wanted::PreStart, occurrence)?,
-        Occurrence::Start => add_all(list, handlers, Wanted::Start, occurrence)?,
-        Occurrence::Stop => add_all(list, handlers, Wanted::Stop, occurrence)?,
+        Occurrence::PreStart => add_all(list, procedures.handlers(), Wanted::PreStart, occurrence)?,
+        Occurrence::Start => add_all(list, procedures.handlers(), Wanted::Start, occurrence)?,
+        Occurrence::Stop => add_all(list, procedures.handlers(), Wanted::Stop, occurrence)?,
         Occurrence::Frame(seen) => {
-            let number = message_handler(handlers, sel_key(&seen.frame));
+            let number = procedures.for_frame(&seen.frame);
             add_one(list, occurrence, number)?;
         }
         Occurrence::Timer(timer) => {
-            let number = first_handler(handlers, Wanted::Timer(*timer));
+            let number = procedures.for_timer(*timer);
             add_one(list, occurrence, number)?;
         }
         Occurrence::Key(key) => {
-            let number = key_handler(handlers, *key);
+            let number = procedures.for_key(*key);
             add_one(list, occurrence, number)?;
         }
     }

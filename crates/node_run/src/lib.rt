@@ -13,4 +13,6 @@ mod agenda;
 mod host;
 mod node;
 mod procedures;
+mod tables;
 mod task;
+mod wanted;

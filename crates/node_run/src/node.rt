@@ -12,9 +12,9 @@ ghost use Rattle.node_run.specs.Code.{cells_with_this};
 ghost use Rattle.node_run.specs.Inside.Agenda.{IsNextTaken, IsPlan};
 
 use crate::agenda::Agenda;
-use crate::procedures::{Wanted, first_handler};
+use crate::procedures::Procedures;
 use crate::task::run_handler;
-use bytecode::{Handler, Verified};
+use bytecode::Verified;
 use can_bus::Bus;
 use rounds::{Occurrence, Round, Seen, Trigger};
 use sim_outside::NoMemory;
@@ -57,7 +57,7 @@ impl From<RecordFault> for TaskFault {
 #[derive(Drop)]
 pub struct Node {
     alloc: Global,
-    code: Verified,
+    procedures: Procedures,
     memory: Memory,
     timers: TimerQueue,
     first_row: usize,
@@ -78,7 +78,7 @@ impl Model for Node {
       moment = node.moment;
       doing = record {
         node = record {
-          memory = record { code = node.code; cells = node.memory.cells; turns = node.turns };
+          memory = record { code = node.procedures; cells = node.memory.cells; turns = node.turns };
           timers = node.timers;
           is_halted = node.is_halted;
         };
@@ -86,7 +86,7 @@ impl Model for Node {
       };
     } };
 
-    ghost invariant = { λ n. IsNode n.code n.memory n.timers n.first_row n.moment n.rest };
+    ghost invariant = { λ n. IsNode n.procedures n.memory n.timers n.first_row n.moment n.rest };
 }
 
 impl Node {
@@ -97,7 +97,7 @@ impl Node {
     /// nothing to do. The rows of its handlers in a meter stand from `first_row` on, and each of its tasks
     /// has so many turns.
     ///
-    /// Takes time and memory linear in the code.
+    /// Takes memory linear in the code, and time too, but for a sort of the selectors of its handlers.
     pub fn load(
         alloc: Global,
         code: Verified,
@@ -116,7 +116,7 @@ impl Node {
         let timers = TimerQueue::make(alloc, timers)?;
         Ok(Node {
             alloc,
-            code,
+            procedures: Procedures::of_code(alloc, code)?,
             memory,
             timers,
             first_row,
@@ -131,8 +131,9 @@ impl Node {
     /// keys that are pressed. No task of the round is done yet, and none was left of the one before.
     ///
     /// A frame counts in the round of a moment alone, and keys there and in the round of the start. Takes
-    /// time linear in the handlers times the keys, and memory linear in both. Where there is none, nothing
-    /// changes.
+    /// time linear in the keys, beside that in the handlers where the round runs all of a kind, and in the
+    /// selectors where a frame is seen. Takes memory linear in the handlers and the keys. Where there is
+    /// none, nothing changes.
     pub fn begin(
         &mut self,
         round: Round,
@@ -148,8 +149,7 @@ impl Node {
         }) }
         ensures refused { OnErr result (self.new ≡ self.old) }
     {
-        let handlers = self.code.code().handlers.as_slice();
-        self.rest = Agenda::of_round(self.alloc, handlers, round, seen, keys)?;
+        self.rest = Agenda::of_round(self.alloc, &self.procedures, round, seen, keys)?;
         self.moment = now;
         Ok(())
     }
@@ -192,7 +192,7 @@ impl Node {
     pub fn code(&self) -> &Verified
         ensures { result.now ≡ self.now.doing.node.memory.code }
     {
-        &self.code
+        self.procedures.code()
     }
 
     /// The cells of the node.
@@ -205,7 +205,8 @@ impl Node {
     /// Does the next task of the node, under its number: gives its lines to the record and its requests to
     /// the bus, adds its run to the meter, and answers whether it asked to stop the measurement.
     ///
-    /// Takes time linear in the handlers, beside that of the run, and memory as the run does.
+    /// Beside that of the run it takes time as a timer does that fires, where one does. It takes memory as
+    /// the run does.
     ///
     /// # Errors
     ///
@@ -231,8 +232,7 @@ impl Node {
         ensures as_many_rows { length meter.new ≡ length meter.old }
     {
         let now = self.moment;
-        let handlers = self.code.code().handlers.as_slice();
-        let trigger = take_next(&mut self.rest, &mut self.timers, handlers, now).unwrap();
+        let trigger = take_next(&mut self.rest, &mut self.timers, &self.procedures, now).unwrap();
         let Some(handler) = trigger.procedure else {
             return Ok(TaskEnd { stop: false });
         };
@@ -240,7 +240,7 @@ impl Node {
         let closed = is_closed(&trigger.occurrence);
         let row = self.first_row + handler as usize;
         let (outcome, stop) = run_handler(
-            &self.code,
+            self.procedures.code(),
             handler,
             &mut self.memory,
             &mut self.timers,
@@ -282,17 +282,16 @@ fn is_due(timers: &TimerQueue, now: u64) -> bool
 fn take_next(
     rest: &mut Agenda,
     timers: &mut TimerQueue,
-    handlers: &[Handler],
+    procedures: &Procedures,
     now: u64,
 ) -> Option<Trigger>
-    requires handlers { length handlers.now < 2 ^ 32 }
     requires in_time { now ≤ 2 ^ 63 }
-    requires planned { IsPlan (length handlers.now) rest.old }
-    ensures next { IsNextTaken handlers.now rest.old timers.old now result rest.new timers.new }
-    ensures planned { IsPlan (length handlers.now) rest.new }
+    requires planned { IsPlan (length procedures.now.handlers) rest.old }
+    ensures next { IsNextTaken procedures.now.handlers rest.old timers.old now result rest.new timers.new }
+    ensures planned { IsPlan (length procedures.now.handlers) rest.new }
     ensures as_many { timers.new.count ≡ timers.old.count }
     ensures exists { IfSome result (λ trigger.
-        IfSome trigger.procedure (λ handler. handler < length handlers.now)) }
+        IfSome trigger.procedure (λ handler. handler < length procedures.now.handlers)) }
 {
     let first = rest.first.pop_front();
     if first.is_some() {
@@ -303,7 +302,7 @@ fn take_next(
     {
         return Some(Trigger {
             occurrence: Occurrence::Timer(timer),
-            procedure: first_handler(handlers, Wanted::Timer(timer)),
+            procedure: procedures.for_timer(timer),
         });
     }
     rest.last.pop_front()

@@ -1,102 +1,101 @@
-// Which handler of a node's code an occurrence is for.
+// The procedures of a node, and which one an occurrence is for.
 
-ghost use Rattle.std.specs.Prelude.{◌≡◌, ◌<◌, ◌^◌, length};
-ghost use Rattle.std.specs.List.{list_any};
+ghost use Rattle.std.specs.Prelude.{◌≡◌, ◌<◌, ◌^◌, IfOk, length};
+ghost use Rattle.can_frame.specs.Arbitration.{selection_key};
+ghost use Rattle.bytecode.specs.Verified.{IsVerified};
 ghost use Rattle.node_run.specs.Code.{events_of};
-ghost use Rattle.node_run.specs.Inside.Wanted.{is_wanted};
-ghost use Rattle.rounds.specs.Procedures.{first_where, holds, key_procedure, message_procedure};
+ghost use Rattle.rounds.specs.Procedures.{first_where, is_timer, key_procedure, message_procedure};
 
-use bytecode::Handler;
-use vm_host::{Event, Selector};
+use crate::tables::{Subject, messages_of, table_of};
+use crate::wanted::{Wanted, first_handler};
+use bytecode::{Handler, Verified};
+use can_frame::Frame;
+use msg_select::Selectors;
+use sim_outside::NoMemory;
+use std::alloc::Global;
+use std::marker::Model;
 
-/// What a handler that is sought reacts to.
-#[derive(Clone, Copy)]
-pub(crate) enum Wanted {
-    /// The measurement is about to begin.
-    PreStart,
-    /// The measurement begins.
-    Start,
-    /// The measurement has ended.
-    Stop,
-    /// A frame of this selection key, by a selector of this rank.
-    Message(u8, u32),
-    /// This timer.
-    Timer(u32),
-    /// This key.
-    Key(u8),
-    /// Each key without a procedure of its own.
-    AnyKey,
+/// How many keys there are.
+const KEYS: usize = 256;
+
+/// Verified code with tables of its handlers, so that the one for a timer or a key is found at once.
+/// Contracts see it as its code.
+#[derive(Drop)]
+pub(crate) struct Procedures {
+    code: Verified,
+    timers: Vec<Option<u32>>,
+    keys: Vec<Option<u32>>,
+    any_key: Option<u32>,
+    messages: Selectors,
 }
 
-/// Whether a handler that reacts to an event is wanted.
-pub(crate) fn is_wanted(wanted: Wanted, event: &Event) -> bool
-    ensures { result ≡ is_wanted wanted event.now }
-{
-    match event {
-        Event::PreStart => matches!(wanted, Wanted::PreStart),
-        Event::Start => matches!(wanted, Wanted::Start),
-        Event::Stop => matches!(wanted, Wanted::Stop),
-        Event::Message(selectors) => match wanted {
-            Wanted::Message(rank, key) => any_holds(selectors.as_slice(), rank, key),
-            _ => false,
-        },
-        Event::Timer(own) => matches!(wanted, Wanted::Timer(timer) if timer == *own),
-        Event::Key(Some(own)) => matches!(wanted, Wanted::Key(key) if key == *own),
-        Event::Key(None) => matches!(wanted, Wanted::AnyKey),
-    }
+impl Model for Procedures {
+    ghost use Rattle.bytecode.specs.declared.code.Code.{Code};
+
+    ghost Value = { Code };
+
+    ghost use Rattle.node_run.specs.Inside.Tables.{AreTables};
+
+    ghost view = { λ procedures. procedures.code };
+
+    ghost invariant = { AreTables };
 }
 
-/// Whether a selector of a rank holds a selection key.
-fn any_holds(selectors: &[Selector], rank: u8, key: u32) -> bool
-    ensures { result ≡ list_any (holds rank key) selectors.now }
-{
-    for selector in selectors {
-        if selector.rank == rank && selector.low <= key && key <= selector.high {
-            return true;
-        }
+impl Procedures {
+    /// Tables of this code. Takes time and memory linear in the code, but for a sort of the selectors.
+    pub(crate) fn of_code(alloc: Global, code: Verified) -> Result<Procedures, NoMemory>
+        requires { length code.handlers < 2 ^ 32 }
+        ensures { IfOk result (λ procedures. procedures ≡ code) }
+    {
+        let handlers = code.code().handlers.as_slice();
+        let timers = table_of(alloc, handlers, Subject::Timers, code.code().timers.len())?;
+        let keys = table_of(alloc, handlers, Subject::Keys, KEYS)?;
+        let any_key = first_handler(handlers, Wanted::AnyKey);
+        let messages = messages_of(alloc, handlers)?;
+        Ok(Procedures {
+            code,
+            timers,
+            keys,
+            any_key,
+            messages,
+        })
     }
-    false
-}
 
-/// The number of the first handler that is wanted. Takes time linear in the handlers.
-pub(crate) fn first_handler(handlers: &[Handler], wanted: Wanted) -> Option<u32>
-    requires { length handlers.now < 2 ^ 32 }
-    ensures { result ≡ first_where (is_wanted wanted) (events_of handlers.now) }
-{
-    let mut number = 0;
-    for handler in handlers {
-        if is_wanted(wanted, &handler.event) {
-            return Some(number);
-        }
-        number += 1;
+    /// The code.
+    pub(crate) fn code(&self) -> &Verified
+        ensures same { result.now ≡ self.now }
+        ensures verified { IsVerified self.now }
+    {
+        &self.code
     }
-    None
-}
 
-/// The number of the message handler for a selection key.
-pub(crate) fn message_handler(handlers: &[Handler], key: u32) -> Option<u32>
-    requires { length handlers.now < 2 ^ 32 }
-    ensures { result ≡ message_procedure (events_of handlers.now) key }
-{
-    let exact = first_handler(handlers, Wanted::Message(0, key));
-    if exact.is_some() {
-        return exact;
+    /// The handlers.
+    pub(crate) fn handlers(&self) -> &[Handler]
+        ensures handlers { result.now ≡ self.now.handlers }
+        ensures numbered { length self.now.handlers < 2 ^ 32 }
+    {
+        self.code.code().handlers.as_slice()
     }
-    let by_range = first_handler(handlers, Wanted::Message(1, key));
-    if by_range.is_some() {
-        return by_range;
-    }
-    first_handler(handlers, Wanted::Message(2, key))
-}
 
-/// The number of the key handler for a key.
-pub(crate) fn key_handler(handlers: &[Handler], key: u8) -> Option<u32>
-    requires { length handlers.now < 2 ^ 32 }
-    ensures { result ≡ key_procedure (events_of handlers.now) key }
-{
-    let number = first_handler(handlers, Wanted::Key(key));
-    if number.is_some() {
-        return number;
+    /// The number of the handler for a timer.
+    pub(crate) fn for_timer(&self, timer: u32) -> Option<u32>
+        ensures { result ≡ first_where (is_timer timer) (events_of self.now.handlers) }
+    {
+        *self.timers.get(timer as usize)?
     }
-    first_handler(handlers, Wanted::AnyKey)
+
+    /// The number of the handler for a key.
+    pub(crate) fn for_key(&self, key: u8) -> Option<u32>
+        ensures { result ≡ key_procedure (events_of self.now.handlers) key }
+    {
+        self.keys[key as usize].or(self.any_key)
+    }
+
+    /// The number of the handler for a frame. Takes time linear in the selectors.
+    pub(crate) fn for_frame(&self, frame: &Frame) -> Option<u32>
+        ensures { result
+            ≡ message_procedure (events_of self.now.handlers) (selection_key frame.now.ident) }
+    {
+        self.messages.choose(frame)
+    }
 }

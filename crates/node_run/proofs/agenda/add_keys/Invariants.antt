@@ -7,5 +7,5 @@ use Rattle.node_run.proofs.agenda.add_keys.Given as goal
 
 abbrev pub invariant-loop-key : goal.invariant-loop-key
 invariant-loop-key l =
-    l.initial.list.items ++ key_triggers (procedures_for (events_of l.handlers)) l.keys
-    ≡ l.list.items ++ key_triggers (procedures_for (events_of l.handlers)) (drop l.key-index l.keys)
+    l.initial.list.items ++ key_triggers (procedures_for (events_of l.procedures.handlers)) l.keys
+    ≡ l.list.items ++ key_triggers (procedures_for (events_of l.procedures.handlers)) (drop l.key-index l.keys)

@@ -11,8 +11,8 @@ returns-then-is_some-clause-planned c =
 
 pub returns-clause-exists : goal.returns-clause-exists
 returns-clause-exists c =
-    subst (λ o. IfSome o (λ handler. handler < length c.args.handlers.now)) (sym c.first_handler.ensures)
-    (timer_procedure_exists c.args.handlers.now (is_timer c.in-Some.timer))
+    subst (λ o. IfSome o (λ handler. handler < length c.args.procedures.now.handlers)) (sym c.for_timer.ensures)
+    (timer_procedure_exists c.args.procedures.now.handlers (is_timer c.in-Some.timer))
 
 pub returns-2-clause-planned : goal.returns-2-clause-planned
 returns-2-clause-planned c =

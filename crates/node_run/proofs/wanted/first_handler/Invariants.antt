@@ -4,7 +4,7 @@ use Rattle.std.specs.List.{position_from}
 use Rattle.rounds.specs.Procedures.{first_where}
 use Rattle.node_run.specs.Code.{events_of}
 use Rattle.node_run.specs.Inside.Wanted.{is_wanted}
-use Rattle.node_run.proofs.procedures.first_handler.Given as goal
+use Rattle.node_run.proofs.wanted.first_handler.Given as goal
 
 abbrev pub invariant-loop-handler : goal.invariant-loop-handler
 invariant-loop-handler l = record {
