@@ -1,0 +1,4 @@
+-- The definitions of this crate.
+pub mod Expression
+pub mod Program
+pub mod Statement
