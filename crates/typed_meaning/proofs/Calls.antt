@@ -50,7 +50,7 @@ arguments_laid names plain this f (p ∷ ps) among (n ∷ ns) s =
 
 module _ (names : Names) (order : List ℕ) (b : Beside names order) where
   -- a function of the program is called with numbers
-  calling_same : (f : Function) (k : ℕ) (ns : List ℤ) (w : World source.Memory) → function_numbered names f.number ≡ Some f → slice_get order k ≡ Some f.number →
+  pub calling_same : (f : Function) (k : ℕ) (ns : List ℤ) (w : World source.Memory) → function_numbered names f.number ≡ Some f → slice_get order k ≡ Some f.number →
       typed.calling (typed_setting b) b.typed_call k ns (laid names b.this w) ≡ laid_run names b.this (calling b.call f ns w)
   calling_same f k ns w is at =
       let found = b.fits.functions k f.number at in

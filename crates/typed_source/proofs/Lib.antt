@@ -1,1 +1,7 @@
 -- Lemmas on the definitions of this crate.
+pub mod Alone
+pub mod Expressions
+pub mod Formats
+pub mod Orders
+pub mod Shown
+pub mod Statements

@@ -1,7 +1,7 @@
 -- The typed tree of a statement, and the formats of the lines that it writes, in the order in which they stand
 -- in the source: first part, test, third part and body of a `for`. A format of a statement is known by its
 -- number among all formats of the program, of which so many stand before those of the statement.
-use Rattle.std.specs.Prelude.{ℕ, ◌+◌, Bool, true, false, List, [], ◌∷◌, ◌++◌, filter, filter_map, length, map, Option, Some, None}
+use Rattle.std.specs.Prelude.{◌≡◌, slice_get, ℕ, ◌+◌, Bool, true, false, List, [], ◌∷◌, ◌++◌, filter, filter_map, length, map, Option, Some, None}
 use Rattle.std.specs.Option.{option_map, option_map_or}
 use Rattle.int_kinds.specs.declared.kinds.Kind.{Kind}
 use Rattle.write_format.specs.declared.argument.ArgKind.{ArgKind}
@@ -123,6 +123,11 @@ abbrev mutual
   formats_of_groups s end_of-Group = []
   formats_of_groups s (more_of-Group labels shape body rest) =
       formats_of_row s body ++ formats_of_groups s rest
+
+-- formats stand among others, one behind another from a number on
+abbrev pub StandFrom : ℕ → List FormatText → List FormatText → Type 0
+StandFrom before few many =
+    (i : ℕ) (format : FormatText) → slice_get few i ≡ Some format → slice_get many (before + i) ≡ Some format
 
 -- ---- expressions that stand alone
 
