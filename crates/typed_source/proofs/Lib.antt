@@ -3,5 +3,6 @@ pub mod Alone
 pub mod Expressions
 pub mod Formats
 pub mod Orders
+pub mod Programs
 pub mod Shown
 pub mod Statements

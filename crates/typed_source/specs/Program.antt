@@ -24,6 +24,11 @@ abbrev pub HasEach : Names → List ℕ → Type 0
 HasEach names order =
     (number : ℕ) (f : Function) → function_numbered names number ≡ Some f → Contains order number
 
+-- only functions of the program stand in the order
+abbrev pub HasNoOther : Names → List ℕ → Type 0
+HasNoOther names order = (k number : ℕ) → slice_get order k ≡ Some number →
+    (f : Function) × (function_numbered names number ≡ Some f)
+
 -- a function stands in the order before another
 abbrev pub IsBefore : List ℕ → ℕ → ℕ → Type 0
 IsBefore order one other =
@@ -33,7 +38,7 @@ IsBefore order one other =
 -- functions that one calls stand before it.
 pub record IsGoodOrder (names : Names) (order : List ℕ) : Type 0 where
   pub has_each : HasEach names order
-  pub has_no_other : All (λ number. (f : Function) × (function_numbered names number ≡ Some f)) order
+  pub has_no_other : HasNoOther names order
   pub once : AllPairs (λ one other. one ≢ other) order
   pub calls_earlier : (number : ℕ) →
       All (λ called. IsBefore order called number) (called_by_number names number)

@@ -1,0 +1,48 @@
+//! Laws of the typed programs of sources. Each call does nothing: its contract is the law.
+
+ghost use Rattle.std.specs.Prelude.{ℕ, List};
+ghost use Rattle.dbc_reader.specs.declared.message.DbcMessage.{DbcMessage};
+ghost use Rattle.write_format.specs.Format.{FormatText};
+ghost use Rattle.capl_tree.specs.declared.expr.Expr.{Expr};
+ghost use Rattle.capl_tree.specs.declared.file.Program.{Program};
+ghost use Rattle.capl_tree.specs.declared.statement.Stmt.{Stmt};
+ghost use Rattle.capl_meaning.specs.Names.{Scope, names_of};
+ghost use Rattle.typed_meaning.specs.Agreement.{AloneDoesAs, DoesAs, GivesAs, ProgramDoesAs, StandsAs};
+ghost use Rattle.typed_source.specs.Expression.{expression_of, place_of};
+ghost use Rattle.typed_source.specs.Program.{HasEach, HasNoOther, typed_program};
+ghost use Rattle.typed_source.specs.Statement.{StandFrom, alone_of, formats_of, formats_of_alone, statement_of};
+
+/// The typed tree of each part of a source does what the part does, whatever rules the part breaks, where
+/// each function of the source stands in the order of functions: an expression gives the same number, a
+/// place is the same place in cells, and a statement, or an expression that stands alone, does the same in
+/// a program that has its formats from a number on.
+pub fn trees_do_what_their_parts_do()
+    ensures expressions { (scope : Scope) (order : List ℕ) (e : Expr) → HasEach scope.names order →
+        GivesAs scope order e (expression_of scope order e) }
+    ensures places { (scope : Scope) (order : List ℕ) (e : Expr) → HasEach scope.names order →
+        StandsAs scope order e (place_of scope order e) }
+    ensures alone { (scope : Scope) (order : List ℕ) (formats : List FormatText) (before : ℕ) (e : Expr) →
+        HasEach scope.names order → StandFrom before (formats_of_alone scope e) formats →
+        AloneDoesAs scope order formats e (alone_of scope order before e) }
+    ensures statements { (scope : Scope) (order : List ℕ) (formats : List FormatText) (before : ℕ)
+        (s : Stmt) → HasEach scope.names order → StandFrom before (formats_of scope s) formats →
+        DoesAs scope order formats s (statement_of scope order before s) }
+{}
+
+/// The typed program of a source does what the source does, in each order that has the source's functions
+/// and no others, whatever rules the source breaks: its tables are those of the source's names, and its
+/// functions and event procedures do what those of the source do.
+pub fn typed_programs_do_what_their_sources_do()
+    ensures { (base : List DbcMessage) (program : Program) (order : List ℕ) (line : ℕ → ℕ → ℕ) →
+        HasEach (names_of base program) order → HasNoOther (names_of base program) order →
+        ProgramDoesAs base program (typed_program base program order line) }
+{}
+
+#[cfg(test)]
+mod tests {
+    #[test]
+    fn laws_can_be_called() {
+        super::trees_do_what_their_parts_do();
+        super::typed_programs_do_what_their_sources_do();
+    }
+}
