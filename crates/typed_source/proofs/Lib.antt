@@ -1,8 +1,10 @@
 -- Lemmas on the definitions of this crate.
 pub mod Alone
+pub mod ExpressionSizes
 pub mod Expressions
 pub mod Formats
 pub mod Orders
 pub mod Programs
 pub mod Shown
+pub mod StatementSizes
 pub mod Statements
