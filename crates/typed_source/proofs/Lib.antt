@@ -4,6 +4,7 @@ pub mod ExpressionSizes
 pub mod Expressions
 pub mod Formats
 pub mod Orders
+pub mod ProgramSizes
 pub mod Programs
 pub mod Shown
 pub mod StatementSizes

@@ -1,11 +1,14 @@
 //! Laws of the typed programs of sources. Each call does nothing: its contract is the law.
 
-ghost use Rattle.std.specs.Prelude.{ℕ, List};
+ghost use Rattle.std.specs.Prelude.{◌≢◌, ℕ, ◌≤◌, List, AllPairs};
 ghost use Rattle.dbc_reader.specs.declared.message.DbcMessage.{DbcMessage};
 ghost use Rattle.write_format.specs.Format.{FormatText};
 ghost use Rattle.capl_tree.specs.declared.expr.Expr.{Expr};
 ghost use Rattle.capl_tree.specs.declared.file.Program.{Program};
 ghost use Rattle.capl_tree.specs.declared.statement.Stmt.{Stmt};
+ghost use Rattle.capl_tree.specs.Weight.{weight};
+ghost use Rattle.typed_tree.specs.Size.{size};
+ghost use Rattle.typed_tree.specs.Sound.{IsSound};
 ghost use Rattle.capl_meaning.specs.Names.{Scope, names_of};
 ghost use Rattle.typed_meaning.specs.Agreement.{AloneDoesAs, DoesAs, GivesAs, ProgramDoesAs, StandsAs};
 ghost use Rattle.typed_source.specs.Expression.{expression_of, place_of};
@@ -38,11 +41,21 @@ pub fn typed_programs_do_what_their_sources_do()
         ProgramDoesAs base program (typed_program base program order line) }
 {}
 
+/// The code of the typed program of a source has at most as many instructions as the source's weight, where
+/// the order has each function once and no others, and the typed program is sound.
+pub fn code_is_within_the_weight()
+    ensures { (base : List DbcMessage) (program : Program) (order : List ℕ) (line : ℕ → ℕ → ℕ) →
+        HasNoOther (names_of base program) order → AllPairs (λ one other. one ≢ other) order →
+        IsSound (typed_program base program order line) →
+        size (typed_program base program order line) ≤ weight program }
+{}
+
 #[cfg(test)]
 mod tests {
     #[test]
     fn laws_can_be_called() {
         super::trees_do_what_their_parts_do();
         super::typed_programs_do_what_their_sources_do();
+        super::code_is_within_the_weight();
     }
 }
