@@ -7,5 +7,7 @@ pub mod Orders
 pub mod ProgramSizes
 pub mod Programs
 pub mod Shown
+pub mod SoundExpressions
+pub mod Starts
 pub mod StatementSizes
 pub mod Statements

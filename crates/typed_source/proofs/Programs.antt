@@ -14,12 +14,14 @@ use Rattle.typed_tree.specs.Program.{body_of as typed_body_of}
 use Rattle.capl_meaning.specs.Variable.{parts_of}
 use Rattle.capl_meaning.specs.Names.{Function, Names, Scope, inside_function, names_of}
 use Rattle.capl_meaning.specs.Calls.{function_numbered}
+use Rattle.capl_meaning.specs.Initial.{first_store}
 use Rattle.capl_meaning.specs.Procedure.{Handler, handlers_of}
 use Rattle.typed_meaning.specs.Agreement.{DoesAs, HandlerDoesAs, ProgramDoesAs, parameter_slots}
 use Rattle.typed_meaning.proofs.Declared.{handlers_named}
 use Rattle.typed_source.specs.Statement.{StandFrom, formats_of}
 use Rattle.typed_source.specs.Program.{HasEach, HasNoOther, body_of, formats_of_body, formats_of_function, formats_of_functions, formats_of_handlers, function_of, functions_of, typed_handlers, typed_program}
 use Rattle.typed_source.proofs.Formats.{first_part, second_part}
+use Rattle.typed_source.proofs.Starts.{store_made}
 use Rattle.typed_source.proofs.Statements.{does}
 
 -- a body
@@ -89,6 +91,7 @@ module _ (base : List DbcMessage) (program : Program) (order : List ℕ) (line :
   program_does each no_other = record {
     order = order;
     fits = record { kinds = refl; timers = refl; functions = λ k number at. fits k number at (no_other k number at) };
+    starts = record { made = store_made names (first_store names) };
     functions = record { bodies = λ k number f at is. bodies k number f at is };
     handlers = handlers_do names order each line all_formats (length own_formats) (handlers_of names program) (handlers_named names (parts_of program)) behind;
   }

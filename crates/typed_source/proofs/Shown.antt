@@ -148,7 +148,7 @@ module _ (s : Scope) where
   -- ---- texts and arrays
 
   -- an expression of a sort names what the sort says: a text, or an array
-  abbrev Names : Expr → Sort → Type 0
+  abbrev pub Names : Expr → Sort → Type 0
   Names e sort.Text = (text : List ℕ) × (text_in e ≡ Some text)
   Names e (sort.Array k) = (v : Variable) × (array_in s e ≡ Some v) × (text_in e ≡ None)
   Names e _ = ⊤
