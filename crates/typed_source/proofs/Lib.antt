@@ -11,3 +11,4 @@ pub mod SoundExpressions
 pub mod Starts
 pub mod StatementSizes
 pub mod Statements
+pub mod Tables

@@ -8,7 +8,11 @@ ghost use Rattle.capl_tree.specs.declared.file.Program.{Program};
 ghost use Rattle.capl_tree.specs.declared.statement.Stmt.{Stmt};
 ghost use Rattle.capl_tree.specs.Weight.{weight};
 ghost use Rattle.typed_tree.specs.Size.{size};
+ghost use Rattle.typed_tree.specs.declared.program.Typed.{Typed};
 ghost use Rattle.typed_tree.specs.Sound.{IsSound};
+ghost use Rattle.typed_tree.specs.SoundExpression.{IsSoundExpr};
+ghost use Rattle.capl_meaning.specs.Sort.{sort_of};
+ghost use Rattle.typed_source.specs.Sound.{CanBeMade, HasTables, IsOfNumber};
 ghost use Rattle.capl_meaning.specs.Names.{Scope, names_of};
 ghost use Rattle.typed_meaning.specs.Agreement.{AloneDoesAs, DoesAs, GivesAs, ProgramDoesAs, StandsAs};
 ghost use Rattle.typed_source.specs.Expression.{expression_of, place_of};
@@ -33,12 +37,22 @@ pub fn trees_do_what_their_parts_do()
 {}
 
 /// The typed program of a source does what the source does, in each order that has the source's functions
-/// and no others, whatever rules the source breaks: its tables are those of the source's names, and its
-/// functions and event procedures do what those of the source do.
+/// and no others, whatever rules the source breaks: its tables are those of the source's names, its starts
+/// make the first store, and its functions and event procedures do what those of the source do.
 pub fn typed_programs_do_what_their_sources_do()
     ensures { (base : List DbcMessage) (program : Program) (order : List ℕ) (line : ℕ → ℕ → ℕ) →
         HasEach (names_of base program) order → HasNoOther (names_of base program) order →
         ProgramDoesAs base program (typed_program base program order line) }
+{}
+
+/// The typed tree of an expression that is a number is sound in the procedure of a number, in a typed
+/// program whose tables have what the source's names need, where each number, compound assignment and call
+/// in the expression can be made.
+pub fn numbers_have_sound_trees()
+    ensures { (typed : Typed) (number : ℕ) (scope : Scope) (order : List ℕ) (e : Expr) →
+        HasTables scope.names typed → IsOfNumber (sort_of scope e) →
+        CanBeMade scope order typed number e →
+        IsSoundExpr typed number (expression_of scope order e) }
 {}
 
 /// The code of the typed program of a source has at most as many instructions as the source's weight, where
@@ -56,6 +70,7 @@ mod tests {
     fn laws_can_be_called() {
         super::trees_do_what_their_parts_do();
         super::typed_programs_do_what_their_sources_do();
+        super::numbers_have_sound_trees();
         super::code_is_within_the_weight();
     }
 }
