@@ -12,3 +12,4 @@ pub mod Starts
 pub mod StatementSizes
 pub mod Statements
 pub mod Tables
+pub mod Units

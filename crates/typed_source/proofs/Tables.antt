@@ -1,10 +1,11 @@
 -- The tables of a typed program have what a source's names need.
-use Rattle.std.proofs.Common.{◌≡◌, ◌≢◌, ℕ, zero, suc, ◌+◌, ◌≤◌, ◌<◌, Bool, true, false, List, [], ◌∷◌, ◌++◌, length, get_or, refl, sym, ap, ◌∙◌, subst, arith, length-append, append_assoc}
+use Rattle.std.proofs.Common.{◌≡◌, ◌≢◌, ℕ, zero, suc, ◌+◌, ◌≤◌, ◌<◌, inl, inr, Bool, true, false, List, [], ◌∷◌, ◌++◌, length, get_or, refl, sym, ap, ◌∙◌, subst, arith, length-append, append_assoc}
 use Rattle.std.specs.Prelude.{All, drop, flat_map, nat_lt, replicate, slice_index_or, take}
 use Rattle.std.proofs.lemmas.Bool.{ltb-false, ltb-true}
 use Rattle.std.proofs.lemmas.List.{get_or_past}
 use Rattle.int_kinds.specs.declared.kinds.Kind.{Kind}
 use Rattle.int_kinds.specs.declared.kinds.Kind.TheVariants.{Long}
+use Rattle.vm_host.specs.Duration.{IsUnit}
 use Rattle.message_cells.specs.Cells.{BeginWithEvent}
 use Rattle.message_cells.specs.Message.{IsMessage, message_kinds}
 use Rattle.capl_tree.specs.declared.expr.Expr.{Expr}
@@ -19,7 +20,12 @@ use Rattle.typed_meaning.specs.Laid.{AreDistinct, HasForm, IsAmong, cell_count, 
 use Rattle.typed_meaning.proofs.Lists.{at_middle, replicate_at, replicate_long, take_middle}
 use Rattle.typed_meaning.proofs.Parts.{parted}
 use Rattle.typed_meaning.proofs.Timers.{unit_found}
-use Rattle.typed_source.specs.Sound.{HasTables}
+use Rattle.typed_source.specs.Sound.{HasTables, HaveElements, HaveUnits}
+
+-- a unit is not 0
+unit_some : (unit : ℕ) → IsUnit unit → unit ≢ 0
+unit_some unit (inl e) zero_is = absurd (omega (arith, e, zero_is))
+unit_some unit (inr e) zero_is = absurd (omega (arith, e, zero_is))
 
 module _ (names : Names) where
   abbrev all : List Kind
@@ -113,13 +119,12 @@ module _ (names : Names) where
 
     -- the tables of a typed program that are those of names without a name for the second time
     pub has_tables : (typed : Typed) → typed.cells ≡ all → typed.timers ≡ timer_units names →
-        ((v : Variable) (k : Kind) (fixed : Bool) (size : Expr) → HasForm names v (Array k fixed size) → 1 ≤ elements_of names v) →
-        ((v : Variable) (unit : ℕ) → HasForm names v (Timer unit) → unit ≢ 0) → HasTables names typed
+        HaveElements names → HaveUnits names → HasTables names typed
     has_tables typed cells units some some_unit = record {
       numbers = λ v k fixed real. subst (λ l. slot names (key_of v) < length l) (sym cells) (numbers v k fixed real);
       arrays = λ v k fixed size real. subst (λ l. IsUniformArray l (slot names (key_of v)) (elements_of names v) × (kind_of l (slot names (key_of v)) ≡ k)) (sym cells)
           (arrays v k fixed size real (some v k fixed size real));
       messages = λ v type_ real. subst (λ l. IsMessage l (slot names (key_of v))) (sym cells) (messages v type_ real);
       event = subst (λ l. BeginWithEvent l) (sym cells) (record { message = refl; key = refl });
-      timers = λ v unit real. subst (λ l. timer_number names v < length l) (sym units) (timers v unit real (some_unit v unit real));
+      timers = λ v unit real. subst (λ l. timer_number names v < length l) (sym units) (timers v unit real (unit_some unit (some_unit v unit real)));
     }

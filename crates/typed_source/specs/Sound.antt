@@ -1,8 +1,9 @@
 -- What makes a typed expression sound besides its sort: the tables of the typed program have what the source's
 -- names need, and each number, assignment and call in the expression can be made.
-use Rattle.std.specs.Prelude.{◌≡◌, ℕ, ◌+◌, ◌<◌, ◌^◌, Bool, true, false, List, length, slice_get, Option, Some, None, ⊤}
+use Rattle.std.specs.Prelude.{◌≡◌, ℕ, ◌≤◌, ◌<◌, ◌^◌, Bool, true, false, List, length, slice_get, Option, Some, None, ⊤}
 use Rattle.int_kinds.specs.declared.kinds.Kind.{Kind}
 use Rattle.int_kinds.specs.declared.operators.BinOp.{BinOp}
+use Rattle.vm_host.specs.Duration.{IsUnit}
 use Rattle.message_cells.specs.Cells.{BeginWithEvent}
 use Rattle.message_cells.specs.Message.{IsMessage}
 use Rattle.capl_tree.specs.declared.expr.Expr.{Expr, Row_of-Expr, end_of-Expr, more_of-Expr}
@@ -40,6 +41,15 @@ pub record HasTables (names : Names) (typed : Typed) : Type 0 where
   pub event : BeginWithEvent typed.cells
   pub timers : (v : Variable) (unit : ℕ) → HasForm names v (Timer unit) →
       timer_number names v < length typed.timers
+
+-- each array of a source has an element
+abbrev pub HaveElements : Names → Type 0
+HaveElements names = (v : Variable) (k : Kind) (fixed : Bool) (size : Expr) →
+    HasForm names v (Array k fixed size) → 1 ≤ elements_of names v
+
+-- each timer of a source has the unit of seconds or milliseconds
+abbrev pub HaveUnits : Names → Type 0
+HaveUnits names = (v : Variable) (unit : ℕ) → HasForm names v (Timer unit) → IsUnit unit
 
 -- a function of the source stands in a typed program before the procedure of a number, with as many
 -- parameters, and gives a number where it does in the source

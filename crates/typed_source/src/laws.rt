@@ -1,6 +1,6 @@
 //! Laws of the typed programs of sources. Each call does nothing: its contract is the law.
 
-ghost use Rattle.std.specs.Prelude.{◌≢◌, ℕ, ◌≤◌, List, AllPairs};
+ghost use Rattle.std.specs.Prelude.{◌≡◌, ◌≢◌, ℕ, ◌≤◌, List, ◌++◌, AllPairs};
 ghost use Rattle.dbc_reader.specs.declared.message.DbcMessage.{DbcMessage};
 ghost use Rattle.write_format.specs.Format.{FormatText};
 ghost use Rattle.capl_tree.specs.declared.expr.Expr.{Expr};
@@ -12,8 +12,10 @@ ghost use Rattle.typed_tree.specs.declared.program.Typed.{Typed};
 ghost use Rattle.typed_tree.specs.Sound.{IsSound};
 ghost use Rattle.typed_tree.specs.SoundExpression.{IsSoundExpr};
 ghost use Rattle.capl_meaning.specs.Sort.{sort_of};
-ghost use Rattle.typed_source.specs.Sound.{CanBeMade, HasTables, IsOfNumber};
-ghost use Rattle.capl_meaning.specs.Names.{Scope, names_of};
+ghost use Rattle.capl_meaning.specs.Store.{event_kinds, laid_kinds, timer_units};
+ghost use Rattle.typed_meaning.specs.Laid.{AreDistinct};
+ghost use Rattle.typed_source.specs.Sound.{CanBeMade, HasTables, HaveElements, HaveUnits, IsOfNumber};
+ghost use Rattle.capl_meaning.specs.Names.{Names, Scope, names_of};
 ghost use Rattle.typed_meaning.specs.Agreement.{AloneDoesAs, DoesAs, GivesAs, ProgramDoesAs, StandsAs};
 ghost use Rattle.typed_source.specs.Expression.{expression_of, place_of};
 ghost use Rattle.typed_source.specs.Program.{HasEach, HasNoOther, typed_program};
@@ -55,6 +57,15 @@ pub fn numbers_have_sound_trees()
         IsSoundExpr typed number (expression_of scope order e) }
 {}
 
+/// The tables of a typed program have what the names of a source need, where no name is declared twice and
+/// each array has an element; the timers of each source have the unit of seconds or milliseconds.
+pub fn tables_have_what_names_need()
+    ensures tables { (names : Names) (typed : Typed) → AreDistinct names.variables →
+        typed.cells ≡ event_kinds ++ laid_kinds names → typed.timers ≡ timer_units names →
+        HaveElements names → HaveUnits names → HasTables names typed }
+    ensures units { (base : List DbcMessage) (program : Program) → HaveUnits (names_of base program) }
+{}
+
 /// The code of the typed program of a source has at most as many instructions as the source's weight, where
 /// the order has each function once and no others, and the typed program is sound.
 pub fn code_is_within_the_weight()
@@ -71,6 +82,7 @@ mod tests {
         super::trees_do_what_their_parts_do();
         super::typed_programs_do_what_their_sources_do();
         super::numbers_have_sound_trees();
+        super::tables_have_what_names_need();
         super::code_is_within_the_weight();
     }
 }
