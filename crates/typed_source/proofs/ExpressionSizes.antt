@@ -70,10 +70,12 @@ exit_short true false = omega arith
 exit_short false true = omega arith
 exit_short false false = omega arith
 
+-- 1 or nothing is at most 1
 pub one_short : (b : Bool) → one_if b ≤ 1
 one_short true = omega arith
 one_short false = omega arith
 
+-- an expression that is a test by its value
 pub by_value_light : (n weight : ℕ) → n + 7 ≤ weight → Light (by_value n) weight
 by_value_light n weight h = record { value = h; test = λ when fires. let e : exit_size when fires ≤ 2 = exit_short when fires in omega (arith, h, e) }
 
@@ -300,10 +302,10 @@ module _ (typed : Typed) (number : ℕ) where
       light (expr.Call' name shape args at) sound =
           light_call s order (callee s.names name) (items-the_row-Expr _ args) (λ f. Call' f shape (row_of s order args)) (8 + expressions_weight args) (omega arith)
           (λ k sound.
-            let few : args_size typed (row_of s order args) + 2 * length (items-the_row-TExpr _ (row_of s order args)) ≤ expressions_weight args = light_row args sound.1 in
-            let same : length (items-the_row-TExpr _ (row_of s order args)) ≡ length (params_of typed k) =
-                as_many (length (items-the_row-TExpr _ (row_of s order args))) (slice_get typed.functions k) sound.0.calls_earlier.1 in
-            by_value_light (args_size typed (row_of s order args) + (2 * length (params_of typed k) + 1)) (8 + expressions_weight args) (omega (arith, few, same))) sound
+          let few : args_size typed (row_of s order args) + 2 * length (items-the_row-TExpr _ (row_of s order args)) ≤ expressions_weight args = light_row args sound.1 in
+          let same : length (items-the_row-TExpr _ (row_of s order args)) ≡ length (params_of typed k) =
+          as_many (length (items-the_row-TExpr _ (row_of s order args))) (slice_get typed.functions k) sound.0.calls_earlier.1 in
+          by_value_light (args_size typed (row_of s order args) + (2 * length (params_of typed k) + 1)) (8 + expressions_weight args) (omega (arith, few, same))) sound
       light (tree.Index base index at) sound =
           light_load (place_of_element s.names (array_in s base) (expression_of s order index)) (8 + expression_weight base + expression_weight index) (omega arith)
           (λ place. heavier_place (place_of_element s.names (array_in s base) (expression_of s order index)) (8 + expression_weight index) (8 + expression_weight base + expression_weight index) (omega arith) (light_element s.names (array_in s base) (expression_of s order index) (expression_weight index) (light index) place)) sound

@@ -180,7 +180,7 @@ module _ (scope : Scope) (order : List ℕ) where
     called_same name row called is zipped b w f found (Some k) at =
         is b k (laid scope.names b.this w)
         ∙ then_same scope.names b.this (λ ns. ns) (λ n. n) (values_of (source_setting b scope) b.call row w) _ _ _ (values_same scope order b w row (row_of scope order row) zipped) (λ ns w.
-          calling_same scope.names order b f k ns w (b.plain.numbered name f found) (at_place f.number order k at))
+        calling_same scope.names order b f k ns w (b.plain.numbered name f found) (at_place f.number order k at))
 
     gives_call : (name : Text) (at : ℕ) {m : Count} (row : Row_of-Expr m) (e : Expr) (called : ℕ → TExpr) →
         ((b : Beside scope.names order) (w : World source.Memory) → value_of (source_setting b scope) b.call e w ≡

@@ -10,7 +10,6 @@ use Rattle.std.proofs.lemmas.Option.{slice_get-get_or}
 use Rattle.typed_source.specs.Expression.{place_in}
 
 module _ (number : ℕ) where
-
   -- the number stands at its place
   pub at_place : (order : List ℕ) (k : ℕ) → place_in order number ≡ Some k → slice_get order k ≡ Some number
   at_place order k e =

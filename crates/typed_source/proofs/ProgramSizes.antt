@@ -56,13 +56,13 @@ items_weight file (top.Variables declarations ∷ items) number others w h =
     let e : sum_by top_item_weight (top.Variables declarations ∷ items) ≡ 0 + sum_by top_item_weight items = sum_by-cons top_item_weight (top.Variables declarations) items in
     let f : sum_by part_weighs (parts_of_items file items number others) ≡ sum_by top_item_weight items + w = items_weight file items number others w h in
     let g : sum_by part_weighs (Globals file declarations ∷ parts_of_items file items number others) ≡ 0 + sum_by part_weighs (parts_of_items file items number others) =
-        sum_by-cons part_weighs (Globals file declarations) (parts_of_items file items number others) in
+    sum_by-cons part_weighs (Globals file declarations) (parts_of_items file items number others) in
     omega (arith, e, f, g)
 items_weight file (top.Proc procedure ∷ items) number others w h =
     let e : sum_by top_item_weight (top.Proc procedure ∷ items) ≡ procedure_weight procedure + sum_by top_item_weight items = sum_by-cons top_item_weight (top.Proc procedure) items in
     let f : sum_by part_weighs (parts_of_items file items (suc number) others) ≡ sum_by top_item_weight items + w = items_weight file items (suc number) others w h in
     let g : sum_by part_weighs (Procedure number file procedure ∷ parts_of_items file items (suc number) others) ≡ procedure_weight procedure + sum_by part_weighs (parts_of_items file items (suc number) others) =
-        sum_by-cons part_weighs (Procedure number file procedure) (parts_of_items file items (suc number) others) in
+    sum_by-cons part_weighs (Procedure number file procedure) (parts_of_items file items (suc number) others) in
     omega (arith, e, f, g)
 
 files_weight : (file : ℕ) (trees : List FileTree) (number : ℕ) → sum_by part_weighs (parts_of_files file trees number) ≡ sum_by file_weight trees
@@ -98,7 +98,7 @@ module _ (names : Names) where
       one_handler : (e : Event) → sum_by function_weighs fs + sum_by handler_weighs (record { scope = inside names number file procedure.head; event = e; body = procedure.body; file = file; token = procedure.at } ∷ hs) ≤ procedure_weight procedure + w
       one_handler e =
           let p : sum_by handler_weighs (record { scope = inside names number file procedure.head; event = e; body = procedure.body; file = file; token = procedure.at } ∷ hs) ≡ body_weight procedure.body + sum_by handler_weighs hs =
-              sum_by-cons handler_weighs (record { scope = inside names number file procedure.head; event = e; body = procedure.body; file = file; token = procedure.at }) hs in
+          sum_by-cons handler_weighs (record { scope = inside names number file procedure.head; event = e; body = procedure.body; file = file; token = procedure.at }) hs in
           omega (arith, h, p)
 
       go : (form : Head) → sum_by function_weighs (cons_option (function_by number file form procedure.body) fs) + sum_by handler_weighs (option_map_or (λ (e : Event). record {
@@ -146,8 +146,8 @@ module _ (typed : Typed) (order : List ℕ) where
       let p : stmt_size typed (statement_of s order before first) ≤ statement_weight first = small typed s order around before first sound.0 in
       let q : sum_by (stmt_size typed) (body_of s order (before + length (formats_of s first)) rest) ≤ sum_by statement_weight rest = body_small s around (before + length (formats_of s first)) rest sound.1 in
       let e : sum_by (stmt_size typed) (statement_of s order before first ∷ body_of s order (before + length (formats_of s first)) rest) ≡
-          stmt_size typed (statement_of s order before first) + sum_by (stmt_size typed) (body_of s order (before + length (formats_of s first)) rest) =
-          sum_by-cons (stmt_size typed) (statement_of s order before first) (body_of s order (before + length (formats_of s first)) rest) in
+      stmt_size typed (statement_of s order before first) + sum_by (stmt_size typed) (body_of s order (before + length (formats_of s first)) rest) =
+      sum_by-cons (stmt_size typed) (statement_of s order before first) (body_of s order (before + length (formats_of s first)) rest) in
       let f : sum_by statement_weight (first ∷ rest) ≡ statement_weight first + sum_by statement_weight rest = sum_by-cons statement_weight first rest in
       omega (arith, p, q, e, f)
 
@@ -177,7 +177,7 @@ module _ (typed : Typed) (order : List ℕ) where
       let p : procedure_size typed false (body_of h.scope order before h.body) ≤ body_weight h.body = procedure_small h.scope sound.0.0 before false h.body sound.0.1 in
       let q : sum_by handler_size (typed_handlers order line later hs) ≤ sum_by handler_weighs hs = handlers_small line later hs sound.1 in
       let e : sum_by handler_size (made ∷ typed_handlers order line later hs) ≡ procedure_size typed false (body_of h.scope order before h.body) + sum_by handler_size (typed_handlers order line later hs) =
-          sum_by-cons handler_size made (typed_handlers order line later hs) in
+      sum_by-cons handler_size made (typed_handlers order line later hs) in
       let f : sum_by handler_weighs (h ∷ hs) ≡ body_weight h.body + sum_by handler_weighs hs = sum_by-cons handler_weighs h hs in
       omega (arith, p, q, e, f)
 
@@ -191,7 +191,7 @@ module _ (typed : Typed) (order : List ℕ) where
   function_small names before number (Some g) is f there sound =
       let e : weighs names.functions number ≡ body_weight g.body = ap (λ o. option_map_or function_weighs o 0) is in
       let p : procedure_size typed (is_some g.gives) (body_of (inside_function names g) order before g.body) ≤ body_weight g.body =
-          procedure_small (inside_function names g) sound.0 before (is_some g.gives) g.body sound.1 in
+      procedure_small (inside_function names g) sound.0 before (is_some g.gives) g.body sound.1 in
       omega (arith, e, p)
 
   functions_small : (names : Names) (before : ℕ) (numbers : List ℕ) → HasNoOther names numbers →
@@ -204,9 +204,9 @@ module _ (typed : Typed) (order : List ℕ) where
       let one = there zero number refl in
       let p : function_size (function_of names order before found) ≤ weighs names.functions number = function_small names before number found refl one.0 one.1 (sound zero (function_of names order before found) refl) in
       let q : sum_by function_size (functions_of names order later rest) ≤ sum_by (weighs names.functions) rest =
-          functions_small names later rest (λ k n e. there (suc k) n e) (λ k f e. sound (suc k) f e) in
+      functions_small names later rest (λ k n e. there (suc k) n e) (λ k f e. sound (suc k) f e) in
       let e : sum_by function_size (function_of names order before found ∷ functions_of names order later rest) ≡ function_size (function_of names order before found) + sum_by function_size (functions_of names order later rest) =
-          sum_by-cons function_size (function_of names order before found) (functions_of names order later rest) in
+      sum_by-cons function_size (function_of names order before found) (functions_of names order later rest) in
       let f : sum_by (weighs names.functions) (number ∷ rest) ≡ weighs names.functions number + sum_by (weighs names.functions) rest = sum_by-cons (weighs names.functions) number rest in
       omega (arith, p, q, e, f)
 
@@ -263,7 +263,7 @@ none_weighs : (numbers : List ℕ) → sum_by (λ number. option_map_or function
 none_weighs [] = refl
 none_weighs (n ∷ ns) =
     let e : sum_by (λ number. option_map_or function_weighs (find (λ (f : Function). f.number == number) []) 0) (n ∷ ns) ≡ 0 + sum_by (λ number. option_map_or function_weighs (find (λ (f : Function). f.number == number) []) 0) ns =
-        sum_by-cons (λ number. option_map_or function_weighs (find (λ (f : Function). f.number == number) []) 0) n ns in
+    sum_by-cons (λ number. option_map_or function_weighs (find (λ (f : Function). f.number == number) []) 0) n ns in
     let h : sum_by (λ number. option_map_or function_weighs (find (λ (f : Function). f.number == number) []) 0) ns ≡ 0 = none_weighs ns in
     omega (arith, e, h)
 
@@ -273,9 +273,9 @@ once_weigh : (numbers : List ℕ) → AllPairs (λ one other. one ≢ other) num
 once_weigh numbers differ [] = let e : sum_by (λ number. option_map_or function_weighs (find (λ (f : Function). f.number == number) []) 0) numbers ≡ 0 = none_weighs numbers in omega (arith, e)
 once_weigh numbers differ (g ∷ fs) =
     let a : sum_by (λ number. option_map_or function_weighs (find (λ f. f.number == number) (g ∷ fs)) 0) numbers ≤
-        sum_by (only g.number (function_weighs g)) numbers + sum_by (λ number. option_map_or function_weighs (find (λ f. f.number == number) fs) 0) numbers =
-        sum_of_both (λ number. option_map_or function_weighs (find (λ f. f.number == number) (g ∷ fs)) 0) (only g.number (function_weighs g))
-        (λ number. option_map_or function_weighs (find (λ f. f.number == number) fs) 0) (found_weighs g fs) numbers in
+    sum_by (only g.number (function_weighs g)) numbers + sum_by (λ number. option_map_or function_weighs (find (λ f. f.number == number) fs) 0) numbers =
+    sum_of_both (λ number. option_map_or function_weighs (find (λ f. f.number == number) (g ∷ fs)) 0) (only g.number (function_weighs g))
+    (λ number. option_map_or function_weighs (find (λ f. f.number == number) fs) 0) (found_weighs g fs) numbers in
     let b : sum_by (only g.number (function_weighs g)) numbers ≤ function_weighs g = only_once g.number (function_weighs g) numbers differ in
     let c : sum_by (λ number. option_map_or function_weighs (find (λ f. f.number == number) fs) 0) numbers ≤ sum_by function_weighs fs = once_weigh numbers differ fs in
     let d : sum_by function_weighs (g ∷ fs) ≡ function_weighs g + sum_by function_weighs fs = sum_by-cons function_weighs g fs in
@@ -295,11 +295,11 @@ program_small base program order line no_other differ sound =
     let typed = typed_program base program order line in
     let formats = formats_of_functions names order in
     let a : sum_by (function_size typed order) (functions_of names order 0 order) ≤ sum_by (weighs typed order names.functions) order =
-        functions_small typed order names 0 order no_other (λ k f e. (in_function k f, (sound.functions k f e).statements)) in
+    functions_small typed order names 0 order no_other (λ k f e. (in_function k f, (sound.functions k f e).statements)) in
     let b : sum_by (weighs typed order names.functions) order ≤ sum_by function_weighs names.functions = once_weigh order differ names.functions in
     let c : sum_by (handler_size typed order) (typed_handlers order line (length formats) (handlers_of names program)) ≤ sum_by handler_weighs (handlers_of names program) =
-        handlers_small typed order line (length formats) (handlers_of names program)
-        (sound_bodies typed order (typed_handlers order line (length formats) (handlers_of names program)) (recursion_from_All (IsSoundHandler typed) _ sound.handlers)) in
+    handlers_small typed order line (length formats) (handlers_of names program)
+    (sound_bodies typed order (typed_handlers order line (length formats) (handlers_of names program)) (recursion_from_All (IsSoundHandler typed) _ sound.handlers)) in
     let d : sum_by function_weighs names.functions + sum_by handler_weighs (handlers_of names program) ≤ sum_by part_weighs (parts_of program) = parts_weigh names (parts_of program) in
     let e : sum_by part_weighs (parts_of program) ≡ weight program = files_weight 0 program.files 1 in
     omega (arith, a, b, c, d, e)

@@ -28,9 +28,10 @@ use Rattle.typed_source.proofs.Statements.{does}
 pub body_does : (scope : Scope) (order : List ℕ) → HasEach scope.names order → (formats : List FormatText) (before : ℕ) (body : List Stmt) → StandFrom before (formats_of_body scope body) formats →
     AllZip (DoesAs scope order formats) body (body_of scope order before body)
 body_does scope order each formats before [] there = tt
-body_does scope order each formats before (first ∷ rest) there =
-    (does scope order each formats before first (first_part before (formats_of scope first) (formats_of_body scope rest) formats there),
-    body_does scope order each formats (before + length (formats_of scope first)) rest (second_part before (formats_of scope first) (formats_of_body scope rest) formats there))
+body_does scope order each formats before (first ∷ rest) there = (
+  does scope order each formats before first (first_part before (formats_of scope first) (formats_of_body scope rest) formats there),
+  body_does scope order each formats (before + length (formats_of scope first)) rest (second_part before (formats_of scope first) (formats_of_body scope rest) formats there),
+)
 
 -- ---- functions
 
@@ -60,13 +61,14 @@ handlers_do : (names : Names) (order : List ℕ) → HasEach names order → (li
     AllZip (HandlerDoesAs order formats) handlers (typed_handlers order line before handlers)
 handlers_do names order each line formats before [] named there = tt
 handlers_do names order each line formats before (h ∷ rest) named there =
-    let own = formats_of_body h.scope h.body in
-    (record {
-      event = refl;
-      file = refl;
-      body = body_does h.scope order (subst (λ ns. HasEach ns order) (sym named.0) each) formats before h.body (first_part before own (formats_of_handlers rest) formats there);
-    },
-    handlers_do names order each line formats (before + length own) rest named.1 (second_part before own (formats_of_handlers rest) formats there))
+    let own = formats_of_body h.scope h.body in (
+      record {
+        event = refl;
+        file = refl;
+        body = body_does h.scope order (subst (λ ns. HasEach ns order) (sym named.0) each) formats before h.body (first_part before own (formats_of_handlers rest) formats there);
+      },
+      handlers_do names order each line formats (before + length own) rest named.1 (second_part before own (formats_of_handlers rest) formats there),
+    )
 
 -- ---- programs
 
@@ -103,16 +105,19 @@ module _ (base : List DbcMessage) (program : Program) (order : List ℕ) (line :
       fits : (k number : ℕ) → slice_get order k ≡ Some number → (f : Function) × (function_numbered names number ≡ Some f) →
           (f : Function) × (function_numbered names number ≡ Some f) × (params_of whole k ≡ parameter_slots names f)
       fits k number at found =
-          let here = at_place k number at in
-          (found.0, found.1, ap (λ o. option_map_or (λ (f : TFun). f.params) o []) here.is_there
-          ∙ ap (λ o. (function_of names order here.before o).params) found.1)
+          let here = at_place k number at in (
+            found.0,
+            found.1,
+            ap (λ o. option_map_or (λ (f : TFun). f.params) o []) here.is_there
+                ∙ ap (λ o. (function_of names order here.before o).params) found.1,
+          )
 
       bodies : (k number : ℕ) (f : Function) → slice_get order k ≡ Some number → function_numbered names number ≡ Some f →
           AllZip (DoesAs (inside_function names f) order all_formats) f.body (typed_body_of whole k)
       bodies k number f at is =
           let here = at_place k number at in
           let found : typed_body_of whole k ≡ body_of (inside_function names f) order here.before f.body =
-              ap (λ o. option_map_or (λ (f : TFun). f.body) o []) here.is_there ∙ ap (λ o. (function_of names order here.before o).body) is in
+          ap (λ o. option_map_or (λ (f : TFun). f.body) o []) here.is_there ∙ ap (λ o. (function_of names order here.before o).body) is in
           subst (λ l. AllZip (DoesAs (inside_function names f) order all_formats) f.body l) (sym found)
           (body_does (inside_function names f) order each all_formats here.before f.body
           (subst (λ o. StandFrom here.before (formats_of_function names o) all_formats) is here.formats_there))

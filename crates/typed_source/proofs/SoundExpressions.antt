@@ -1,8 +1,8 @@
 -- The typed tree of an expression that is a number is sound, where the tables are there and each number,
 -- assignment and call in it can be made.
 use mathlib.Core.Former.{Count}
-use Rattle.std.proofs.Common.{◌≡◌, ℕ, zero, suc, ◌+◌, ◌-◌, ◌^◌, ◌≤◌, ◌<◌, min, Bool, true, false, not, ◌&&◌, List, [], ◌∷◌, length, Option, Some, None, refl, sym, ap, ◌∙◌, subst, arith, length-drop, lit<}
-use Rattle.std.specs.Prelude.{⊤, ◌==◌, ◌||◌, ℤ, pos, negsuc, All, IsSome, IsSomeAnd, drop, if◌then◌else◌, nat_le, slice_get, take, unwrap_or}
+use Rattle.std.proofs.Common.{◌≡◌, ℕ, zero, suc, ◌+◌, ◌-◌, ◌^◌, ◌≤◌, ◌<◌, min, Bool, true, false, not, ◌&&◌, List, [], ◌∷◌, length, Option, Some, None, refl, sym, ap, ◌∙◌, subst, arith, length-drop}
+use Rattle.std.specs.Prelude.{◌==◌, ◌||◌, ℤ, pos, negsuc, All, IsSome, IsSomeAnd, drop, if◌then◌else◌, nat_le, take, unwrap_or}
 use Rattle.std.specs.List.{list_all, list_any}
 use Rattle.std.specs.Option.{option_and_then, option_map_or}
 use Rattle.std.proofs.lemmas.Bool.{eqb-true, leb-true, leb-false}
@@ -18,7 +18,7 @@ use Rattle.int_kinds.specs.declared.operators.UnOp.TheVariants as prefix
 use Rattle.int_kinds.specs.Kind.{IsNumber, join, width}
 use Rattle.signal_codec.specs.declared.layout.Layout.{Layout}
 use Rattle.signal_codec.specs.Signal.{IsUsable, bit_numbers}
-use Rattle.message_cells.specs.Message.{IsMessage, message_kinds}
+use Rattle.message_cells.specs.Message.{IsMessage}
 use Rattle.sim_outside.specs.declared.text.Text.{Text}
 use Rattle.dbc_reader.specs.declared.signals.DbcSignal.{DbcSignal}
 use Rattle.capl_tree.specs.declared.expr.Expr.{Expr, Row_of-Expr, end_of-Expr, more_of-Expr, items-the_row-Expr}
@@ -28,31 +28,30 @@ use Rattle.capl_tree.specs.declared.expr.Field.TheVariants.{Named}
 use Rattle.capl_tree.specs.Forms as tree
 use Rattle.typed_tree.specs.declared.expression.Place.{Place}
 use Rattle.typed_tree.specs.declared.expression.TExpr.{TExpr, items-the_row-TExpr}
-use Rattle.typed_tree.specs.declared.expression.TExpr.TheVariants.{Const, Load, Bump, Call', Active, Now}
+use Rattle.typed_tree.specs.declared.expression.TExpr.TheVariants.{Const, Call', Active}
 use Rattle.typed_tree.specs.declared.program.TFun.{TFun}
 use Rattle.typed_tree.specs.declared.program.Typed.{Typed}
 use Rattle.typed_tree.specs.Forms as form
-use Rattle.typed_tree.specs.Memory.{kind_of}
-use Rattle.typed_tree.specs.SoundExpression.{AreSoundArguments, HasSoundIndex, IsNoWider, IsOperation, IsPrefixOperation, IsSoundExpr, IsSoundNode, PlaceExists}
+use Rattle.typed_tree.specs.SoundExpression.{AreSoundArguments, HasSoundIndex, IsNoWider, IsOperation, IsPrefixOperation, IsSoundExpr, PlaceExists}
 use Rattle.capl_meaning.specs.declared.builtin.Builtin.{Builtin}
 use Rattle.capl_meaning.specs.declared.builtin.Builtin.TheVariants as builtin
 use Rattle.capl_meaning.specs.declared.field.MessageField.{MessageField}
 use Rattle.capl_meaning.specs.declared.field.MessageField.TheVariants.{Id, Dlc, Rtr, Can, Dir, Time}
 use Rattle.capl_meaning.specs.declared.sort.Sort.{Sort}
 use Rattle.capl_meaning.specs.declared.sort.Sort.TheVariants as sort
-use Rattle.capl_meaning.specs.Variable.{Form, Number, Array, Message, MessageType, Timer, Misfit, Variable}
+use Rattle.capl_meaning.specs.Variable.{Form, Number, Array, Message, Timer, Misfit, Variable}
 use Rattle.capl_meaning.specs.Names.{Callee, Function, OfLanguage, OfProgram, Scope, ThisForm, NoThis, ThisFrame, ThisKey, Unknown, callee, direction, means}
 use Rattle.capl_meaning.specs.Format.{first_text}
 use Rattle.capl_meaning.specs.Message.{Held, HeldFrame, HeldVariable, Member, IsField, IsSignal, IsUnusable, IsUnknown, array_by, array_in, can_be_used, field_named, is_number_place, is_open_number, is_usable, member_named, member_of_signal, member_of_signals, message_in, signal_named, signals_of}
-use Rattle.capl_meaning.specs.Sort.{is_number, is_recursive, kind_in, number_from, sort_given, sort_of, sort_of_assignment, sort_of_binary, sort_of_call, sort_of_choice, sort_of_direction, sort_of_element, sort_of_form, sort_of_function, sort_of_member, sort_of_name, sort_of_part, sort_of_prefix, sort_of_step, sort_of_this, sorts_of}
-use Rattle.capl_meaning.specs.Constant.{array_length, branches_kind, constant_at, elements_of, length_at, length_by, number_value, operands_kind, prefix_kind, scope_of}
+use Rattle.capl_meaning.specs.Sort.{is_number, is_recursive, kind_in, number_from, sort_given, sort_of, sort_of_assignment, sort_of_binary, sort_of_call, sort_of_choice, sort_of_element, sort_of_form, sort_of_function, sort_of_member, sort_of_name, sort_of_part, sort_of_prefix, sort_of_step, sorts_of}
+use Rattle.capl_meaning.specs.Constant.{array_length, constant_at, elements_of, length_by, number_value, scope_of}
 use Rattle.capl_meaning.specs.Store.{key_of, timer_number}
-use Rattle.capl_meaning.specs.Expression.{step_operator, timer_in}
+use Rattle.capl_meaning.specs.Expression.{timer_in}
 use Rattle.typed_meaning.specs.Laid.{HasForm, IsHeld, message_slot, slot}
 use Rattle.typed_meaning.proofs.Places.{array_named, means_among, message_named}
 use Rattle.typed_meaning.proofs.Timers.{timer_named}
-use Rattle.typed_source.specs.Expression.{assigned, expression_of, loaded, of_builtin, of_call, of_name, of_this, operation, place_in, place_of, place_of_element, place_of_field, place_of_form, place_of_member, place_of_name, place_of_part, row_of, stepping, storing, updating}
-use Rattle.typed_source.specs.Sound.{CanBeMade, CanFieldBeMade, CanRowBeMade, HasTables, IsCallable, IsCompoundOrPlain, IsOfNumber, IsSmall}
+use Rattle.typed_source.specs.Expression.{assigned, expression_of, loaded, of_builtin, of_call, of_name, of_this, operation, place_in, place_of, place_of_element, place_of_form, place_of_member, place_of_name, place_of_part, row_of, stepping, storing, updating}
+use Rattle.typed_source.specs.Sound.{CanBeMade, CanFieldBeMade, CanRowBeMade, HasTables, IsOfNumber, IsSmall}
 use Rattle.typed_source.proofs.Shown.{Names as Named_as, names}
 
 -- ---- sorts
@@ -431,17 +430,18 @@ module _ (typed : Typed) (number : ℕ) where
           let can = made.0 f e in
           let facts = called_sort f (sorts_of s args) given in
           let long : length (items-the_row-TExpr _ (row_of s order args)) ≡ length f.parameters = row_long args ∙ facts.0 in
-          subst (λ o. IsSoundExpr typed number (option_map_or (λ k. Call' k shape (row_of s order args)) o (Const (pos 0)))) (sym can.is_there)
-          (record {
-            names_exist = tt;
-            constant_in_range = tt;
-            operation = tt;
-            calls_earlier = (can.earlier, subst (λ o. IsSomeAnd o (λ (function : TFun). length (items-the_row-TExpr _ (row_of s order args)) ≡ length function.params)) (sym can.is_function) (long ∙ sym can.same_count));
-            few_arguments = subst (λ n. n < 2 ^ 32) (sym long) can.few_parameters;
-            can_give_back = tt;
-          },
-          subst (λ o. IsSomeAnd o (λ (function : TFun). IsSome function.gives)) (sym can.is_function) (gives_number can.function.gives f.gives can.same_gives facts.2),
-          sound_row args facts.1 made.1))
+          subst (λ o. IsSoundExpr typed number (option_map_or (λ k. Call' k shape (row_of s order args)) o (Const (pos 0)))) (sym can.is_there) (
+            record {
+              names_exist = tt;
+              constant_in_range = tt;
+              operation = tt;
+              calls_earlier = (can.earlier, subst (λ o. IsSomeAnd o (λ (function : TFun). length (items-the_row-TExpr _ (row_of s order args)) ≡ length function.params)) (sym can.is_function) (long ∙ sym can.same_count));
+              few_arguments = subst (λ n. n < 2 ^ 32) (sym long) can.few_parameters;
+              can_give_back = tt;
+            },
+            subst (λ o. IsSomeAnd o (λ (function : TFun). IsSome function.gives)) (sym can.is_function) (gives_number can.function.gives f.gives can.same_gives facts.2),
+            sound_row args facts.1 made.1,
+          ))
       sound (tree.Index base index at) h made =
           sound_load _ _ (at_element base (sort_of s index) (expression_of s order index) (array_in s base) refl h (λ i. sound index i made))
       sound (tree.Member base field at) h made =

@@ -1,13 +1,12 @@
 -- The starts of the typed program of a source make the first store.
-use Rattle.std.proofs.Common.{◌≡◌, ℕ, zero, suc, ◌+◌, ◌<◌, Bool, true, false, List, [], ◌∷◌, ◌++◌, length, refl, sym, ap, ◌∙◌, arith, append_assoc, append-nil, length-append}
-use Rattle.std.specs.Prelude.{ℤ, pos, flat_map, fold, if◌then◌else◌, replicate, slice_set}
+use Rattle.std.proofs.Common.{◌≡◌, ℕ, zero, suc, ◌+◌, Bool, true, false, List, [], ◌∷◌, ◌++◌, length, refl, sym, ap, ◌∙◌, arith, append_assoc, length-append}
+use Rattle.std.specs.Prelude.{ℤ, pos, flat_map, if◌then◌else◌, replicate, slice_set}
 use Rattle.std.specs.Ordering.{int_eq}
 use Rattle.std.proofs.lemmas.Bool.Decides.{Decides-int_eq}
-use Rattle.int_kinds.specs.declared.kinds.Kind.{Kind}
 use Rattle.capl_meaning.specs.Variable.{Form, Number, Array, Message, Timer, Misfit, Variable}
 use Rattle.capl_meaning.specs.Names.{Names}
 use Rattle.capl_meaning.specs.Constant.{elements_of}
-use Rattle.capl_meaning.specs.Store.{Key, Store, cells_by, cells_of, event_kinds, key_of, kinds_by, laid_kinds, lay}
+use Rattle.capl_meaning.specs.Store.{Store, cells_by, cells_of, event_kinds, key_of, kinds_by, laid_kinds, lay}
 use Rattle.typed_meaning.specs.Starts.{started}
 use Rattle.typed_meaning.proofs.Lists.{replicate_long, row_long, set_middle}
 use Rattle.typed_source.specs.Program.{starts_from}
@@ -37,7 +36,7 @@ starts_make front (n ∷ ns) = go (int_eq n (pos 0)) refl (λ m. starts_make (fr
     go false e makes =
         let at : length front + 0 ≡ length front = omega arith in
         let put : slice_set (front ++ pos 0 ∷ replicate (length ns) (pos 0)) (length front) n ≡ front ++ n ∷ replicate (length ns) (pos 0) =
-            ap (λ k. slice_set (front ++ pos 0 ∷ replicate (length ns) (pos 0)) k n) (sym at) ∙ set_middle front (pos 0 ∷ []) (replicate (length ns) (pos 0)) 0 n (omega arith) in
+        ap (λ k. slice_set (front ++ pos 0 ∷ replicate (length ns) (pos 0)) k n) (sym at) ∙ set_middle front (pos 0 ∷ []) (replicate (length ns) (pos 0)) 0 n (omega arith) in
         ap (λ cells. started cells (starts_from (suc (length front)) ns)) (put ∙ sym (append_assoc front (n ∷ []) (replicate (length ns) (pos 0)))) ∙ step n (makes n)
 
 -- ---- as many cells as kinds
@@ -53,7 +52,7 @@ all_as_many : (names : Names) (s : Store) (vs : List Variable) → length (flat_
 all_as_many names s [] = refl
 all_as_many names s (v ∷ vs) =
     let a : length (kinds_by (elements_of names v) v.form ++ flat_map (λ v. kinds_by (elements_of names v) v.form) vs) ≡
-        length (kinds_by (elements_of names v) v.form) + length (flat_map (λ v. kinds_by (elements_of names v) v.form) vs) = length-append (kinds_by (elements_of names v) v.form) _ in
+    length (kinds_by (elements_of names v) v.form) + length (flat_map (λ v. kinds_by (elements_of names v) v.form) vs) = length-append (kinds_by (elements_of names v) v.form) _ in
     let b : length (cells_of names s v ++ flat_map (cells_of names s) vs) ≡ length (cells_of names s v) + length (flat_map (cells_of names s) vs) = length-append (cells_of names s v) _ in
     let c : length (kinds_by (elements_of names v) v.form) ≡ length (cells_of names s v) = as_many names s v (elements_of names v) v.form in
     let d : length (flat_map (λ v. kinds_by (elements_of names v) v.form) vs) ≡ length (flat_map (cells_of names s) vs) = all_as_many names s vs in

@@ -111,7 +111,7 @@ module _ (typed : Typed) where
             let h : sum_by (value_size typed) (numbers_of s order es) ≤ list_weight es = further sound.1 in
             let p : value_size typed (expression_of s order e) + 7 ≤ expression_weight e = (light typed n s order e (weaken typed n (expression_of s order e) sound.0)).value in
             let q : sum_by (value_size typed) (expression_of s order e ∷ numbers_of s order es) ≡ value_size typed (expression_of s order e) + sum_by (value_size typed) (numbers_of s order es) =
-                sum_by-cons (value_size typed) (expression_of s order e) (numbers_of s order es) in
+            sum_by-cons (value_size typed) (expression_of s order e) (numbers_of s order es) in
             omega (arith, h, p, q)
 
     send_small : (o : Option Held) (weight : ℕ) → stmt_size typed (option_map_or (λ held. t.Send (message_slot s.names held)) o t.Empty) ≤ 8 + weight
@@ -127,7 +127,7 @@ module _ (typed : Typed) where
     set_small around None cyclic timer duration sound = omega arith
     set_small around (Some v) cyclic timer duration sound =
         let p : value_size typed (expression_of s order duration) + 7 ≤ expression_weight duration =
-            (light typed around.number s order duration (weaken typed around.number (expression_of s order duration) sound.1)).value in
+        (light typed around.number s order duration (weaken typed around.number (expression_of s order duration) sound.1)).value in
         omega (arith, p)
 
     write_small : (around : Around) (before : ℕ) (o : Option (List Piece)) (format : Expr) (es : List Expr) → IsSoundStmt typed around (writing s order before o es) →
@@ -157,8 +157,8 @@ module _ (typed : Typed) where
     alone_small around before (expr.Call' name shape args at) sound =
         let same : list_weight (items-the_row-Expr _ args) ≡ expressions_weight args = row_weight args in
         let h : stmt_size typed (alone_of s order before (expr.Call' name shape args at)) ≤ 8 + list_weight (items-the_row-Expr _ args) =
-            call_small around before (callee s.names name) (items-the_row-Expr _ args) (t.Eval (expression_of s order (expr.Call' name shape args at)))
-            (λ sound. let p : stmt_size typed (t.Eval (expression_of s order (expr.Call' name shape args at))) ≤ 8 + expressions_weight args = evaluated_small around.number (expr.Call' name shape args at) sound in omega (arith, p, same)) sound in
+        call_small around before (callee s.names name) (items-the_row-Expr _ args) (t.Eval (expression_of s order (expr.Call' name shape args at)))
+        (λ sound. let p : stmt_size typed (t.Eval (expression_of s order (expr.Call' name shape args at))) ≤ 8 + expressions_weight args = evaluated_small around.number (expr.Call' name shape args at) sound in omega (arith, p, same)) sound in
         omega (arith, h, same)
     alone_small around before (tree.Assign None left right at) sound =
         assignment_small around (message_in s left) (message_in s right) (t.Eval (expression_of s order (tree.Assign None left right at))) (8 + expression_weight left + expression_weight right) (omega arith)
@@ -207,7 +207,7 @@ module _ (typed : Typed) where
           let h : stmt_size typed (statement_of s order before body) ≤ statement_weight body = small (in_loop around) before body sound.1 in
           let g : test_size typed true true (expression_of s order test) + 5 ≤ expression_weight test = test_small around.number true true test sound.0 in
           let j : loop_size (stmt_size typed (statement_of s order before body)) (test_size typed true true (expression_of s order test)) ≤
-              1 + (stmt_size typed (statement_of s order before body) + test_size typed true true (expression_of s order test)) = loop_small (stmt_size typed (statement_of s order before body)) (test_size typed true true (expression_of s order test)) in
+          1 + (stmt_size typed (statement_of s order before body) + test_size typed true true (expression_of s order test)) = loop_small (stmt_size typed (statement_of s order before body)) (test_size typed true true (expression_of s order test)) in
           omega (arith, h, g, j)
       small around before (tree.Do body test) sound =
           let h : stmt_size typed (statement_of s order before body) ≤ statement_weight body = small (in_loop around) before body sound.0 in
@@ -221,8 +221,8 @@ module _ (typed : Typed) where
           let r : part_size typed (part_of s order (before + inits) step) ≤ part_weight step = part_small around (before + inits) step sound.3 in
           let h : stmt_size typed (statement_of s order (before + inits + steps) body) ≤ statement_weight body = small (in_loop around) (before + inits + steps) body sound.4 in
           let j : loop_size (stmt_size typed (statement_of s order (before + inits + steps) body) + part_size typed (part_of s order (before + inits) step)) (for_test_size typed (option_map (expression_of s order) test)) ≤
-              1 + ((stmt_size typed (statement_of s order (before + inits + steps) body) + part_size typed (part_of s order (before + inits) step)) + for_test_size typed (option_map (expression_of s order) test)) =
-              loop_small (stmt_size typed (statement_of s order (before + inits + steps) body) + part_size typed (part_of s order (before + inits) step)) (for_test_size typed (option_map (expression_of s order) test)) in
+          1 + ((stmt_size typed (statement_of s order (before + inits + steps) body) + part_size typed (part_of s order (before + inits) step)) + for_test_size typed (option_map (expression_of s order) test)) =
+          loop_small (stmt_size typed (statement_of s order (before + inits + steps) body) + part_size typed (part_of s order (before + inits) step)) (for_test_size typed (option_map (expression_of s order) test)) in
           omega (arith, p, q, r, h, j)
       small around before (stmt.Switch' on shape groups) sound =
           let row = groups_of s order (prefix_kind s on) before groups in
@@ -252,7 +252,7 @@ module _ (typed : Typed) where
           let g : arms_size typed (arms_of s order (before + length (formats_of s body)) rest) other ≤ arms_weight rest + other = small_arms around (before + length (formats_of s body)) rest other sound.2 in
           let f : arms_weight rest ≤ further_arms_weight rest = first_lighter rest in
           let j : (if goes_on (statement_of s order before body) then jump_size (arms_size typed (arms_of s order (before + length (formats_of s body)) rest) other) else 0) ≤ 1 =
-              arm_jump_short (goes_on (statement_of s order before body)) (arms_size typed (arms_of s order (before + length (formats_of s body)) rest) other) in
+          arm_jump_short (goes_on (statement_of s order before body)) (arms_size typed (arms_of s order (before + length (formats_of s body)) rest) other) in
           omega (arith, p, h, g, f, j)
 
       small_else : (around : Around) (before : ℕ) (other : Held-Stmt-If-1) → IsSoundPart typed around (else_of s order before other) → part_size typed (else_of s order before other) ≤ else_weight other

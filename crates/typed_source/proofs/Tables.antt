@@ -1,6 +1,6 @@
 -- The tables of a typed program have what a source's names need.
-use Rattle.std.proofs.Common.{◌≡◌, ◌≢◌, ℕ, zero, suc, ◌+◌, ◌≤◌, ◌<◌, inl, inr, Bool, true, false, List, [], ◌∷◌, ◌++◌, length, get_or, refl, sym, ap, ◌∙◌, subst, arith, length-append, append_assoc}
-use Rattle.std.specs.Prelude.{All, drop, flat_map, nat_lt, replicate, slice_index_or, take}
+use Rattle.std.proofs.Common.{◌≡◌, ◌≢◌, ℕ, ◌+◌, ◌≤◌, ◌<◌, inl, inr, Bool, true, false, List, ◌++◌, length, refl, sym, ap, ◌∙◌, subst, arith, length-append, append_assoc}
+use Rattle.std.specs.Prelude.{All, drop, nat_lt, replicate, slice_index_or, take}
 use Rattle.std.proofs.lemmas.Bool.{ltb-false, ltb-true}
 use Rattle.std.proofs.lemmas.List.{get_or_past}
 use Rattle.int_kinds.specs.declared.kinds.Kind.{Kind}
@@ -16,7 +16,7 @@ use Rattle.capl_meaning.specs.Variable.{Form, Number, Array, Message, MessageTyp
 use Rattle.capl_meaning.specs.Names.{Names}
 use Rattle.capl_meaning.specs.Constant.{elements_of}
 use Rattle.capl_meaning.specs.Store.{event_kinds, key_of, kinds_by, laid_kinds, timer_number, timer_units}
-use Rattle.typed_meaning.specs.Laid.{AreDistinct, HasForm, IsAmong, cell_count, cells_by_form, cells_before, slot}
+use Rattle.typed_meaning.specs.Laid.{AreDistinct, HasForm, IsAmong, cells_by_form, cells_before, slot}
 use Rattle.typed_meaning.proofs.Lists.{at_middle, replicate_at, replicate_long, take_middle}
 use Rattle.typed_meaning.proofs.Parts.{parted}
 use Rattle.typed_meaning.proofs.Timers.{unit_found}
@@ -96,16 +96,18 @@ module _ (names : Names) where
         let long : length (own v) ≡ n = ap length e ∙ replicate_long n k in
         let zero_more : length a.before + 0 ≡ length a.before = omega arith in
         let first : kind_of all (slot names (key_of v)) ≡ k =
-            ap (λ i. slice_index_or all i Long) a.at ∙ ap (λ l. slice_index_or l (length a.before) Long) a.is
-            ∙ ap (λ i. slice_index_or (a.before ++ (own v ++ a.after)) i Long) (sym zero_more)
-            ∙ at_middle a.before (own v) a.after 0 Long (omega (arith, long, least))
-            ∙ ap (λ l. slice_index_or l 0 Long) e ∙ replicate_at n 0 k Long (omega (arith, least)) in
-        (record {
-          at_least_one = least;
-          there = let f : slot names (key_of v) + length (own v) ≤ length all = all_long v a in omega (arith, f, long);
-          of_one_kind = subst (λ l. All (λ j. j ≡ kind_of all (slot names (key_of v))) l) (sym (cut v a n long ∙ e))
-              (subst (λ j. All (λ i. i ≡ j) (replicate n k)) (sym first) (same_kinds n k));
-        }, first)
+        ap (λ i. slice_index_or all i Long) a.at ∙ ap (λ l. slice_index_or l (length a.before) Long) a.is
+        ∙ ap (λ i. slice_index_or (a.before ++ (own v ++ a.after)) i Long) (sym zero_more)
+        ∙ at_middle a.before (own v) a.after 0 Long (omega (arith, long, least))
+        ∙ ap (λ l. slice_index_or l 0 Long) e ∙ replicate_at n 0 k Long (omega (arith, least)) in (
+          record {
+            at_least_one = least;
+            there = let f : slot names (key_of v) + length (own v) ≤ length all = all_long v a in omega (arith, f, long);
+            of_one_kind = subst (λ l. All (λ j. j ≡ kind_of all (slot names (key_of v))) l) (sym (cut v a n long ∙ e))
+                (subst (λ j. All (λ i. i ≡ j) (replicate n k)) (sym first) (same_kinds n k));
+          },
+          first,
+        )
 
     timers : (v : Variable) (unit : ℕ) → HasForm names v (Timer unit) → unit ≢ 0 → timer_number names v < length (timer_units names)
     timers v unit real some = go (nat_lt (timer_number names v) (length (timer_units names))) refl

@@ -1,5 +1,5 @@
 -- The timers of a source have the unit of seconds or milliseconds.
-use Rattle.std.proofs.Common.{◌≡◌, ℕ, ◌⊎◌, inl, inr, Bool, true, false, List, [], ◌∷◌, ◌++◌, Option, Some, None, refl, sym, ap, ◌∙◌, subst}
+use Rattle.std.proofs.Common.{ℕ, inl, inr, List, [], ◌∷◌, ◌++◌, Option, Some, None, refl, subst}
 use Rattle.std.specs.Prelude.{⊤, flat_map, map}
 use Rattle.std.specs.List.{AllByRecursion}
 use Rattle.vm_host.specs.Duration.{IsUnit}
@@ -11,9 +11,9 @@ use Rattle.capl_tree.specs.declared.declaration.Declr.{Declr}
 use Rattle.capl_tree.specs.declared.expr.Expr.{Expr}
 use Rattle.capl_tree.specs.declared.file.Program.{Program}
 use Rattle.capl_tree.specs.declared.procedure.Param.{Param}
-use Rattle.capl_meaning.specs.Variable.{Form, Number, Array, Message, Timer, Misfit, Part, Globals, Procedure, Variable, declarations_in, form_of, parameters_of, parts_of, variable_of_parameter, variables_of_declaration, variables_of_part}
+use Rattle.capl_meaning.specs.Variable.{Form, Timer, Part, Globals, Procedure, Variable, declarations_in, form_of, parameters_of, parts_of, variable_of_parameter, variables_of_declaration, variables_of_part}
 use Rattle.capl_meaning.specs.Names.{names_of}
-use Rattle.typed_meaning.specs.Laid.{HasForm, IsAmong}
+use Rattle.typed_meaning.specs.Laid.{IsAmong}
 use Rattle.typed_source.specs.Sound.{HaveUnits}
 
 -- the unit of a form is one, if it has one
@@ -77,6 +77,7 @@ among_all [] v all x = elim x [ ]
 among_all (u ∷ us) v all (inl e) = subst VariableHasUnit e all.0
 among_all (u ∷ us) v all (inr s) = among_all us v all.1 s
 
+-- each timer of a source has a unit
 pub have_units : (base : List DbcMessage) (program : Program) → HaveUnits (names_of base program)
 have_units base program v unit real =
     subst HasUnit real.form_is (among_all (flat_map (variables_of_part base) (parts_of program)) v (parts_units base (parts_of program)) real.among)

@@ -151,13 +151,16 @@ abbrev mutual
       loaded (option_and_then (place_of_part s order field) (message_in s base))
   expression_of s order (tree.Cast kind inner at) = Convert kind (expression_of s order inner)
   expression_of s order (tree.Unary prefix.Up inner at) =
-      stepping (kind_in (sort_of s inner)) true false (assigned (is_number_place s inner) (place_of s order inner))
+      stepping (kind_in (sort_of s inner)) true false
+      (assigned (is_number_place s inner) (place_of s order inner))
   expression_of s order (tree.Unary prefix.Down inner at) =
-      stepping (kind_in (sort_of s inner)) false false (assigned (is_number_place s inner) (place_of s order inner))
+      stepping (kind_in (sort_of s inner)) false false
+      (assigned (is_number_place s inner) (place_of s order inner))
   expression_of s order (tree.Unary operator inner at) =
       Unary operator (prefix_kind s inner) (expression_of s order inner)
   expression_of s order (tree.Post up inner at) =
-      stepping (kind_in (sort_of s inner)) up true (assigned (is_number_place s inner) (place_of s order inner))
+      stepping (kind_in (sort_of s inner)) up true
+      (assigned (is_number_place s inner) (place_of s order inner))
   expression_of s order (tree.Binary operator left right at) =
       operation operator (operands_kind s operator left right)
       (expression_of s order left) (expression_of s order right)

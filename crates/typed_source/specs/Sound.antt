@@ -1,5 +1,5 @@
--- What makes a typed expression sound besides its sort: the tables of the typed program have what the source's
--- names need, and each number, assignment and call in the expression can be made.
+-- What makes a typed expression sound besides its sort: the tables of the typed program have what the
+-- source's names need, and each number, assignment and call in the expression can be made.
 use Rattle.std.specs.Prelude.{◌≡◌, ℕ, ◌≤◌, ◌<◌, ◌^◌, Bool, true, false, List, length, slice_get, Option, Some, None, ⊤}
 use Rattle.int_kinds.specs.declared.kinds.Kind.{Kind}
 use Rattle.int_kinds.specs.declared.operators.BinOp.{BinOp}

@@ -1,6 +1,6 @@
--- The typed tree of a statement, and the formats of the lines that it writes, in the order in which they stand
--- in the source: first part, test, third part and body of a `for`. A format of a statement is known by its
--- number among all formats of the program, of which so many stand before those of the statement.
+-- The typed tree of a statement, and the formats of the lines that it writes, in the order in which they
+-- stand in the source: first part, test, third part and body of a `for`. A format of a statement is known by
+-- its number among all formats of the program, of which so many stand before those of the statement.
 use Rattle.std.specs.Prelude.{◌≡◌, slice_get, ℕ, ◌+◌, Bool, true, false, List, [], ◌∷◌, ◌++◌, filter, filter_map, length, map, Option, Some, None}
 use Rattle.std.specs.Option.{option_map, option_map_or}
 use Rattle.int_kinds.specs.declared.kinds.Kind.{Kind}
