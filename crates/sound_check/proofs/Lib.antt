@@ -4,3 +4,4 @@ pub mod Rows
 pub mod StatementRows
 pub mod IdleCode
 pub mod Loops
+pub mod Neighbours

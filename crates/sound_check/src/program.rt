@@ -143,8 +143,9 @@ fn is_short_program(typed: &Typed) -> bool
 /// Whether a typed program is sound: all that the compiler asks of it.
 ///
 /// Takes time linear in the program, but for sorting the selectors and the timers of its event
-/// procedures, and for the labels of one `switch` and the parameters of one function, with the square of
-/// whose numbers it grows. Takes memory linear in the tables of the program.
+/// procedures and the labels of each `switch`, and for the parameters of one function, with the square of
+/// whose number it grows. Takes memory linear in the tables of the program and in the labels of one
+/// `switch`.
 pub fn is_sound(alloc: Global, typed: &Typed) -> Result<bool, NoMemory>
     ensures { IfOk result (λ sound. IsTrue sound ↔ IsSound typed.now) }
 {

@@ -2,6 +2,9 @@
 
 ghost use Rattle.std.specs.Prelude.{◌≡◌, ◌↔◌, ◌≢◌, ◌<◌, ◌^◌, All, AllPairs, IfOk, IfSome, IsSomeAnd, IsTrue, flat_map, length, slice_get};
 ghost use Rattle.std.specs.List.{AllByRecursion};
+ghost use Rattle.std.specs.List.Sorted.{IsSorted};
+ghost use Rattle.std.specs.Option.{option_cmp};
+ghost use Rattle.std.specs.Ordering.{int_cmp};
 ghost use Rattle.int_kinds.specs.Kind.{IsNumber};
 ghost use Rattle.write_format.specs.Format.{numbers_taken};
 ghost use Rattle.typed_tree.specs.SoundExpression.{IsSoundExpr};
@@ -105,12 +108,21 @@ fn are_in_range(labels: &[Option<i128>]) -> bool
     labels.iter().all(is_in_range)
 }
 
-/// Whether no two labels are the same. Takes time that grows with the square of their number.
-fn labels_differ(labels: &[Option<i128>]) -> bool
+/// Whether no two labels are the same. Takes the time of a sort.
+fn labels_differ(mut labels: Vec<Option<i128>>) -> bool
+    ensures { IsTrue result ↔ AllPairs (λ a b. a ≢ b) labels.items }
+{
+    labels.sort_unstable();
+    neighbours_differ(&labels)
+}
+
+/// Whether each label differs from the one before it, where the labels stand in their order.
+fn neighbours_differ(labels: &[Option<i128>]) -> bool
+    requires { IsSorted (option_cmp int_cmp) labels.now }
     ensures { IsTrue result ↔ AllPairs (λ a b. a ≢ b) labels.now }
 {
-    for (i, label) in labels.iter().enumerate() {
-        if labels[..i].contains(label) {
+    for i in 1..labels.len() {
+        if labels[i - 1] == labels[i] {
             return false;
         }
     }
@@ -122,7 +134,8 @@ fn keeps_labels(alloc: Global, groups: &[TGroup]) -> Result<bool, NoMemory>
     ensures { IfOk result (λ keeps. IsTrue keeps ↔ KeepsLabels groups.now) }
 {
     let labels = labels_of(alloc, groups)?;
-    Ok(labels_differ(&labels) && are_in_range(&labels))
+    let in_range = are_in_range(&labels);
+    Ok(labels_differ(labels) && in_range)
 }
 
 /// Whether there are fewer than 2^32 groups, each of fewer than 2^32 labels.
@@ -149,7 +162,7 @@ fn keeps_switch(
 }
 
 /// Whether a statement is sound where it stands, with all in it. Takes time linear in the statement, but
-/// for the labels of each `switch`.
+/// for a sort of the labels of each `switch`.
 #[cycle(statement)]
 #[tactic(auto, using(crate::proofs::By::held), unfolding(crate::proofs::By::stmts, crate::proofs::By::row))]
 pub(crate) fn is_sound_stmt(

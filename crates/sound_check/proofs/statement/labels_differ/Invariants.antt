@@ -1,7 +1,0 @@
--- The labels so far differ.
-use Rattle.std.proofs.Common.{◌≢◌, take}
-use Rattle.std.specs.Prelude.{AllPairs}
-use Rattle.sound_check.proofs.statement.labels_differ.Given as goal
-
-abbrev pub invariant-loop-i : goal.invariant-loop-i
-invariant-loop-i l = AllPairs (λ a b. a ≢ b) (take l.i l.labels)
