@@ -1,4 +1,4 @@
--- The worked programs are sound: each is, where the statements of its event procedure are.
+-- A worked program is sound: it is, where the statements of its event procedure are.
 use Rattle.std.proofs.Common.{ℕ, ◌≢◌, ◌<◌, ◌^◌, List, [], ◌∷◌, length, pos, arith, rules, refl}
 use Rattle.std.proofs.lemmas.Int.{ints}
 use Rattle.std.specs.List.{All, AllByRecursion, AllPairs}
@@ -10,7 +10,7 @@ use Rattle.typed_tree.specs.declared.statement.TStmt.{TStmt}
 use Rattle.typed_tree.specs.declared.program.Typed.{Typed}
 use Rattle.typed_tree.specs.declared.expression.TExpr.TheVariants.{Const}
 use Rattle.typed_tree.specs.SoundExpression.{IsSoundExpr}
-use Rattle.code_runs.specs.Example.{byte_sum, endless_loop}
+use Rattle.code_runs.specs.Example.{endless_loop}
 use Rattle.typed_tree.specs.Sound.{IsSound, IsSoundHandler, in_handler}
 use Rattle.typed_tree.specs.SoundStatement.{IsSoundStmt}
 use Rattle.gen_stmt.specs.Example.{on_start}
@@ -57,24 +57,6 @@ on_start_sound body few statements = record {
   timers = record { exist = All-nil _; differ = AllPairs-nil (λ a b. a ≢ b) };
   keys_differ = AllPairs-nil (λ a b. a ≢ b);
 }
-
--- `b += 1;` is sound
-pub byte_sum_sound : IsSound (on_start byte_sum)
-byte_sum_sound = on_start_sound byte_sum (omega arith) (
-  (
-    record {
-      names_exist = omega arith;
-      constant_in_range = tt;
-      operation = tt;
-      calls_earlier = tt;
-      few_arguments = tt;
-      can_give_back = tt;
-    },
-    tt,
-    number_sound (on_start byte_sum) 1 (omega arith),
-  ),
-  tt,
-)
 
 -- `while (1) ;` is sound
 pub endless_loop_sound : IsSound (on_start endless_loop)
