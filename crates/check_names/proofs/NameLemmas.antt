@@ -1,0 +1,130 @@
+-- What the tables of names answer.
+use Rattle.std.proofs.Common.{◌≡◌, ◌≢◌, ◌+◌, ◌<◌, get_or, length, ◌==◌, ◌&&◌, ◌∙◌, ℕ, zero, suc, Bool, true, false, cond, List, [], ◌∷◌, Option, None, Some, refl, ap, sym, arith, nat_lt}
+use Rattle.std.specs.Prelude.{find, if◌then◌else◌, map, position, slice_get}
+use Rattle.std.specs.List.{position_from}
+use Rattle.std.specs.Bool.{then_some}
+use Rattle.std.specs.Option.{option_and_then, option_or}
+use Rattle.std.specs.Str.{bytes_eq}
+use Rattle.std.proofs.lemmas.Bool.Decides.{nat_tests}
+use Rattle.std.proofs.lemmas.Option.{slice_get-get_or}
+use Rattle.std.proofs.lemmas.Iterator.Adapters.{position_from-zero}
+use Rattle.capl_meaning.specs.Names.{Names, Scope, global, is_global, is_local, means}
+use Rattle.capl_meaning.specs.Variable.{Variable}
+use Rattle.check_names.specs.declared.table.NameTable.{NameTable}
+use Rattle.check_names.specs.Inside.Table.{AreTables, is_named, is_named_before, number_at, stands_before}
+use Rattle.check_names.proofs.PositionLemmas.{at_first, some_first}
+
+-- what no item passes is nowhere
+nowhere-from : {X : Type 0} (p : X → Bool) (n : ℕ) (xs : List X) → ((x : X) → p x ≡ false) → position_from p n xs ≡ None
+nowhere-from p n [] none = refl
+nowhere-from p n (x ∷ xs) none =
+    ap (λ (b : Bool). cond b (Some n) (position_from p (n + 1) xs)) (none x) ∙ nowhere-from p (n + 1) xs none
+
+-- outside of procedures there are no locals
+pub no_local : (procedure : ℕ) (name : List ℕ) (token : ℕ) (vs : List Variable) → procedure ≡ 0
+    → None ≡ position (is_local procedure name token) vs
+no_local procedure name token vs outside =
+    let fails : nat_lt 0 procedure ≡ false = grind (arith, nat_tests, outside) in
+    sym (nowhere-from (is_local procedure name token) 0 vs
+    (λ v. ap (λ (b : Bool). b && (v.owner == procedure && (bytes_eq name v.name && nat_lt v.token token))) fails))
+    ∙ sym (position_from-zero (is_local procedure name token) vs)
+
+-- in a procedure a local is what has the name and is declared before
+locals : (procedure : ℕ) (name : List ℕ) (token : ℕ) (vs : List Variable) → procedure ≢ 0
+    → position (is_local procedure name token) vs ≡ position (is_named_before procedure name token) vs
+locals procedure name token vs inside =
+    let holds : nat_lt 0 procedure ≡ true = grind (arith, nat_tests, inside) in
+    ap (λ (b : Bool). position (λ (v : Variable). b && is_named_before procedure name token v) vs) holds
+
+-- neither of two that are nothing
+neither : (b : Bool) → if◌then◌else◌ {A = Option ℕ} b None None ≡ None
+neither true = refl
+neither false = refl
+
+-- a name that the table does not have is that of no local
+pub local_missing : (tables : List NameTable) (vs : List Variable) (procedure : ℕ) (name : List ℕ) (token : ℕ)
+    → AreTables tables vs → procedure ≢ 0 → number_at tables procedure name ≡ None
+    → None ≡ position (is_local procedure name token) vs
+local_missing tables vs procedure name token are inside missing =
+    let nothing = sym (are.first procedure name) ∙ missing in
+    sym (locals procedure name token vs inside ∙ are.before procedure name token
+    ∙ ap (λ (o : Option ℕ). if stands_before token (find (is_named procedure name) vs) then o else None) nothing
+    ∙ neither (stands_before token (find (is_named procedure name) vs)))
+
+-- a name that the table has is that of its variable, where that stands before
+pub local_found : (tables : List NameTable) (vs : List Variable) (procedure : ℕ) (name : List ℕ) (token number : ℕ) (v : Variable)
+    → AreTables tables vs → procedure ≢ 0 → number_at tables procedure name ≡ Some number → slice_get vs number ≡ Some v
+    → (if nat_lt v.token token then Some number else None) ≡ position (is_local procedure name token) vs
+local_found tables vs procedure name token number v are inside found at =
+    let here = sym (are.first procedure name) ∙ found in
+    let it = sym (at_first (is_named procedure name) number vs here) ∙ at in
+    sym (locals procedure name token vs inside ∙ are.before procedure name token
+    ∙ ap (λ (o : Option ℕ). if stands_before token (find (is_named procedure name) vs) then o else None) here
+    ∙ ap (λ (o : Option Variable). if stands_before token o then Some number else None) it)
+
+-- a number that is given where a test passes
+pub some_if : (b : Bool) (n : ℕ) → then_some b n ≡ (if b then Some n else None)
+some_if true n = refl
+some_if false n = refl
+
+-- an item of a list that each is made from
+pub slice_get-map : {X Y : Type 0} (f : X → Y) (i : ℕ) (xs : List X) (x : X) → slice_get xs i ≡ Some x
+    → slice_get (map f xs) i ≡ Some (f x)
+slice_get-map f i [] x is = cc
+slice_get-map f zero (y ∷ xs) x is = let same : y ≡ x = cc in ap (λ z. Some (f z)) same
+slice_get-map f (suc i) (y ∷ xs) x is = slice_get-map f i xs x is
+
+-- the first of some, by its place
+pub find_position : {X : Type 0} (p : X → Bool) (xs : List X) → option_and_then (slice_get xs) (position p xs) ≡ find p xs
+find_position {X} p xs = by (position p xs) refl (find p xs) refl
+  where
+    by : (o : Option ℕ) → position p xs ≡ o → (f : Option X) → find p xs ≡ f → option_and_then (slice_get xs) o ≡ find p xs
+    by None is None found = sym found
+    by None is (Some x) found = let both = some_first p xs in cc
+    by (Some i) is f found = at_first p i xs is
+
+-- an item that was taken from a list
+pub taken : {X : Type 0} (xs : List X) (i : ℕ) (x : X) → true ≡ nat_lt i (length xs) → x ≡ get_or xs i x
+    → slice_get xs i ≡ Some x
+taken xs i x within is =
+    let inside : i < length xs = grind (arith, nat_tests, within) in
+    slice_get-get_or xs i x inside ∙ ap (λ y. Some y) (sym is)
+
+-- what a name means, by the names and the procedure
+means_by : (s : Scope) (names : Names) (procedure : ℕ) (name : List ℕ) (token : ℕ) → s.names ≡ names → s.owner ≡ procedure
+    → option_or (find (is_local procedure name token) names.variables) (global names name) ≡ means s name token
+means_by s names procedure name token same owner =
+    ap (λ (o : ℕ). option_or (find (is_local o name token) names.variables) (global names name)) (sym owner)
+    ∙ ap (λ (n : Names). option_or (find (is_local s.owner name token) n.variables) (global n name)) (sym same)
+
+-- the first of two, where it is there
+first_of : {X : Type 0} (p : X → Bool) (xs : List X) (i : ℕ) (f other : Option X) → find p xs ≡ f → position p xs ≡ Some i
+    → f ≡ option_or f other
+first_of p xs i None other found is = let both = some_first p xs in cc
+first_of p xs i (Some x) other found is = refl
+
+-- the second of two, where the first is not there
+second_of : {X : Type 0} (p : X → Bool) (xs : List X) (f other : Option X) → find p xs ≡ f → position p xs ≡ None
+    → other ≡ option_or f other
+second_of p xs None other found is = refl
+second_of p xs (Some x) other found is = let both = some_first p xs in cc
+
+-- a name is that of a local
+pub means_local : (s : Scope) (names : Names) (procedure : ℕ) (name : List ℕ) (token number : ℕ)
+    → s.names ≡ names → s.owner ≡ procedure → position (is_local procedure name token) names.variables ≡ Some number
+    → slice_get names.variables number ≡ means s name token
+means_local s names procedure name token number same owner is =
+    let local = is_local procedure name token in
+    at_first local number names.variables is
+    ∙ first_of local names.variables number (find local names.variables) (global names name) refl is
+    ∙ means_by s names procedure name token same owner
+
+-- a name is that of no local
+pub means_global : (s : Scope) (names : Names) (procedure : ℕ) (name : List ℕ) (token : ℕ)
+    → s.names ≡ names → s.owner ≡ procedure → position (is_local procedure name token) names.variables ≡ None
+    → option_and_then (slice_get names.variables) (position (is_global name) names.variables) ≡ means s name token
+means_global s names procedure name token same owner is =
+    let local = is_local procedure name token in
+    find_position (is_global name) names.variables
+    ∙ second_of local names.variables (find local names.variables) (global names name) refl is
+    ∙ means_by s names procedure name token same owner

@@ -1,0 +1,74 @@
+-- The first of a list that grows.
+use Rattle.std.proofs.Common.{◌≡◌, ◌+◌, ℕ, zero, suc, Bool, true, false, cond, List, [], ◌∷◌, ◌++◌, ◌∙◌, length, Option, None, Some, refl, ap, sym, arith}
+use Rattle.std.specs.Prelude.{find, if◌then◌else◌, is_some, position, slice_get}
+use Rattle.std.specs.List.{position_from}
+use Rattle.std.specs.Option.{option_or}
+use Rattle.std.proofs.lemmas.Iterator.Adapters.{position_from-zero}
+
+-- one more item, behind the others
+pub find-push : {X : Type 0} (p : X → Bool) (xs : List X) (x : X) →
+    find p (xs ++ x ∷ []) ≡ option_or (find p xs) (if p x then Some x else None)
+find-push p [] x = refl
+find-push p (y ∷ xs) x = by (p y) (find-push p xs x)
+  where
+    by : (b : Bool) → find p (xs ++ x ∷ []) ≡ option_or (find p xs) (if p x then Some x else None)
+        → cond b (Some y) (find p (xs ++ x ∷ [])) ≡ option_or (cond b (Some y) (find p xs)) (if p x then Some x else None)
+    by true rest = refl
+    by false rest = rest
+
+-- the same, of places from a number on
+from-push : {X : Type 0} (p : X → Bool) (n : ℕ) (xs : List X) (x : X) →
+    position_from p n (xs ++ x ∷ []) ≡ option_or (position_from p n xs) (if p x then Some (n + length xs) else None)
+from-push p n [] x = ap (λ (m : ℕ). if p x then Some m else None) (omega arith)
+from-push {X} p n (y ∷ xs) x = by (p y) (from-push p (n + 1) xs x)
+  where
+    by : (b : Bool) → position_from p (n + 1) (xs ++ x ∷ [])
+        ≡ option_or (position_from p (n + 1) xs) (if p x then Some (n + 1 + length xs) else None)
+        → cond b (Some n) (position_from p (n + 1) (xs ++ x ∷ []))
+        ≡ option_or (cond b (Some n) (position_from p (n + 1) xs)) (if p x then Some (n + suc (length xs)) else None)
+    by true rest = refl
+    by false rest =
+        let same : n + 1 + length xs ≡ n + suc (length xs) = omega arith in
+        rest ∙ ap (λ (m : ℕ). option_or (position_from p (n + 1) xs) (if p x then Some m else None)) same
+
+-- the same, of the first place
+pub position-push : {X : Type 0} (p : X → Bool) (xs : List X) (x : X) →
+    position p (xs ++ x ∷ []) ≡ option_or (position p xs) (if p x then Some (length xs) else None)
+position-push p xs x =
+    let same : zero + length xs ≡ length xs = omega arith in
+    position_from-zero p (xs ++ x ∷ []) ∙ from-push p 0 xs x
+    ∙ ap (λ (o : Option ℕ). option_or o (if p x then Some (zero + length xs) else None)) (sym (position_from-zero p xs))
+    ∙ ap (λ (m : ℕ). option_or (position p xs) (if p x then Some m else None)) same
+
+-- there is a first one where there is a first place
+some-from : {X : Type 0} (p : X → Bool) (n : ℕ) (xs : List X) → is_some (find p xs) ≡ is_some (position_from p n xs)
+some-from p n [] = refl
+some-from p n (x ∷ xs) = by (p x) (some-from p (n + 1) xs)
+  where
+    by : (b : Bool) → is_some (find p xs) ≡ is_some (position_from p (n + 1) xs)
+        → is_some (cond b (Some x) (find p xs)) ≡ is_some (cond b (Some n) (position_from p (n + 1) xs))
+    by true rest = refl
+    by false rest = rest
+
+-- the same, of the first place
+pub some_first : {X : Type 0} (p : X → Bool) (xs : List X) → is_some (find p xs) ≡ is_some (position p xs)
+some_first p xs = some-from p 0 xs ∙ ap is_some (sym (position_from-zero p xs))
+
+-- what stands at the first place from a number on
+at-from : {X : Type 0} (p : X → Bool) (n i : ℕ) (xs : List X) → position_from p n xs ≡ Some i →
+    (k : ℕ) × (i ≡ n + k) × (slice_get xs k ≡ find p xs)
+at-from p n i [] is = cc
+at-from {X} p n i (x ∷ xs) is = by (p x) is (at-from p (n + 1) i xs)
+  where
+    by : (b : Bool) → cond b (Some n) (position_from p (n + 1) xs) ≡ Some i
+        → (position_from p (n + 1) xs ≡ Some i → (k : ℕ) × (i ≡ (n + 1) + k) × (slice_get xs k ≡ find p xs))
+        → (k : ℕ) × (i ≡ n + k) × (slice_get (x ∷ xs) k ≡ cond b (Some x) (find p xs))
+    by true here rest = let same : n ≡ i = cc in (0, omega (arith, same), refl)
+    by false here rest = let r = rest here in (suc r.0, omega (arith, r.1), r.2)
+
+-- what stands at the first place
+pub at_first : {X : Type 0} (p : X → Bool) (i : ℕ) (xs : List X) → position p xs ≡ Some i → slice_get xs i ≡ find p xs
+at_first p i xs is =
+    let r = at-from p 0 i xs (sym (position_from-zero p xs) ∙ is) in
+    let same : i ≡ r.0 = omega (arith, r.1) in
+    ap (slice_get xs) same ∙ r.2

@@ -1,0 +1,41 @@
+-- What tables of names have.
+use Rattle.std.specs.Prelude.{◌≡◌, ℕ, ◌==◌, Bool, false, ◌&&◌, nat_lt, if◌then◌else◌, List, find, position, slice_get, Option, None}
+use Rattle.std.specs.Option.{option_and_then, option_map_or}
+use Rattle.std.specs.Str.{bytes_eq}
+use Rattle.std.specs.Map.{lookup}
+use Rattle.capl_meaning.specs.Names.{Function}
+use Rattle.capl_meaning.specs.Variable.{Variable}
+use Rattle.check_names.specs.declared.table.NameTable.{NameTable}
+
+-- the number that a table has for a name
+abbrev pub numbered : NameTable → List ℕ → Option ℕ
+numbered table name = lookup (λ key. bytes_eq name key.items) table.numbers.entries
+
+-- the number that the table of an owner has for a name
+abbrev pub number_at : List NameTable → ℕ → List ℕ → Option ℕ
+number_at tables owner name = option_and_then (λ table. numbered table name) (slice_get tables owner)
+
+-- a variable is of this owner and has this name
+abbrev pub is_named : ℕ → List ℕ → Variable → Bool
+is_named owner name v = v.owner == owner && bytes_eq name v.name
+
+-- its declared name also stands before a token
+abbrev pub is_named_before : ℕ → List ℕ → ℕ → Variable → Bool
+is_named_before owner name token v =
+    v.owner == owner && (bytes_eq name v.name && nat_lt v.token token)
+
+-- the declared name of a variable that was found stands before a token
+abbrev pub stands_before : ℕ → Option Variable → Bool
+stands_before token found = option_map_or (λ v. nat_lt v.token token) found false
+
+-- the tables have for each name the first variable of their owner, and where any variable of that name stands
+-- before a token the first one does
+pub record AreTables (tables : List NameTable) (vs : List Variable) : Type 0 where
+  pub first : (owner : ℕ) (name : List ℕ) → number_at tables owner name ≡ position (is_named owner name) vs
+  pub before : (owner : ℕ) (name : List ℕ) (token : ℕ) → position (is_named_before owner name token) vs
+      ≡ (if stands_before token (find (is_named owner name) vs)
+      then position (is_named owner name) vs else None)
+
+-- a table has for each name the first function of that name
+abbrev pub IsCalled : NameTable → List Function → Type 0
+IsCalled table fs = (name : List ℕ) → numbered table name ≡ position (λ f. bytes_eq name f.name) fs

@@ -1,0 +1,24 @@
+//! Laws of noted offences. Each call does nothing: its contract is the law.
+
+ghost use Rattle.std.specs.Prelude.{◌≡◌, ◌++◌, [], List, Option, None, Some};
+ghost use Rattle.capl_meaning.specs.declared.offence.Offence.{Offence};
+ghost use Rattle.capl_meaning.specs.Offences.{IsFirst};
+ghost use Rattle.check_names.specs.First.{noted};
+
+/// What is left of offences that are noted one after another is the first of them, and there is none
+/// exactly where none was noted. They may be noted in parts.
+pub fn the_first_is_noted()
+    ensures first { (offences : List Offence) (offence : Offence) →
+        noted None offences ≡ Some offence → IsFirst offence offences }
+    ensures none { (offences : List Offence) → noted None offences ≡ None → offences ≡ [] }
+    ensures parts { (first : Option Offence) (one other : List Offence) →
+        noted first (one ++ other) ≡ noted (noted first one) other }
+{}
+
+#[cfg(test)]
+mod tests {
+    #[test]
+    fn laws_can_be_called() {
+        super::the_first_is_noted();
+    }
+}

@@ -1,0 +1,146 @@
+// What the names of a program mean.
+
+ghost use Rattle.std.specs.Prelude.{◌≡◌, IfOk, position, slice_get};
+ghost use Rattle.std.specs.Option.{option_and_then, option_copied, option_map};
+ghost use Rattle.std.specs.Str.{bytes_eq};
+ghost use Rattle.capl_meaning.specs.Names.{Scope, is_global, is_local, means, names_of};
+ghost use Rattle.capl_meaning.specs.Variable.{message_named};
+ghost use Rattle.check_names.specs.Function.{functions_in};
+ghost use Rattle.check_names.specs.Names.{messages_of};
+ghost use Rattle.check_names.specs.Variable.{variable_in, variables_in};
+
+use crate::function::{DeclaredFunction, called_functions, declared_functions};
+use crate::part::program_parts;
+use crate::scope::{number_at, tables_of};
+use crate::seed::Seed;
+use crate::table::NameTable;
+use crate::variable::{Declared, declared_variables};
+use capl_tree::Program;
+use dbc_reader::{Database, DbcMessage};
+use sim_outside::NoMemory;
+use std::alloc::Global;
+use std::marker::Model;
+
+/// What a program declares, with tables of the names. Contracts see it as the messages of its
+/// database, its variables and its functions, both in program order.
+#[derive(Debug, Drop)]
+pub struct Names<'p> {
+    base: Option<&'p Database>,
+    variables: Vec<Declared<'p>>,
+    functions: Vec<DeclaredFunction<'p>>,
+    tables: Vec<NameTable>,
+    called: NameTable,
+}
+
+impl<'p> Model for Names<'p> {
+    ghost use Rattle.std.specs.Coded.{codes};
+    ghost use Rattle.capl_tree.specs.contracts.expr.Expr as expr;
+    ghost use Rattle.capl_tree.specs.contracts.expr.Field as field;
+    ghost use Rattle.capl_tree.specs.contracts.statement.Stmt as stmt;
+    ghost use Rattle.capl_meaning.specs.Names.{Names};
+    ghost use Rattle.check_names.specs.Function.{functions_in};
+    ghost use Rattle.check_names.specs.Inside.Table.{AreTables, IsCalled};
+    ghost use Rattle.check_names.specs.Names.{messages_of};
+    ghost use Rattle.check_names.specs.Variable.{variables_in};
+
+    ghost Value = { Names };
+
+    ghost coded = { Prim.hlevel (codes, expr.the_row.coded, field.the_row.coded, stmt.the_row.coded) };
+
+    ghost view = { λ names. record {
+      base = messages_of names.base;
+      variables = variables_in (messages_of names.base) names.variables.items;
+      functions = functions_in names.functions.items;
+    } };
+
+    ghost invariant = { λ names.
+        AreTables names.tables.items (variables_in (messages_of names.base) names.variables.items)
+        × IsCalled names.called (functions_in names.functions.items) };
+}
+
+impl<'p> Names<'p> {
+    /// What a program declares. Takes time and memory linear in the program, but for names of one hash.
+    /// A program in which a variable's name stands before that of an earlier variable of its procedure
+    /// is refused as if there were no memory for it: no source has such a tree.
+    pub fn build(
+        alloc: Global,
+        program: &'p Program,
+        base: Option<&'p Database>,
+    ) -> Result<Names<'p>, NoMemory>
+        ensures { IfOk result (λ names. names ≡ names_of (messages_of base.entry) program.now) }
+    {
+        let parts = program_parts(alloc, program)?;
+        let variables = declared_variables(alloc, parts.as_slice())?;
+        let functions = declared_functions(alloc, parts.as_slice())?;
+        let seed = Seed::of(variables.as_slice(), functions.as_slice());
+        let tables = tables_of(alloc, seed, variables.as_slice())?;
+        let called = called_functions(alloc, seed, functions.as_slice())?;
+        Ok(Names {
+            base,
+            variables,
+            functions,
+            tables,
+            called,
+        })
+    }
+
+    /// The number of the first parameter or local of this name in the procedure of this number whose
+    /// declared name stands before the token, or None where there is none.
+    pub fn local(&self, procedure: u32, name: &[u8], token: u32) -> Option<u32>
+        ensures { result ≡ position (is_local procedure name.now token) self.now.variables }
+    {
+        if procedure == 0 {
+            return None;
+        }
+        let number = number_at(self.tables.as_slice(), procedure, name)?;
+        let variable = self.variables.get(number as usize)?;
+        (variable.token() < token).then_some(number)
+    }
+
+    /// The number of the first global of this name, or None where there is none.
+    pub fn global(&self, name: &[u8]) -> Option<u32>
+        ensures { result ≡ position (is_global name.now) self.now.variables }
+    {
+        number_at(self.tables.as_slice(), 0, name)
+    }
+
+    /// The number of the variable that a name means at a token of a procedure or, where the number of
+    /// the procedure is 0, outside of procedures; None where it means none.
+    pub fn means(&self, procedure: u32, name: &[u8], token: u32) -> Option<u32>
+        ensures { (s : Scope) → s.names ≡ self.now → s.owner ≡ procedure →
+            option_and_then (slice_get self.now.variables) result ≡ means s name.now token }
+    {
+        match self.local(procedure, name, token) {
+            Some(number) => Some(number),
+            None => self.global(name),
+        }
+    }
+
+    /// All variables, in program order of their declarations.
+    pub fn variables(&self) -> &[Declared<'p>]
+        ensures { variables_in self.now.base result.now ≡ self.now.variables }
+    {
+        self.variables.as_slice()
+    }
+
+    /// All functions, in program order.
+    pub fn functions(&self) -> &[DeclaredFunction<'p>]
+        ensures { functions_in result.now ≡ self.now.functions }
+    {
+        self.functions.as_slice()
+    }
+
+    /// The number among the functions of the first one of this name, or None where there is none.
+    pub fn function(&self, name: &[u8]) -> Option<u32>
+        ensures { result ≡ position (λ f. bytes_eq name.now f.name) self.now.functions }
+    {
+        self.called.number(name)
+    }
+
+    /// The message of this name in the database, or None where there is none.
+    pub fn message(&self, name: &[u8]) -> Option<&'p DbcMessage>
+        ensures { option_copied result ≡ message_named self.now.base name.now }
+    {
+        self.base?.message_by_name(name)
+    }
+}

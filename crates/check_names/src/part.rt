@@ -1,0 +1,91 @@
+// The parts of a program.
+
+ghost use Rattle.std.specs.Prelude.{◌≡◌, IfOk, OnOk};
+ghost use Rattle.capl_meaning.specs.Variable.{parts_of};
+ghost use Rattle.check_names.specs.Part.{AreItemsListed, IsItemListed, parts_in};
+
+use capl_tree::{Decl, Proc, Program, TopItem};
+use sim_outside::NoMemory;
+use std::alloc::Global;
+
+/// A part of a program that declares.
+#[derive(Clone, Copy, Debug)]
+pub enum ProgramPart<'p> {
+    /// Variables for all procedures.
+    Globals {
+        /// The number of the file.
+        file: u32,
+        /// The declarations.
+        declarations: &'p [Decl],
+    },
+    /// An event procedure or a function.
+    Procedure {
+        /// Its number, from 1 on.
+        number: u32,
+        /// The number of the file.
+        file: u32,
+        /// The procedure.
+        procedure: &'p Proc,
+    },
+}
+
+/// Appends the part that an item of a file is, and counts procedures.
+fn list_item<'p>(
+    file: u32,
+    item: &'p TopItem,
+    next: &mut u32,
+    into: &mut Vec<ProgramPart<'p>>,
+) -> Result<(), NoMemory>
+    ensures { OnOk result (IsItemListed file item.now next.old (parts_in into.old.items)
+        next.new (parts_in into.new.items)) }
+{
+    match item {
+        TopItem::Includes(_) => {}
+        TopItem::Variables(declarations) => into.push(ProgramPart::Globals {
+            file,
+            declarations: declarations.as_slice(),
+        })?,
+        TopItem::Proc(procedure) => {
+            into.push(ProgramPart::Procedure {
+                number: *next,
+                file,
+                procedure,
+            })?;
+            *next = next.checked_add(1).ok_or(NoMemory)?;
+        }
+    }
+    Ok(())
+}
+
+/// Appends the parts that the items of a file are, and counts procedures.
+fn list_items<'p>(
+    file: u32,
+    items: &'p [TopItem],
+    next: &mut u32,
+    into: &mut Vec<ProgramPart<'p>>,
+) -> Result<(), NoMemory>
+    ensures { OnOk result (AreItemsListed file items.now next.old (parts_in into.old.items)
+        next.new (parts_in into.new.items)) }
+{
+    for item in items {
+        list_item(file, item, next, into)?;
+    }
+    Ok(())
+}
+
+/// The parts of a program that declare, in program order.
+pub fn program_parts<'p>(
+    alloc: Global,
+    program: &'p Program,
+) -> Result<Vec<ProgramPart<'p>>, NoMemory>
+    ensures { IfOk result (λ parts. parts_in parts.items ≡ parts_of program.now) }
+{
+    let mut parts = Vec::new(alloc);
+    let mut next = 1;
+    let mut file = 0u32;
+    for tree in program.files.as_slice() {
+        list_items(file, tree.items.as_slice(), &mut next, &mut parts)?;
+        file = file.checked_add(1).ok_or(NoMemory)?;
+    }
+    Ok(parts)
+}
