@@ -33,10 +33,6 @@ record IsOf (rank key handler : ℕ) (selectors : List MessageSelector) : Type 0
 abbrev NoneOf : ℕ → ℕ → List MessageSelector → Type 0
 NoneOf rank key selectors = All (λ s. s.rank ≡ rank → Holds key s → ⊥) selectors
 
-both_parts : (a b : Bool) → (a && b) ≡ true → (a ≡ true) × (b ≡ true)
-both_parts true b h = (refl, h)
-both_parts false b h = absurd (cc)
-
 holds_parts : (rank key : ℕ) (s : Selector) → holds rank key s ≡ true → (s.rank ≡ rank) × (s.low ≤ key) × (key ≤ s.high)
 holds_parts rank key s h = split (eqb s.rank rank) (leb s.low key) (leb key s.high) (λ e. eqb-true s.rank rank e) (λ e. leb-true s.low key e) (λ e. leb-true key s.high e) h
   where
