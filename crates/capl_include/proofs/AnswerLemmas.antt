@@ -1,5 +1,5 @@
 -- What an answer tells, from the visit of the first file.
-use Rattle.std.proofs.Common.{◌≡◌, ◌+◌, ◌≤◌, ℕ, List, length, Result, Ok, Err, refl, sym, ap, subst, ◌∙◌, arith}
+use Rattle.std.proofs.Common.{◌≡◌, ℕ, List, Result, Ok, Err, sym, subst, arith}
 use Rattle.std.specs.Prelude.{IsErrAnd}
 use Rattle.capl_include.specs.Expansion.{Contents, Expansion, Outcome, Went, Stopped, nothing_met, file_limit, IsExpansion}
 use Rattle.capl_include.specs.Answer.{IsAnswer, IsOnly}

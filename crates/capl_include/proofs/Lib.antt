@@ -1,6 +1,6 @@
 -- The lemmas of this crate.
 mod VisitLemmas
 mod StepLemmas
-mod UniqueLemmas
+pub mod UniqueLemmas
 mod AnswerLemmas
 mod OnceLemmas

@@ -1,5 +1,5 @@
 -- That no file is appended for the second time.
-use Rattle.std.proofs.Common.{◌≡◌, ◌≢◌, ◌<◌, ◌+◌, ℕ, zero, suc, Bool, true, false, cond, List, [], ◌∷◌, ◌++◌, length, get_or, All, refl, sym, ap, subst, ◌∙◌, arith, append_assoc, append-nil}
+use Rattle.std.proofs.Common.{◌≡◌, ◌≢◌, ◌+◌, ℕ, zero, suc, Bool, true, false, List, [], ◌∷◌, ◌++◌, length, get_or, All, refl, sym, ap, subst, ◌∙◌, arith, append_assoc, append-nil, length-append}
 use Rattle.std.specs.Prelude.{◌||◌}
 use Rattle.std.specs.List.{AllPairs, list_any}
 use Rattle.std.specs.Str.{bytes_eq}
@@ -11,7 +11,8 @@ use Rattle.std.proofs.lemmas.Slice.Eq.{bytes_eq-Decides}
 use Rattle.capl_lexer.specs.declared.token.Token.{Token}
 use Rattle.capl_include.specs.Answer.{HaveDifferentNames}
 use Rattle.capl_include.specs.Expansion.{Expansion, has_met, meeting}
-use Rattle.capl_include.specs.Inside.Once.{GoesOnce}
+use Rattle.capl_include.specs.Inside.Once.{GoesOnce, ReadsEach}
+use Rattle.sim_outside.specs.Fault.{raised, raised_by}
 use Rattle.capl_include.specs.declared.expanded.SourceFile.{SourceFile}
 
 or_true : (a b : Bool) → a ≡ true → (a || b) ≡ true
@@ -110,3 +111,47 @@ once_visit name tokens old at new file not_met named inside is =
 pub once_all : (old new : Expansion) → old.files ≡ [] → GoesOnce old new → HaveDifferentNames new.files
 once_all old new none goes =
     subst HaveDifferentNames (sym (goes.files ∙ ap (λ f. f ++ goes.more) none)) goes.differ
+
+-- a count that was raised some times and then others was raised as many times as both
+pub raised_again : (m n count : ℕ) → raised_by m (raised_by n count) ≡ raised_by (m + n) count
+raised_again zero n count = ap (λ k. raised_by k count) (let same : n ≡ zero + n = omega arith in same)
+raised_again (suc m) n count =
+    ap raised (raised_again m n count) ∙ ap (λ k. raised_by k count) (let same : suc (m + n) ≡ suc m + n = omega arith in same)
+
+-- one read, and nothing was appended
+pub reads_first : (before after : ℕ) (old new : Expansion) → after ≡ raised before → new.files ≡ old.files → ReadsEach 1 before after old new
+reads_first before after old new is same = record {
+  appended = 0;
+  files = ap length same ∙ (omega arith);
+  reads = is;
+}
+
+-- some reads, and then as many as files were appended
+pub reads_then : (more a b c : ℕ) (old between new : Expansion) → ReadsEach more a b old between → ReadsEach 0 b c between new
+    → ReadsEach more a c old new
+reads_then more a b c old between new first second = record {
+  appended = first.appended + second.appended;
+  files = omega (arith, first.files, second.files);
+  reads =
+      second.reads ∙ ap (raised_by (0 + second.appended)) first.reads ∙ raised_again (0 + second.appended) (more + first.appended) a
+      ∙ ap (λ n. raised_by n a) (let sum : 0 + second.appended + (more + first.appended) ≡ more + (first.appended + second.appended) = omega arith in sum);
+}
+
+-- one read more than files were appended, and one file more is appended
+pub reads_visit : (a b : ℕ) (old at new : Expansion) (file : SourceFile) → ReadsEach 1 a b old at → new.files ≡ at.files ++ file ∷ []
+    → ReadsEach 0 a b old new
+reads_visit a b old at new file inside is = record {
+  appended = suc inside.appended;
+  files = omega (arith, inside.files, ap length is, length-append at.files (file ∷ []));
+  reads = inside.reads ∙ ap (λ n. raised_by n a) (let same : 1 + inside.appended ≡ 0 + suc inside.appended = omega arith in same);
+}
+
+-- the same, by other names for what there is afterwards
+pub reads_same : (more a b c : ℕ) (old new other : Expansion) → c ≡ b → other ≡ new → ReadsEach more a b old new → ReadsEach more a c old other
+reads_same more a b c old new other count is goes =
+    subst (λ n. ReadsEach more a n old other) (sym count) (subst (λ e. ReadsEach more a b old e) (sym is) goes)
+
+-- from nothing on, there were as many reads as there are files
+pub reads_all : (a b : ℕ) (old new : Expansion) → old.files ≡ [] → ReadsEach 0 a b old new → b ≡ raised_by (length new.files) a
+reads_all a b old new none goes =
+    goes.reads ∙ ap (λ n. raised_by n a) (let same : 0 + goes.appended ≡ length new.files = omega (arith, goes.files, ap length none) in same)

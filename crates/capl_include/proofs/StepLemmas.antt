@@ -1,12 +1,12 @@
 -- The step of an include.
-use Rattle.std.proofs.Common.{◌≡◌, ℕ, Bool, true, false, cond, List, [], ◌∷◌, refl, sym, ap, subst, ◌∙◌}
+use Rattle.std.proofs.Common.{◌≡◌, ℕ, true, false, List, [], ◌∷◌, refl, sym, ap, subst}
 use Rattle.sim_outside.specs.declared.blame.Blame.{Blame}
 use Rattle.capl_lexer.specs.declared.token.Tok.{Tok}
 use Rattle.capl_lexer.specs.declared.token.Tok.TheVariants as tok
 use Rattle.capl_lexer.specs.declared.token.Token.{Token}
 use Rattle.capl_include.specs.Blame.{source_rule, place_blame}
 use Rattle.capl_include.specs.Name.{included_name, is_included_name}
-use Rattle.capl_include.specs.Expansion.{Include, Step, Refused, Passed, Visited, includes_of, include_then, has_met, step_of}
+use Rattle.capl_include.specs.Expansion.{Include, Refused, Passed, Visited, includes_of, include_then, has_met}
 use Rattle.capl_include.specs.Inside.Visit.{HasStep, StepAgrees}
 use Rattle.capl_include.specs.Inside.Refusal.{IsBlamedOrNoMemory}
 use Rattle.capl_include.specs.declared.refusal.ExpandRefusal.{ExpandRefusal}

@@ -1,16 +1,16 @@
 -- The visit of a file, part by part.
-use Rattle.std.proofs.Common.{◌≡◌, ◌<◌, ◌≤◌, ◌+◌, ℕ, zero, suc, Bool, true, false, List, [], ◌∷◌, ◌++◌, length, get_or, drop, Option, Some, None, Result, Ok, Err, inl, inr, refl, sym, ap, subst, ◌∙◌, arith, rules, nat_lt, nat_le}
+use Rattle.std.proofs.Common.{◌≡◌, ◌<◌, ◌≤◌, ◌+◌, ℕ, zero, suc, Bool, true, false, List, [], ◌∷◌, ◌++◌, length, get_or, drop, Option, Some, None, Result, Ok, Err, inl, inr, refl, sym, ap, subst, ◌∙◌, arith, nat_lt, nat_le}
 use Rattle.std.specs.Prelude.{◌⊎◌, IfSome, IfErr, IsErrAnd}
 use Rattle.std.proofs.lemmas.Bool.Decides.{nat_tests}
 use Rattle.std.proofs.lemmas.List.{drop_more, drop_all}
 use Rattle.sim_outside.specs.declared.blame.Blame.{Blame}
-use Rattle.capl_lexer.specs.Reading.{IsReading, IsBadPlace, line_at, column_at, token_limit}
+use Rattle.capl_lexer.specs.Reading.{line_at, token_limit}
 use Rattle.capl_lexer.specs.declared.token.Tok.{Tok}
 use Rattle.capl_lexer.specs.declared.token.Tok.TheVariants as tok
 use Rattle.capl_lexer.specs.declared.token.Token.{Token}
 use Rattle.capl_include.specs.Blame.{source_rule, too_long_rule, file_blame, place_blame}
-use Rattle.capl_include.specs.Expansion.{Contents, Expansion, Outcome, Include, Step, Went, Stopped, Refused, Passed, Visited, Visits, GoesOn, IsIncluded, AreIncluded, StopsIf, VisitsTokens, VisitsText, VisitsHeld, IsVisit, includes_of, include_then, step_of, meeting, appending, file_limit, byte_limit}
-use Rattle.capl_include.specs.Inside.Visit.{IsRead, IsTooLong, HasBadPlace, HasTooMany, IsReadBlame, ReadAgrees, HasStep, StepAgrees, IsVisitAt, IsVisitRefusal}
+use Rattle.capl_include.specs.Expansion.{Contents, Expansion, Outcome, Step, Went, Stopped, Refused, Passed, Visited, Visits, IsIncluded, AreIncluded, StopsIf, VisitsText, VisitsHeld, IsVisit, includes_of, include_then, meeting, appending, file_limit, byte_limit}
+use Rattle.capl_include.specs.Inside.Visit.{IsRead, IsReadBlame, ReadAgrees, HasStep, StepAgrees, IsVisitAt, IsVisitRefusal}
 use Rattle.capl_include.specs.Inside.Refusal.{IsBlamedOrNoMemory}
 use Rattle.capl_include.specs.declared.refusal.ExpandRefusal.{ExpandRefusal}
 use Rattle.capl_include.specs.declared.refusal.ExpandRefusal.TheVariants.{Blamed, Failed, NoMemory}

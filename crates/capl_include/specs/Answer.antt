@@ -1,5 +1,5 @@
 -- What an answer tells of the expansion.
-use Rattle.std.specs.Prelude.{◌≡◌, ◌≢◌, ℕ, List, Result, Ok, Err, ⊤}
+use Rattle.std.specs.Prelude.{◌≡◌, ◌≢◌, ℕ, List, length, sum_by, Result, Ok, Err, ⊤}
 use Rattle.std.specs.List.{AllPairs}
 use Rattle.capl_include.specs.Expansion.{Contents, Expansion, Went, Stopped, Outcome, IsExpansion}
 use Rattle.capl_include.specs.declared.expanded.Expanded.{Expanded}
@@ -28,3 +28,7 @@ IsOnly contents name (Err NoMemory) = ⊤
 -- no two files have one name
 abbrev pub HaveDifferentNames : List SourceFile → Type 0
 HaveDifferentNames files = AllPairs (λ one other. one.name ≢ other.name) files
+
+-- how many tokens files have
+abbrev pub token_count : List SourceFile → ℕ
+token_count files = sum_by (λ file. length file.tokens) files

@@ -1,5 +1,5 @@
 -- The rules that the files of a program may break, and their places.
-use Rattle.std.specs.Prelude.{ℕ, List, Option, Some, None}
+use Rattle.std.specs.Prelude.{ℕ, List, Some, None}
 use Rattle.sim_outside.specs.declared.blame.Blame.{Blame}
 use Rattle.sim_outside.specs.declared.blame.Rule.{Rule}
 

@@ -2,10 +2,10 @@
 
 ghost use Rattle.std.specs.Prelude.{◌≡◌, ◌+◌, ◌<◌, ◌≤◌, false, IfOk, IfErr, OnOk, IfSome, IsErrOf, length};
 ghost use Rattle.capl_lexer.specs.Reading.{token_limit};
-ghost use Rattle.sim_outside.specs.Fault.{HasRisen};
+ghost use Rattle.sim_outside.specs.Fault.{HasRisen, raised, raised_by};
 ghost use Rattle.capl_include.specs.Expansion.{Went, has_met};
-ghost use Rattle.capl_include.specs.Answer.{IsAnswer, IsOnly, HaveDifferentNames};
-ghost use Rattle.capl_include.specs.Inside.Once.{GoesOnce};
+ghost use Rattle.capl_include.specs.Answer.{IsAnswer, IsOnly, HaveDifferentNames, token_count};
+ghost use Rattle.capl_include.specs.Inside.Once.{GoesOnce, ReadsEach};
 ghost use Rattle.capl_include.specs.Inside.Visit.{IsVisitAt, IsVisitRefusal, ReadAgrees, StepAgrees};
 
 use crate::blames::{
@@ -41,7 +41,11 @@ pub fn expand<F: Files>(
     // Where the contents are told, the answer is what they come to, and they come to nothing else.
     ensures told { IfSome (F.held files.old) (λ contents. IsAnswer contents name.now result) }
     ensures only { IfSome (F.held files.old) (λ contents. IsOnly contents name.now result) }
+    // Each file is read once: their names differ, and there were as many reads as files.
     ensures once { IfOk result (λ expanded. HaveDifferentNames expanded.files) }
+    ensures reads { IfOk result (λ expanded.
+        F.reads files.new ≡ raised_by (length expanded.files) (F.reads files.old)) }
+    ensures few { IfOk result (λ expanded. token_count expanded.files ≤ token_limit) }
     ensures rose { IsErrOf result ExpandRefusal.Failed → HasRisen (F.faults files.old) (F.faults files.new) }
     ensures faults_stay { F.faults files.old ≤ F.faults files.new }
     ensures contents_stay { F.held files.new ≡ F.held files.old }
@@ -67,6 +71,11 @@ fn visit<F: Files>(
         IfErr result (IsVisitRefusal contents root.now name.now progress.old)) }
     ensures within_limit { OnOk result (progress.new.count ≤ token_limit) }
     ensures once { OnOk result (GoesOnce progress.old progress.new) }
+    ensures reads { OnOk result
+        (ReadsEach 0 (F.reads files.old) (F.reads files.new) progress.old progress.new) }
+    ensures counts { OnOk result
+        (token_count progress.new.files + progress.old.count
+        ≡ token_count progress.old.files + progress.new.count) }
     ensures grows { OnOk result (length progress.old.met < length progress.new.met) }
     ensures rose { IsErrOf result ExpandRefusal.Failed → HasRisen (F.faults files.old) (F.faults files.new) }
     ensures faults_stay { F.faults files.old ≤ F.faults files.new }
@@ -99,6 +108,7 @@ fn read_tokens<F: Files>(
     requires { count ≤ token_limit }
     ensures told { IfSome (F.held files.old) (λ contents. ReadAgrees contents name.now count result) }
     ensures few { IfOk result (λ tokens. count + length tokens.items ≤ token_limit) }
+    ensures reads { F.reads files.new ≡ raised (F.reads files.old) }
     ensures rose { IsErrOf result ExpandRefusal.Failed → HasRisen (F.faults files.old) (F.faults files.new) }
     ensures faults_stay { F.faults files.old ≤ F.faults files.new }
     ensures contents_stay { F.held files.new ≡ F.held files.old }

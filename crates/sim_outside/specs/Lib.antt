@@ -5,5 +5,6 @@ pub mod Folder
 pub mod MemFiles
 pub mod MemSink
 pub mod Reader
+pub mod RealFiles
 pub mod Sink
 pub mod Writer

@@ -1,7 +1,7 @@
 // Files that can be read.
 
 ghost use Rattle.std.specs.Prelude.{◌≡◌, ℕ, ◌≤◌, Option, List, IfOk, IfSome, IsErrOf, vec_len};
-ghost use Rattle.sim_outside.specs.Fault.{HasRisen};
+ghost use Rattle.sim_outside.specs.Fault.{HasRisen, raised};
 ghost use Rattle.sim_outside.specs.Files.{AgreesWith};
 
 use crate::text::Text;
@@ -33,6 +33,9 @@ pub trait Files {
     /// How many reads failed. At its type's end the count stands still.
     ghost faults: { Self → ℕ };
 
+    /// How many reads were asked for, counted from any number on. At its type's end the count stands still.
+    ghost reads: { Self → ℕ };
+
     /// Reads the whole file of this name, if it has at most `limit` bytes. Takes time and memory
     /// linear in the bytes that are read, which are at most one more than the limit.
     fn read(&mut self, alloc: Global, name: &Text, limit: usize) -> Result<Vec<u8>, FileRefusal>
@@ -41,5 +44,6 @@ pub trait Files {
         ensures within_limit { IfOk result (λ bytes. vec_len bytes ≤ limit) }
         ensures failed { IsErrOf result FileRefusal.Failed → HasRisen (faults self.old) (faults self.new) }
         ensures faults_stay { faults self.old ≤ faults self.new }
-        ensures contents_stay { held self.new ≡ held self.old };
+        ensures contents_stay { held self.new ≡ held self.old }
+        ensures asked { reads self.new ≡ raised (reads self.old) };
 }

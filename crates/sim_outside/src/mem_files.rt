@@ -62,6 +62,8 @@ impl Files for MemFiles {
 
     ghost faults = { λ files. files.faults };
 
+    ghost reads = { λ files. files.next_call };
+
     fn read(&mut self, alloc: Global, name: &Text, limit: usize) -> Result<Vec<u8>, FileRefusal>
         ensures told { IfSome (Some (held_in self.old.entries))
             (λ contents. AgreesWith contents name.now limit result) }
@@ -69,6 +71,7 @@ impl Files for MemFiles {
         ensures failed { IsErrOf result FileRefusal.Failed → HasRisen self.old.faults self.new.faults }
         ensures faults_stay { self.old.faults ≤ self.new.faults }
         ensures contents_stay { Some (held_in self.new.entries) ≡ Some (held_in self.old.entries) }
+        ensures asked { self.new.next_call ≡ raised self.old.next_call }
 
         // It fails at the listed calls and nowhere else, and only there its faults rise.
         ensures listed { IsErrOf result FileRefusal.Failed ↔ Contains self.old.failing self.old.next_call }

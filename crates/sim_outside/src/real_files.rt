@@ -15,24 +15,29 @@ use std::{rt, str};
 #[derive(Drop)]
 pub struct RealFiles<'a, R> {
     rt: &'a R,
+    reads: u64,
     faults: u64,
 }
 
-// It is seen as the count of its faults.
+// They are seen as the counts of their reads and faults.
 impl<'a, R> Model for RealFiles<'a, R> {
-    ghost use Rattle.std.specs.Prelude.{ℕ};
+    ghost use Rattle.sim_outside.specs.RealFiles.{FileCounts};
 
-    ghost Value = { ℕ };
+    ghost Value = { FileCounts };
 
-    ghost view = { λ files. files.faults };
+    ghost view = { λ files. record { reads = files.reads; faults = files.faults } };
 }
 
 impl<'a, R: rt::Files> RealFiles<'a, R> {
-    /// The files that this runtime reaches. No fault is counted yet.
+    /// The files that this runtime reaches. No read and no fault is counted yet.
     pub fn new(rt: &'a R) -> RealFiles<'a, R>
-        ensures { result ≡ 0 }
+        ensures { result ≡ record { reads = 0; faults = 0 } }
     {
-        RealFiles { rt, faults: 0 }
+        RealFiles {
+            rt,
+            reads: 0,
+            faults: 0,
+        }
     }
 }
 
@@ -41,11 +46,14 @@ impl<'a, R: rt::Files> Files for RealFiles<'a, R> {
 
     ghost held = { λ _. None };
 
-    ghost faults = { λ files. files };
+    ghost faults = { λ files. files.faults };
+
+    ghost reads = { λ files. files.reads };
 
     /// Only the system's "not found" is Missing. A folder, a refused permission, a name that is not
     /// UTF-8 and every other error is a fault.
     fn read(&mut self, alloc: Global, name: &Text, limit: usize) -> Result<Vec<u8>, FileRefusal> {
+        self.reads = self.reads.saturating_add(1);
         let read = read_file(self.rt, alloc, name.bytes(), limit);
         if let Err(FileRefusal::Failed) = &read {
             self.faults = self.faults.saturating_add(1);

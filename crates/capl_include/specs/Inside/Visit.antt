@@ -5,7 +5,7 @@ use Rattle.sim_outside.specs.declared.blame.Blame.{Blame}
 use Rattle.capl_lexer.specs.Reading.{IsReading, IsBadPlace, line_at, column_at, token_limit}
 use Rattle.capl_lexer.specs.declared.token.Token.{Token}
 use Rattle.capl_include.specs.Blame.{source_rule, too_long_rule, file_blame, place_blame}
-use Rattle.capl_include.specs.Expansion.{Contents, Expansion, Outcome, Include, Step, Went, Stopped, Refused, Passed, Visited, IsVisit, includes_of, step_of, file_limit, byte_limit}
+use Rattle.capl_include.specs.Expansion.{Contents, Expansion, Outcome, Include, Step, Stopped, Refused, Passed, Visited, IsVisit, includes_of, step_of, file_limit, byte_limit}
 use Rattle.capl_include.specs.declared.refusal.ExpandRefusal.{ExpandRefusal}
 use Rattle.capl_include.specs.declared.refusal.ExpandRefusal.TheVariants.{Blamed, Failed, NoMemory}
 

@@ -2,14 +2,16 @@
 use Rattle.std.proofs.Common.{◌≡◌, ◌<◌, ◌≤◌, ◌+◌, ◌++◌, ◌∷◌, [], ℕ, List, Option, Bool, length, true, false, refl, sym, subst, ◌∙◌, ap, arith, Ok, Err, nat_le, length-append}
 use Rattle.std.specs.Prelude.{IfSome, IfErr}
 use Rattle.std.proofs.lemmas.Bool.Decides.{nat_tests}
+use Rattle.std.proofs.lemmas.List.Sums.{sum_by_push}
 use Rattle.capl_lexer.specs.Reading.{token_limit}
 use Rattle.capl_lexer.specs.declared.token.Token.{Token}
-use Rattle.capl_include.specs.Expansion.{Contents, Expansion, Outcome, Went, appending, file_limit, has_met, meeting}
+use Rattle.capl_include.specs.Answer.{token_count}
+use Rattle.capl_include.specs.Expansion.{Contents, Expansion, Went, appending, file_limit, meeting}
 use Rattle.capl_include.specs.Inside.Once.{GoesOnce}
 use Rattle.capl_include.specs.Inside.Visit.{IsRead, ReadAgrees, StepAgrees, IsVisitAt, IsVisitRefusal}
 use Rattle.capl_include.specs.declared.expanded.SourceFile.{SourceFile}
 use Rattle.capl_include.proofs.VisitLemmas.{GoesFrom, goes_first, goes_past, goes_through, whole_ends, full_refusal, read_refusal, step_refusal, inside_refusal, told_always, told_from, told_from_two, told_from_three, passed_on}
-use Rattle.capl_include.proofs.OnceLemmas.{once_nothing, once_then, once_visit}
+use Rattle.capl_include.proofs.OnceLemmas.{once_nothing, once_then, once_visit, reads_first, reads_same, reads_then, reads_visit}
 use Rattle.capl_include.proofs.expansion.+visit.Goals.{in-Some+in_ok-visit, in_default}
 use Rattle.capl_include.proofs.expansion.+visit.Goals as goal
 
@@ -18,6 +20,27 @@ many_files count full is holds = grind (arith, nat_tests)
 
 few_files : (count : ℕ) (full : Bool) → full ≡ nat_le file_limit count → full ≡ false → count < file_limit
 few_files count full is fails = grind (arith, nat_tests)
+
+counts_first : (name : List ℕ) (list : List Token) (old at : Expansion) → at ≡ meeting name list old
+    → token_count at.files + (old.count + length list) ≡ token_count old.files + at.count
+counts_first name list old at is =
+    subst (λ (p : Expansion). token_count p.files + (old.count + length list) ≡ token_count old.files + p.count) (sym is) refl
+
+counts_then : (n : ℕ) (old at new after : Expansion) → after ≡ new → token_count at.files + (old.count + n) ≡ token_count old.files + at.count
+    → token_count new.files + at.count ≡ token_count at.files + new.count
+    → token_count after.files + (old.count + n) ≡ token_count old.files + after.count
+counts_then n old at new after is before done =
+    subst (λ (p : Expansion). token_count p.files + (old.count + n) ≡ token_count old.files + p.count) (sym is) (omega arith)
+
+counts_last : (list : List Token) (old at new : Expansion) (file : SourceFile) → file.tokens ≡ list
+    → new ≡ record { met = at.met; count = at.count; files = at.files ++ file ∷ [] }
+    → token_count at.files + (old.count + length list) ≡ token_count old.files + at.count
+    → token_count new.files + old.count ≡ token_count old.files + new.count
+counts_last list old at new file has is before =
+    let more : token_count (at.files ++ file ∷ []) ≡ token_count at.files + length file.tokens = sum_by_push (λ (f : SourceFile). length f.tokens) at.files file in
+    let sized : length file.tokens ≡ length list = ap length has in
+    let after : token_count (at.files ++ file ∷ []) + old.count ≡ token_count old.files + at.count = omega arith in
+    subst (λ (p : Expansion). token_count p.files + old.count ≡ token_count old.files + p.count) (sym is) after
 
 read_here : (contents : Contents) (name : List ℕ) (n count : ℕ) (tokens list : List Token) → IsRead contents name n tokens
     → n ≡ count → list ≡ tokens → IsRead contents name count list
@@ -100,9 +123,12 @@ loop-token-init g t c =
     ∙ ap (λ n. record { met = old.met ++ name ∷ []; count = old.count + n; files = old.files }) sized in
     record {
       once = once_nothing (meeting name list old) c.meet.new.self is;
+      reads = reads_first (g.F.Files.reads c.args.files.now) (g.F.Files.reads c.read_tokens.new.files) old c.meet.new.self done.reads
+          (ap (λ (e : Expansion). e.files) is);
       grows = subst (λ (p : Expansion). length old.met < length p.met) (sym is) (omega (arith, length-append old.met (name ∷ [])));
       few = subst (λ (p : Expansion). p.count ≤ token_limit) (sym is)
           (omega (arith, done.few, c.count.ensures, ap length c.deref-token-items.ensures.value));
+      counts = counts_first name list old c.meet.new.self is;
       faults_stay = done.faults_stay;
       contents_stay = done.contents_stay;
       told = told_always (g.F.Files.held c.args.files.now) (λ contents. GoesFrom contents root name list old 0 c.meet.new.self)
@@ -127,9 +153,13 @@ loop-token-preserved g t c =
           let step = subst (λ (n : Option (List ℕ)). StepAgrees name c.token-item.result at.met (Ok n)) w.in-Some.is c.in_ok-next.ensures.told in
           let went = subst (λ (h : Option Contents). IfSome h (λ contents. IsVisitAt contents root next at (Went new))) before.contents_stay done.went in
           record {
+            reads = reads_same 1 (g.F.Files.reads c.args.files.now) (g.F.Files.reads w.visit.new.files) _ old new _ (ap g.F.Files.reads w.files-is) w.progress-is
+                (reads_then 1 (g.F.Files.reads c.args.files.now) (g.F.Files.reads c.loop-token.files) (g.F.Files.reads w.visit.new.files) old at new
+                before.reads done.reads);
             once = subst (GoesOnce (meeting name list old)) (sym w.progress-is) (once_then (meeting name list old) at new before.once done.once);
             grows = subst (λ (p : Expansion). length old.met < length p.met) (sym w.progress-is) (omega (arith, before.grows, done.grows));
             few = subst (λ (p : Expansion). p.count ≤ token_limit) (sym w.progress-is) done.within_limit;
+            counts = counts_then (length list) old at new _ w.progress-is before.counts done.counts;
             faults_stay = subst (λ f. g.F.Files.faults c.args.files.now ≤ g.F.Files.faults f) (sym w.files-is) (omega (arith, before.faults_stay, done.faults_stay));
             contents_stay = subst (λ f. g.F.Files.held f ≡ held) (sym w.files-is) (done.contents_stay ∙ before.contents_stay);
             told = subst (λ (p : Expansion). IfSome held (λ contents. GoesFrom contents root name list old (place + 1) p)) (sym w.progress-is)
@@ -142,9 +172,12 @@ loop-token-preserved g t c =
       | in_default w ↦
           let step = subst (λ (n : Option (List ℕ)). StepAgrees name c.token-item.result at.met (Ok n)) w.in_default.is c.in_ok-next.ensures.told in
           record {
+            reads = reads_same 1 (g.F.Files.reads c.args.files.now) (g.F.Files.reads c.loop-token.files) _ old at _ (ap g.F.Files.reads w.files-is) w.progress-is
+                before.reads;
             once = subst (GoesOnce (meeting name list old)) (sym w.progress-is) before.once;
             grows = subst (λ (p : Expansion). length old.met < length p.met) (sym w.progress-is) before.grows;
             few = subst (λ (p : Expansion). p.count ≤ token_limit) (sym w.progress-is) before.few;
+            counts = subst (λ (p : Expansion). token_count p.files + (old.count + length list) ≡ token_count old.files + p.count) (sym w.progress-is) before.counts;
             faults_stay = subst (λ f. g.F.Files.faults c.args.files.now ≤ g.F.Files.faults f) (sym w.files-is) before.faults_stay;
             contents_stay = subst (λ f. g.F.Files.held f ≡ held) (sym w.files-is) before.contents_stay;
             told = subst (λ (p : Expansion). IfSome held (λ contents. GoesFrom contents root name list old (place + 1) p)) (sym w.progress-is)
@@ -188,3 +221,17 @@ returns-clause-once g t c =
     let file : SourceFile = record { name = c.in_ok-make.field-0; tokens = c.from_list.result } in
     once_visit name list old at c.append.new.self file c.requires.not_met (c.in_ok-make.ensures ∙ c.bytes.ensures)
     c.loop-token.invariant.once c.in_ok-append.ensures.appended
+
+pub returns-clause-reads : goal.returns-clause-reads
+returns-clause-reads g t c =
+    let old = c.args.progress.now in
+    let at = c.loop-token.progress in
+    let file : SourceFile = record { name = c.in_ok-make.field-0; tokens = c.from_list.result } in
+    reads_visit (g.F.Files.reads c.args.files.now) (g.F.Files.reads c.loop-token.files) old at c.append.new.self file
+    c.loop-token.invariant.reads (ap (λ (e : Expansion). e.files) c.in_ok-append.ensures.appended)
+
+pub returns-clause-counts : goal.returns-clause-counts
+returns-clause-counts g t c =
+    let file : SourceFile = record { name = c.in_ok-make.field-0; tokens = c.from_list.result } in
+    counts_last c.deref-token-items.result.now c.args.progress.now c.loop-token.progress c.append.new.self file
+    (c.from_list.ensures ∙ sym c.deref-token-items.ensures.value) c.in_ok-append.ensures.appended c.loop-token.invariant.counts

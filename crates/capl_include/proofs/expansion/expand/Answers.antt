@@ -1,11 +1,12 @@
 -- The visit of the first file is the answer.
-use Rattle.std.proofs.Common.{◌≡◌, ℕ, List, Ok, Err, sym, ap, subst}
-use Rattle.capl_include.specs.Expansion.{Contents, Expansion, Went}
+use Rattle.std.proofs.Common.{◌∙◌, Ok, sym, ap, subst, length}
+use Rattle.sim_outside.specs.Fault.{raised_by}
+use Rattle.capl_include.specs.Expansion.{Expansion, Went}
 use Rattle.capl_include.specs.Answer.{IsAnswer, IsOnly, HaveDifferentNames}
 use Rattle.capl_include.specs.Inside.Visit.{IsVisitAt, IsVisitRefusal}
 use Rattle.capl_include.proofs.VisitLemmas.{told_from}
 use Rattle.capl_include.proofs.AnswerLemmas.{refused_answer, refused_only, went_answer, went_only}
-use Rattle.capl_include.proofs.OnceLemmas.{once_all}
+use Rattle.capl_include.proofs.OnceLemmas.{once_all, reads_all}
 use Rattle.capl_include.proofs.expansion.expand.Goals as goal
 
 pub returns-in_err-visit-clause-told : goal.returns-in_err-visit-clause-told
@@ -45,3 +46,10 @@ returns-clause-once g c =
     let none = ap (λ (e : Expansion). e.files) c.new-progress.ensures in
     subst HaveDifferentNames (sym c.into_expanded.ensures)
     (once_all c.new-progress.result c.visit.new.progress none c.in_ok-visit.ensures.once)
+
+pub returns-clause-reads : goal.returns-clause-reads
+returns-clause-reads g c =
+    let none = ap (λ (e : Expansion). e.files) c.new-progress.ensures in
+    let before = g.F.Files.reads c.args.files.now in
+    reads_all before (g.F.Files.reads c.visit.new.files) c.new-progress.result c.visit.new.progress none c.in_ok-visit.ensures.reads
+    ∙ ap (λ files. raised_by (length files) before) (sym c.into_expanded.ensures)

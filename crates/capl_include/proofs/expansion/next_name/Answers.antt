@@ -1,7 +1,5 @@
 -- The step of the include that the token is.
-use Rattle.std.proofs.Common.{◌≡◌, ℕ, List, Bool, true, false, sym, ap, ◌∙◌, subst, Err}
-use Rattle.std.specs.Prelude.{codes}
-use Rattle.capl_lexer.specs.declared.token.Tok.TheVariants as tok
+use Rattle.std.proofs.Common.{◌≡◌, true, false, sym, ap, ◌∙◌}
 use Rattle.capl_include.specs.Name.{included_name, is_included_name}
 use Rattle.capl_include.specs.Expansion.{has_met}
 use Rattle.capl_include.proofs.StepLemmas.{step_refused, step_visited, refused_step}
