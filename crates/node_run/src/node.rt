@@ -227,6 +227,7 @@ impl Node {
         ensures refused { OnErr result (IsTaskRefused R.meaning number
             self.old into.old into.new meter.old meter.new) }
         ensures fault { IsErrOf result TaskFault.Record → RecordFaultsRise R.meaning into.old into.new }
+        ensures faults_stay { R.meaning.faults into.old ≤ R.meaning.faults into.new }
         ensures code_stays { self.new.doing.node.memory.code ≡ self.old.doing.node.memory.code }
         ensures row_stays { self.new.first_row ≡ self.old.first_row }
         ensures as_many_rows { length meter.new ≡ length meter.old }

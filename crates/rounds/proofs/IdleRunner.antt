@@ -11,5 +11,6 @@ idle = record { events = λ m. []; ends = λ m procedure occurrence now active e
 pub idle_follows : RunsFollow (λ (m n : ℕ). n ≡ m) idle idle
 idle_follows = record {
   events = λ m n same. refl;
-  ends = λ m n same procedure occurrence now active end none. absurd none;
+  ends = λ m n same procedure occurrence now active end among none. absurd none;
+  stays = λ m n same procedure occurrence now active end none. absurd none;
 }

@@ -26,7 +26,7 @@ pub trait RunnerPair {
     /// Which memories stand for each other.
     ghost related: { First → Second → Type 0 };
 
-    /// Where a run of the first ends, one of the second ends alike.
+    /// Where a run of the first for what its procedure reacts to ends, one of the second ends alike.
     ghost follows: { RunsFollow related first second };
 }
 

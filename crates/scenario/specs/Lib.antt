@@ -3,4 +3,5 @@ pub mod Value
 pub mod Item
 pub mod Rule
 pub mod Scenario
+pub mod Within
 pub mod Inside

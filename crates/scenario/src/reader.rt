@@ -2,6 +2,7 @@
 
 ghost use Rattle.std.specs.Prelude.{◌≡◌, ◌<◌, ◌^◌, length, IfOk, IfErr};
 ghost use Rattle.scenario.specs.Scenario.{IsScenario, IsRefusal};
+ghost use Rattle.scenario.specs.Within.{IsWithin};
 ghost use Rattle.scenario.specs.Inside.Draft.{with_line, rule_of_next};
 ghost use Rattle.scenario.specs.declared.refusal.ScenarioRefusal.TheVariants.{Broken};
 
@@ -23,6 +24,7 @@ const GROUP: u8 = b'S';
 pub fn read(alloc: Global, bytes: &[u8]) -> Result<Scenario, ScenarioRefusal>
     requires { length bytes.now < 2 ^ 32 }
     ensures found { IfOk result (IsScenario bytes.now) }
+    ensures within { IfOk result IsWithin }
     ensures refused { IfErr result (IsRefusal bytes.now) }
 {
     let mut draft = Draft::new(alloc);

@@ -1,7 +1,7 @@
 -- The lemmas of this crate.
 mod ConversionLemmas
 mod FieldLemmas
-mod FrontLemmas
+pub mod FrontLemmas
 mod LineLemmas
 mod PartLemmas
 mod PieceLemmas

@@ -24,7 +24,7 @@ pub use argument::ArgKind;
 pub use code::{Code, Conversion, Digits, Field};
 pub use format::Format;
 pub use line::render;
-pub use piece::Piece;
+pub use piece::{Piece, next_piece};
 pub use refusal::FormatRefusal;
 
 mod argument;

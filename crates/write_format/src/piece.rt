@@ -16,7 +16,7 @@ pub enum Piece {
 }
 
 /// The piece at the front of a text, and what stands behind it, or None where no piece stands there.
-pub(crate) fn next_piece(text: &[u8]) -> Option<(Piece, &[u8])>
+pub fn next_piece(text: &[u8]) -> Option<(Piece, &[u8])>
     ensures { option_map (λ found. (found.0, found.1.now)) result ≡ piece_at text.now }
 {
     let (first, rest) = text.split_first()?;

@@ -4,6 +4,7 @@ use Rattle.scenario.specs.Rule.{HasNoItem}
 use Rattle.std.specs.Str.Lines.{lines}
 use Rattle.scenario.specs.Inside.Draft.{Said, with_line, rule_of_next}
 use Rattle.scenario.proofs.ReadLemmas.{Reached, IsRead, reached_more, reached_broken, reached_end, no_item, no_node, scenario_read, started_line}
+use Rattle.scenario.proofs.WithinLemmas.{scenario_within}
 use Rattle.scenario.proofs.reader.read.Goals as goal
 
 -- the line breaks a rule, and none before it does
@@ -48,3 +49,7 @@ returns-clause-found c =
     reached_end c.args.bytes.now c.loop-line.rest.now c.loop-line.count c.loop-line.draft c.loop-line.invariant.reached (c.in_default.ensures.none.0 refl) in
     scenario_read c.args.bytes.now c.loop-line.count c.loop-line.draft c.in_ok-into_scenario.field-0 read (sym c.has_node.ensures ∙ c.if-not-has_node.false)
     c.in_ok-into_scenario.ensures
+
+-- the scenario's numbers are within their bounds
+pub returns-clause-within : goal.returns-clause-within
+returns-clause-within c = scenario_within c.args.bytes.now c.in_ok-into_scenario.field-0 (returns-clause-found c)

@@ -1,0 +1,26 @@
+-- How large the numbers of a scenario are at most.
+use Rattle.std.specs.Prelude.{◌≤◌, ℕ, All, ⊤}
+use Rattle.std.specs.List.Sorted.{IsNonDecreasingBy}
+use Rattle.scenario.specs.declared.scenario.Epoch.{Epoch}
+use Rattle.scenario.specs.declared.scenario.Epoch.TheVariants.{At, First}
+use Rattle.scenario.specs.declared.scenario.Scenario.{Scenario}
+
+-- a day in microseconds
+abbrev pub day : ℕ
+day = 86400000000
+
+-- an epoch in seconds is a number of 32 bits
+abbrev pub IsEpochWithin : Epoch → Type 0
+IsEpochWithin (At seconds) = seconds ≤ 4294967295
+IsEpochWithin First = ⊤
+
+-- The numbers of a scenario are within their bounds, and its keys stand by moment.
+pub record IsWithin (scenario : Scenario) : Type 0 where
+  pub some_bit : 1 ≤ scenario.bit
+  pub bit : scenario.bit ≤ 100
+  pub until : scenario.until ≤ day
+  pub some_turn : 1 ≤ scenario.turns
+  pub turns : scenario.turns ≤ 10000000
+  pub epoch : IsEpochWithin scenario.epoch
+  pub keys : All (λ key. key.at ≤ day) scenario.keys.items
+  pub by_moment : IsNonDecreasingBy (λ key. key.at) scenario.keys.items
