@@ -28,7 +28,7 @@ itself : (a : Offence) → IsNoLater a a
 itself a = inr (refl, inr (refl, omega arith))
 
 -- of three
-in_turn : (a b c : Offence) → IsNoLater a b → IsNoLater b c → IsNoLater a c
+pub in_turn : (a b c : Offence) → IsNoLater a b → IsNoLater b c → IsNoLater a c
 in_turn a b c one other = grind (arith, one, other)
 
 -- it is the first of some
@@ -40,10 +40,10 @@ behind : (y x : Offence) (xs : List Offence) → Contains xs x → Contains (y �
 behind y x xs is = (suc is.0, omega (arith, is.1), is.2)
 
 -- the first of an offence and others: the one, or one of the others, that comes no later than it and each
-record IsFirstBehind (known : Offence) (offences : List Offence) (first : Offence) : Type 0 where
-  among : (known ≡ first) ⊎ Contains offences first
-  to_known : IsNoLater first known
-  to_others : All (IsNoLater first) offences
+pub record IsFirstBehind (known : Offence) (offences : List Offence) (first : Offence) : Type 0 where
+  pub among : (known ≡ first) ⊎ Contains offences first
+  pub to_known : IsNoLater first known
+  pub to_others : All (IsNoLater first) offences
 
 -- one more offence, which is or is not later than what was known
 one_more : (known x : Offence) (xs : List Offence) (first : Offence) (test : Bool) → is_no_later known x ≡ test →
@@ -66,7 +66,7 @@ one_more known x xs first false is at = record {
 }
 
 -- what is noted behind a known offence
-noted_behind : (known : Offence) (offences : List Offence) (first : Offence) →
+pub noted_behind : (known : Offence) (offences : List Offence) (first : Offence) →
     noted (Some known) offences ≡ Some first → IsFirstBehind known offences first
 noted_behind known [] first is =
     let same : known ≡ first = same_Some known first is in
@@ -89,7 +89,7 @@ noted_first (x ∷ xs) first is =
     }
 
 -- something stays noted
-stays : (known : Offence) (offences : List Offence) → noted (Some known) offences ≡ None → ⊥
+pub stays : (known : Offence) (offences : List Offence) → noted (Some known) offences ≡ None → ⊥
 stays known [] is = none-some known (sym is)
 stays known (x ∷ xs) is = stays (earlier (Some known) x) xs is
 

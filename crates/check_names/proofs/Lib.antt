@@ -1,10 +1,21 @@
 -- The lemmas of this crate.
 mod DeclarationLemmas
-mod FirstLemmas
+pub mod FirstLemmas
+pub mod FirstOfLemmas
 mod FunctionLemmas
 mod GatherLemmas
+mod HeadLemmas
+mod InnerLemmas
+mod InnerTurns
+pub mod IsIn
+pub mod LoopLemmas
 mod NameLemmas
+mod NamedFirst
+pub mod NamedLemmas
 mod PositionLemmas
+mod PurposeLemmas
+mod RangeLemmas
+pub mod RepeatLemmas
 mod ScopeLemmas
 mod TableLemmas
 mod TakeLemmas

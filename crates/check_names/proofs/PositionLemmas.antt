@@ -1,8 +1,9 @@
 -- The first of a list that grows.
-use Rattle.std.proofs.Common.{◌≡◌, ◌+◌, ℕ, zero, suc, Bool, true, false, cond, List, [], ◌∷◌, ◌++◌, ◌∙◌, length, Option, None, Some, refl, ap, sym, arith}
+use Rattle.std.proofs.Common.{◌≡◌, ◌+◌, ℕ, zero, suc, Bool, true, false, cond, List, [], ◌∷◌, ◌++◌, ◌∙◌, length, Option, None, Some, refl, ap, sym, arith, take, nat_lt, ◌||◌}
 use Rattle.std.specs.Prelude.{find, if◌then◌else◌, is_some, position, slice_get}
-use Rattle.std.specs.List.{position_from}
+use Rattle.std.specs.List.{list_any, position_from}
 use Rattle.std.specs.Option.{option_or}
+use Rattle.std.proofs.lemmas.Bool.Decides.{nat_tests}
 use Rattle.std.proofs.lemmas.Iterator.Adapters.{position_from-zero}
 
 -- one more item, behind the others
@@ -72,3 +73,37 @@ at_first p i xs is =
     let r = at-from p 0 i xs (sym (position_from-zero p xs) ∙ is) in
     let same : i ≡ r.0 = omega (arith, r.1) in
     ap (slice_get xs) same ∙ r.2
+
+-- whether the first place from a number on is among the first ones
+early-from : {X : Type 0} (p : X → Bool) (m : ℕ) (xs : List X) (i n : ℕ) → position_from p m xs ≡ Some n
+    → list_any p (take i xs) ≡ nat_lt n (m + i)
+early-from p m [] i n is = absurd (cc)
+early-from p m (x ∷ xs) zero n is = let r = at-from p m n (x ∷ xs) is in grind (arith, nat_tests, r.1)
+early-from {X} p m (x ∷ xs) (suc i) n is = by (p x) is (early-from p (m + 1) xs i n)
+  where
+    by : (b : Bool) → cond b (Some m) (position_from p (m + 1) xs) ≡ Some n
+        → (position_from p (m + 1) xs ≡ Some n → list_any p (take i xs) ≡ nat_lt n (m + 1 + i))
+        → (b || list_any p (take i xs)) ≡ nat_lt n (m + suc i)
+    by true here rest = let same : m ≡ n = cc in grind (arith, nat_tests, same)
+    by false there rest =
+        let same : m + 1 + i ≡ m + suc i = omega arith in rest there ∙ ap (λ (k : ℕ). nat_lt n k) same
+
+-- there is none among the first ones where there is none at all
+none-from : {X : Type 0} (p : X → Bool) (m : ℕ) (xs : List X) (i : ℕ) → position_from p m xs ≡ None → list_any p (take i xs) ≡ false
+none-from p m [] zero is = refl
+none-from p m [] (suc i) is = refl
+none-from p m (x ∷ xs) zero is = refl
+none-from {X} p m (x ∷ xs) (suc i) is = by (p x) is (none-from p (m + 1) xs i)
+  where
+    by : (b : Bool) → cond b (Some m) (position_from p (m + 1) xs) ≡ None
+        → (position_from p (m + 1) xs ≡ None → list_any p (take i xs) ≡ false) → (b || list_any p (take i xs)) ≡ false
+    by true here rest = absurd (cc)
+    by false there rest = rest there
+
+-- the same of the first place
+pub is_early : {X : Type 0} (p : X → Bool) (xs : List X) (i n : ℕ) → position p xs ≡ Some n → list_any p (take i xs) ≡ nat_lt n i
+is_early p xs i n is = early-from p 0 xs i n (sym (position_from-zero p xs) ∙ is) ∙ ap (λ (k : ℕ). nat_lt n k) (omega arith)
+
+-- and where there is none
+pub is_nowhere : {X : Type 0} (p : X → Bool) (xs : List X) (i : ℕ) → position p xs ≡ None → list_any p (take i xs) ≡ false
+is_nowhere p xs i is = none-from p 0 xs i (sym (position_from-zero p xs) ∙ is)

@@ -1,5 +1,5 @@
 -- Look-ups in a table that grows.
-use Rattle.std.proofs.Common.{◌≡◌, Bool, true, false, cond, List, [], ◌∷◌, ◌++◌, Option, None, Some, refl, is_some}
+use Rattle.std.proofs.Common.{◌≡◌, ℕ, Bool, true, false, cond, ◌||◌, List, [], ◌∷◌, ◌++◌, Option, None, Some, refl, is_some}
 use Rattle.std.specs.Prelude.{if◌then◌else◌}
 use Rattle.std.specs.Map.{lookup}
 use Rattle.std.specs.Option.{option_or}
@@ -20,3 +20,10 @@ lookup-push test (e ∷ es) k v = by (test e.0) (lookup-push test es k v)
 pub is_none : {X : Type 0} (o : Option X) → is_some o ≡ false → o ≡ None
 is_none None absent = refl
 is_none (Some x) absent = cc
+
+-- a name that is noted more
+pub name_more : (known : Option ℕ) (same : Bool) → is_some (option_or known (if same then Some 0 else None)) ≡ (same || is_some known)
+name_more None true = refl
+name_more None false = refl
+name_more (Some n) true = refl
+name_more (Some n) false = refl

@@ -1,6 +1,8 @@
 -- The first of offences that are noted one after another.
-use Rattle.std.specs.Prelude.{◌==◌, Bool, ◌&&◌, ◌||◌, if◌then◌else◌, nat_le, nat_lt, List, [], ◌∷◌, Option, Some, None}
+use Rattle.std.specs.Prelude.{◌≡◌, ℕ, ◌==◌, Bool, ◌&&◌, ◌||◌, if◌then◌else◌, nat_le, nat_lt, List, [], ◌∷◌, Option, Some, None}
+use Rattle.sim_outside.specs.declared.blame.Rule.{Rule}
 use Rattle.capl_meaning.specs.declared.offence.Offence.{Offence}
+use Rattle.capl_meaning.specs.Offences.{IsFirst}
 
 -- an offence comes no later than another: by its file, its token and its rule's number
 abbrev pub is_no_later : Offence → Offence → Bool
@@ -17,3 +19,13 @@ earlier (Some known) offence = if is_no_later known offence then known else offe
 abbrev pub noted : Option Offence → List Offence → Option Offence
 noted first [] = first
 noted first (offence ∷ offences) = noted (Some (earlier first offence)) offences
+
+-- a rule that is broken at a token of a file, where it is
+abbrev pub broken_at : Bool → ℕ → ℕ → Rule → List Offence
+broken_at broken file token rule =
+    if broken then record { file = file; token = token; rule = rule } ∷ [] else []
+
+-- what was noted is the first of these, or nothing where there are none
+abbrev pub IsFirstOf : Option Offence → List Offence → Type 0
+IsFirstOf None offences = offences ≡ []
+IsFirstOf (Some offence) offences = IsFirst offence offences

@@ -1,2 +1,5 @@
 -- What proofs inside of this crate speak of.
+pub mod Inner
+pub mod Purpose
+pub mod Ranges
 pub mod Table

@@ -1,12 +1,12 @@
 -- The variables that declarations declare, as they are listed.
-use Rattle.std.specs.Prelude.{List, [], flat_map, map, Option, Some, None}
+use Rattle.std.specs.Prelude.{Bool, true, false, List, [], flat_map, map, Option, Some, None}
 use Rattle.std.specs.Borrow.{Bor}
 use Rattle.dbc_reader.specs.declared.message.DbcMessage.{DbcMessage}
 use Rattle.capl_tree.specs.declared.declaration.Decl.{Decl}
 use Rattle.capl_tree.specs.declared.statement.Arm.{Arm}
 use Rattle.capl_tree.specs.declared.statement.Group.{Group}
 use Rattle.capl_tree.specs.declared.statement.Stmt.{Stmt}
-use Rattle.capl_meaning.specs.Variable.{Variable, declarations_in, form_of, variable_of_parameter}
+use Rattle.capl_meaning.specs.Variable.{Form, Misfit, Variable, declarations_in, form_of, variable_of_parameter}
 use Rattle.check_names.specs.declared.variable.Declared.{Declared}
 use Rattle.check_names.specs.declared.variable.Place.{Place}
 use Rattle.check_names.specs.declared.variable.Source.{Source}
@@ -53,3 +53,8 @@ variable_in base d = variable_by base d.place d.source
 -- the variables that are listed
 abbrev pub variables_in : List DbcMessage → List Declared → List Variable
 variables_in base ds = map (variable_in base) ds
+
+-- a variable is an array of messages or timers, which there is not
+abbrev pub is_misfit : Form → Bool
+is_misfit Misfit = true
+is_misfit _ = false

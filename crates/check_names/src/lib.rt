@@ -11,19 +11,30 @@
 
 pub use first::note;
 pub use function::{DeclaredFunction, declared_functions};
+pub use head::note_type;
 pub use names::Names;
 pub use part::{ProgramPart, program_parts};
+pub use selector::selector_of;
 pub use variable::{Declared, Place, Source, declared_variables};
 
 mod declaration;
 mod first;
 mod function;
+mod global;
+mod head;
+mod inner;
 pub mod laws;
 mod names;
 mod part;
+mod purposes;
+mod ranges;
+mod repeats;
+mod rule;
 mod scope;
 mod seed;
+mod selector;
 mod table;
 #[cfg(test)]
 mod tests;
 mod variable;
+mod word;

@@ -5,16 +5,24 @@ ghost use Rattle.std.specs.Option.{option_and_then, option_copied, option_map};
 ghost use Rattle.std.specs.Str.{bytes_eq};
 ghost use Rattle.capl_meaning.specs.Names.{Scope, is_global, is_local, means, names_of};
 ghost use Rattle.capl_meaning.specs.Variable.{message_named};
+ghost use Rattle.check_names.specs.First.{IsFirstOf};
 ghost use Rattle.check_names.specs.Function.{functions_in};
+ghost use Rattle.check_names.specs.Inside.Table.{is_named};
+ghost use Rattle.check_names.specs.Named.{named_offences};
 ghost use Rattle.check_names.specs.Names.{messages_of};
 ghost use Rattle.check_names.specs.Variable.{variable_in, variables_in};
 
 use crate::function::{DeclaredFunction, called_functions, declared_functions};
+use crate::head::note_parts;
+use crate::inner::note_inner_names;
 use crate::part::program_parts;
+use crate::purposes::note_purposes;
+use crate::repeats::note_outer_names;
 use crate::scope::{number_at, tables_of};
 use crate::seed::Seed;
 use crate::table::NameTable;
 use crate::variable::{Declared, declared_variables};
+use capl_meaning::Offence;
 use capl_tree::Program;
 use dbc_reader::{Database, DbcMessage};
 use sim_outside::NoMemory;
@@ -104,6 +112,14 @@ impl<'p> Names<'p> {
         number_at(self.tables.as_slice(), 0, name)
     }
 
+    /// The number of the first variable of this name in the procedure of this number, or outside of
+    /// procedures where it is 0; None where there is none.
+    pub(crate) fn first_named(&self, procedure: u32, name: &[u8]) -> Option<u32>
+        ensures { result ≡ position (is_named procedure name.now) self.now.variables }
+    {
+        number_at(self.tables.as_slice(), procedure, name)
+    }
+
     /// The number of the variable that a name means at a token of a procedure or, where the number of
     /// the procedure is 0, outside of procedures; None where it means none.
     pub fn means(&self, procedure: u32, name: &[u8], token: u32) -> Option<u32>
@@ -142,5 +158,22 @@ impl<'p> Names<'p> {
         ensures { option_copied result ≡ message_named self.now.base name.now }
     {
         self.base?.message_by_name(name)
+    }
+
+    /// The first of what names break: globals, functions, parameters and locals that are declared twice,
+    /// procedures for the same, the heads of procedures, and the types of declarations. Takes time
+    /// n log n in the program, but for names of one hash.
+    pub fn first(&self, alloc: Global, program: &Program) -> Result<Option<Offence>, NoMemory>
+        requires { self.now ≡ names_of self.now.base program.now }
+        ensures { IfOk result (λ first. IsFirstOf first (named_offences self.now.base program.now)) }
+    {
+        let parts = program_parts(alloc, program)?;
+        let seed = Seed::of(self.variables.as_slice(), self.functions.as_slice());
+        let mut first = None;
+        note_outer_names(alloc, seed, parts.as_slice(), &mut first)?;
+        note_purposes(alloc, self, seed, parts.as_slice(), &mut first)?;
+        note_parts(alloc, self, parts.as_slice(), &mut first)?;
+        note_inner_names(self, &mut first)?;
+        Ok(first)
     }
 }

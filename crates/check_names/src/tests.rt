@@ -2,13 +2,16 @@
 
 use super::*;
 use capl_meaning::Offence;
-use capl_tree::{Decl, DeclType, Declr, FileTree, Head, Param, Proc, Program, Stmt, TopItem};
+use capl_tree::{
+    Decl, DeclType, Declr, Expr, FileTree, Head, Param, Proc, Program, Sel, Stmt, TopItem,
+};
 use dbc_reader::read;
 use int_kinds::Kind;
 use items::Items;
 use sim_outside::{Rule, Text};
 use std::alloc::Global;
 use std::test::Fail;
+use vm_host::Selector;
 
 /// `long NAME;`, by its first token and that of the name.
 fn long(alloc: Global, name: &[u8], first: u32, at: u32) -> Result<Decl, Fail> {
@@ -28,11 +31,11 @@ fn long(alloc: Global, name: &[u8], first: u32, at: u32) -> Result<Decl, Fail> {
     })
 }
 
-/// `variables { long a; } long f(long b) { { long c; } }`
-fn program(alloc: Global) -> Result<Program, Fail> {
+/// `variables { long a; } long f(long b) { { long INNER; } }`
+fn program(alloc: Global, inner: &[u8]) -> Result<Program, Fail> {
     let globals = TopItem::Variables(Items::from_list(vec![in alloc; long(alloc, b"a", 2, 3)?]?));
     let block = Stmt::Block(Items::from_list(vec![in alloc;
-        Stmt::Decl(long(alloc, b"c", 14, 15)?),
+        Stmt::Decl(long(alloc, inner, 14, 15)?),
     ]?));
     let parameter = Param {
         kind: Kind::Long,
@@ -59,7 +62,7 @@ fn program(alloc: Global) -> Result<Program, Fail> {
 
 #[test]
 fn names_mean_what_is_declared_before(rt: HostRuntime) -> Result<(), Fail> {
-    let program = program(rt.alloc())?;
+    let program = program(rt.alloc(), b"c")?;
     let names = Names::build(rt.alloc(), &program, None)?;
     assert_eq!(rt; names.global(b"a"), Some(0));
     assert_eq!(rt; names.global(b"c"), None);
@@ -74,7 +77,7 @@ fn names_mean_what_is_declared_before(rt: HostRuntime) -> Result<(), Fail> {
 
 #[test]
 fn variables_and_functions_are_in_order(rt: HostRuntime) -> Result<(), Fail> {
-    let program = program(rt.alloc())?;
+    let program = program(rt.alloc(), b"c")?;
     let names = Names::build(rt.alloc(), &program, None)?;
     assert_eq!(rt; names.variables().len(), 3);
     let wanted = [(0, 3, b'a'), (1, 10, b'b'), (1, 15, b'c')];
@@ -89,12 +92,73 @@ fn variables_and_functions_are_in_order(rt: HostRuntime) -> Result<(), Fail> {
 
 #[test]
 fn messages_are_those_of_the_database(rt: HostRuntime) -> Result<(), Fail> {
-    let program = program(rt.alloc())?;
+    let program = program(rt.alloc(), b"c")?;
     let base = read(rt.alloc(), b"BO_ 5 M: 8 N\n")?;
     let names = Names::build(rt.alloc(), &program, Some(&base))?;
     let message = names.message(b"M").ok_or("M is there")?;
     assert_eq!(rt; message.id, 5);
     assert!(rt; names.message(b"N").is_none());
+    Ok(())
+}
+
+/// The first of what the names of the program break, where the inner local has this name.
+fn first(alloc: Global, inner: &[u8]) -> Result<Option<Offence>, Fail> {
+    let program = program(alloc, inner)?;
+    let names = Names::build(alloc, &program, None)?;
+    Ok(names.first(alloc, &program)?)
+}
+
+#[test]
+fn a_name_is_declared_once(rt: HostRuntime) -> Result<(), Fail> {
+    let again = Offence {
+        file: 0,
+        token: 15,
+        rule: Rule {
+            group: b'E',
+            number: 10,
+        },
+    };
+    assert_eq!(rt; first(rt.alloc(), b"c")?, None);
+    assert_eq!(rt; first(rt.alloc(), b"a")?, None);
+    assert_eq!(rt; first(rt.alloc(), b"b")?, Some(again));
+    Ok(())
+}
+
+#[test]
+fn selectors_have_keys(rt: HostRuntime) -> Result<(), Fail> {
+    let program = program(rt.alloc(), b"c")?;
+    let names = Names::build(rt.alloc(), &program, None)?;
+    let number = |value| Expr::Num {
+        value: Some(value),
+        ext: true,
+        at: 1,
+    };
+    let range = Sel::Ids {
+        low: number(1),
+        high: Some(number(2)),
+        at: 1,
+    };
+    let keys = Selector {
+        rank: 1,
+        low: 0x8000_0001,
+        high: 0x8000_0002,
+    };
+    assert_eq!(rt; selector_of(&names, &range), Some(keys));
+    Ok(())
+}
+
+#[test]
+fn an_identifier_is_small(rt: HostRuntime) -> Result<(), Fail> {
+    let program = program(rt.alloc(), b"c")?;
+    let names = Names::build(rt.alloc(), &program, None)?;
+    let what = DeclType::ById {
+        value: Some(0x800),
+        ext: false,
+        at: 2,
+    };
+    let mut first = None;
+    note_type(&names, 0, &what, &mut first);
+    assert_eq!(rt; first.map(|offence| offence.rule.number), Some(21));
     Ok(())
 }
 

@@ -2,9 +2,9 @@
 
 ghost use Rattle.std.specs.Prelude.{◌≡◌, ◌++◌, List, IfOk, OnOk, flat_map, map};
 ghost use Rattle.dbc_reader.specs.declared.message.DbcMessage.{DbcMessage};
-ghost use Rattle.capl_meaning.specs.Variable.{Procedure, parameters_of, variable_of_parameter, variables_of_declaration, variables_of_part};
+ghost use Rattle.capl_meaning.specs.Variable.{Procedure, is_timer, parameters_of, variable_of_parameter, variables_of_declaration, variables_of_part};
 ghost use Rattle.check_names.specs.Part.{part_in, parts_in};
-ghost use Rattle.check_names.specs.Variable.{lent, variable_in, variables_in};
+ghost use Rattle.check_names.specs.Variable.{is_misfit, lent, variable_in, variables_in};
 
 use crate::declaration::gather_all;
 use crate::part::ProgramPart;
@@ -62,6 +62,33 @@ impl<'p> Declared<'p> {
         match self.source {
             Source::Item { item, .. } => item.at,
             Source::Parameter(parameter) => parameter.at,
+        }
+    }
+
+    /// Whether it is a timer.
+    pub(crate) fn is_timer(&self) -> bool
+        ensures { (base : List DbcMessage) → result ≡ is_timer (variable_in base self.now).form }
+    {
+        match self.source {
+            Source::Item {
+                what: DeclType::Seconds | DeclType::Millis,
+                item,
+            } => item.size.is_none(),
+            _ => false,
+        }
+    }
+
+    /// Whether it is an array of messages or timers, which there is not.
+    pub(crate) fn is_misfit(&self) -> bool
+        ensures { (base : List DbcMessage) → result ≡ is_misfit (variable_in base self.now).form }
+    {
+        match self.source {
+            Source::Item {
+                what: DeclType::Number { .. },
+                ..
+            }
+            | Source::Parameter(_) => false,
+            Source::Item { item, .. } => item.size.is_some(),
         }
     }
 }

@@ -1,0 +1,72 @@
+-- Heads and types break the same wherever in a file they stand.
+use Rattle.std.proofs.Common.{◌≡◌, ◌++◌, ◌∙◌, ℕ, Option, Some, None, ap, refl}
+use Rattle.std.specs.Prelude.{flat_map}
+use Rattle.capl_tree.specs.declared.declaration.Decl.{Decl}
+use Rattle.capl_tree.specs.declared.declaration.DeclType.{DeclType}
+use Rattle.capl_tree.specs.declared.declaration.DeclType.TheVariants as decl_type
+use Rattle.capl_tree.specs.declared.expr.Expr.{Expr}
+use Rattle.capl_tree.specs.declared.procedure.Head.{Head}
+use Rattle.capl_tree.specs.declared.procedure.Head.TheVariants as head
+use Rattle.capl_tree.specs.declared.procedure.Proc.{Proc}
+use Rattle.capl_tree.specs.declared.procedure.Sel.{Sel}
+use Rattle.capl_tree.specs.declared.procedure.Sel.TheVariants as sel
+use Rattle.capl_meaning.specs.DeclarationRules.{type_rules}
+use Rattle.capl_meaning.specs.Names.{Names, global, inside, outside}
+use Rattle.capl_meaning.specs.ProcedureRules.{head_offences, numbers_rule, selector_offences, timer_form_rule, timer_rule}
+use Rattle.capl_meaning.specs.Variable.{Form, Timer, Misfit, Number, Array, Message, Variable, declarations_in}
+use Rattle.check_names.specs.Named.{procedure_head_and_types, types_offences}
+use Rattle.check_names.proofs.IsIn.{flat_same}
+
+-- a type
+type_same : (names : Names) (number file : ℕ) (h : Head) (what : DeclType) → type_rules (outside names file) what ≡ type_rules (inside names number file h) what
+type_same names number file h (decl_type.Number kind fixed) = refl
+type_same names number file h decl_type.Any = refl
+type_same names number file h (decl_type.ById value extended at) = refl
+type_same names number file h (decl_type.ByName name at) = refl
+type_same names number file h decl_type.Seconds = refl
+type_same names number file h decl_type.Millis = refl
+
+-- numbers of a selector
+numbers_same : (names : Names) (number file : ℕ) (h : Head) (at : ℕ) (low : Expr) (high : Option Expr)
+    → numbers_rule (outside names file) at low high ≡ numbers_rule (inside names number file h) at low high
+numbers_same names number file h at low None = refl
+numbers_same names number file h at low (Some high) = refl
+
+-- a selector
+selector_same : (names : Names) (number file : ℕ) (h : Head) (one : Sel) → selector_offences (outside names file) one ≡ selector_offences (inside names number file h) one
+selector_same names number file h (sel.Any at) = refl
+selector_same names number file h (sel.Name name at) = refl
+selector_same names number file h (sel.Ids low high at) = numbers_same names number file h at low high
+
+-- a timer
+timer_same : (names : Names) (number file : ℕ) (h : Head) (at : ℕ) (v : Option Variable)
+    → timer_rule (outside names file) at v ≡ timer_rule (inside names number file h) at v
+timer_same names number file h at None = refl
+timer_same names number file h at (Some v) = by v.form
+  where
+    by : (form : Form) → timer_form_rule (outside names file) at form ≡ timer_form_rule (inside names number file h) at form
+    by (Number k fixed) = refl
+    by (Array k fixed size) = refl
+    by (Message what) = refl
+    by (Timer unit) = refl
+    by Misfit = refl
+
+-- a head
+head_same : (names : Names) (number file : ℕ) (h one : Head) → head_offences (outside names file) one ≡ head_offences (inside names number file h) one
+head_same names number file h (head.Message selectors) =
+    flat_same (selector_offences (outside names file)) (selector_offences (inside names number file h)) selectors (selector_same names number file h)
+head_same names number file h (head.Timer name at) = timer_same names number file h at (global names name)
+head_same names number file h head.PreStart = refl
+head_same names number file h head.Start = refl
+head_same names number file h head.Stop = refl
+head_same names number file h (head.Key value) = refl
+head_same names number file h (head.Function kind name parameters at) = refl
+
+-- a procedure
+pub procedure_same : (names : Names) (number file : ℕ) (p : Proc)
+    → procedure_head_and_types (outside names file) p ≡ procedure_head_and_types (inside names number file p.head) p
+procedure_same names number file p =
+    ap (λ l. l ++ types_offences (outside names file) (flat_map declarations_in p.body)) (head_same names number file p.head p.head)
+    ∙ ap (λ l. head_offences (inside names number file p.head) p.head ++ l)
+    (flat_same (λ (d : Decl). type_rules (outside names file) d.what) (λ (d : Decl). type_rules (inside names number file p.head) d.what)
+    (flat_map declarations_in p.body) (λ d. type_same names number file p.head d.what))

@@ -1,0 +1,253 @@
+// Procedures that are for what an earlier one is for.
+
+ghost use Rattle.std.specs.Prelude.{◌≡◌, ◌++◌, ◌∷◌, [], All, List, IfOk, OnOk, filter_map, flat_map, map};
+ghost use Rattle.std.specs.List.{list_any};
+ghost use Rattle.capl_meaning.specs.ProcedureRules.{Told, collide, purpose_offences, selector_place, told_by_head, told_by_part, told_by_selector};
+ghost use Rattle.capl_meaning.specs.StatementRules.{repeated};
+ghost use Rattle.check_names.specs.First.{noted};
+ghost use Rattle.check_names.specs.Inside.Purpose.{IsOrdinary, IsOrdinaryTelling, Knows, number_of, number_of_key, purpose_of, purpose_offence, same_purpose, told_at};
+ghost use Rattle.check_names.specs.Part.{part_in, parts_in};
+
+use crate::global::names_timer;
+use crate::names::Names;
+use crate::part::ProgramPart;
+use crate::ranges::Ranges;
+use crate::rule::{SAME_PURPOSE, note_where};
+use crate::seed::Seed;
+use crate::selector::selector_of;
+use crate::table::NameTable;
+use capl_meaning::Offence;
+use capl_tree::{Head, Sel};
+use sim_outside::{NoMemory, Text};
+use std::alloc::Global;
+use vm_host::Selector;
+
+/// What a procedure is for.
+#[derive(Clone, Copy, Debug)]
+enum Purpose<'p> {
+    /// Frames of a selector.
+    Frames(Selector),
+    /// A timer, by its name.
+    Timer(&'p Text),
+    /// A key, or those that have no procedure.
+    Key(Option<u8>),
+}
+
+/// What a procedure is for, and where that is told.
+#[derive(Clone, Copy, Debug)]
+struct Telling<'p> {
+    /// The number of the file.
+    file: u32,
+    /// The token of the selector, or of `on`.
+    token: u32,
+    /// What the procedure is for.
+    purpose: Purpose<'p>,
+}
+
+/// What the procedures so far are for.
+#[derive(Debug, Drop)]
+struct Purposes {
+    /// Numbers that stand for the frames and keys.
+    ranges: Ranges,
+    /// The names of the timers.
+    timers: NameTable,
+}
+
+/// The token of a selector.
+fn selector_place(selector: &Sel) -> u32
+    ensures { result ≡ selector_place selector.now }
+{
+    match selector {
+        Sel::Any { at } | Sel::Name { at, .. } | Sel::Ids { at, .. } => *at,
+    }
+}
+
+/// Appends what selectors tell.
+fn list_selectors<'p>(
+    names: &Names,
+    file: u32,
+    selectors: &[Sel],
+    into: &mut Vec<Telling<'p>>,
+) -> Result<(), NoMemory>
+    ensures told { OnOk result (told_at into.new.items
+        ≡ told_at into.old.items ++ filter_map (told_by_selector names.now.base file) selectors.now) }
+    ensures ordinary { All IsOrdinaryTelling into.old.items →
+        OnOk result (All IsOrdinaryTelling into.new.items) }
+{
+    for selector in selectors {
+        if let Some(keys) = selector_of(names, selector) {
+            into.push(Telling {
+                file,
+                token: selector_place(selector),
+                purpose: Purpose::Frames(keys),
+            })?;
+        }
+    }
+    Ok(())
+}
+
+/// Appends what the head of a procedure tells, where its `on` stands at a token.
+fn list_head<'p>(
+    names: &Names,
+    file: u32,
+    at: u32,
+    head: &'p Head,
+    into: &mut Vec<Telling<'p>>,
+) -> Result<(), NoMemory>
+    ensures told { OnOk result (told_at into.new.items
+        ≡ told_at into.old.items ++ told_by_head names.now file at head.now) }
+    ensures ordinary { All IsOrdinaryTelling into.old.items →
+        OnOk result (All IsOrdinaryTelling into.new.items) }
+{
+    match head {
+        Head::Message(selectors) => list_selectors(names, file, selectors.as_slice(), into)?,
+        Head::Timer { name, .. } if names_timer(names, name.bytes()) => into.push(Telling {
+            file,
+            token: at,
+            purpose: Purpose::Timer(name),
+        })?,
+        Head::Key { value } => into.push(Telling {
+            file,
+            token: at,
+            purpose: Purpose::Key(*value),
+        })?,
+        Head::PreStart | Head::Start | Head::Stop | Head::Timer { .. } | Head::Function { .. } => {}
+    }
+    Ok(())
+}
+
+/// Appends what a part of a program tells.
+fn list_part<'p>(
+    names: &Names,
+    part: ProgramPart<'p>,
+    into: &mut Vec<Telling<'p>>,
+) -> Result<(), NoMemory>
+    ensures told { OnOk result (told_at into.new.items
+        ≡ told_at into.old.items ++ told_by_part names.now (part_in part.entry)) }
+    ensures ordinary { All IsOrdinaryTelling into.old.items →
+        OnOk result (All IsOrdinaryTelling into.new.items) }
+{
+    match part {
+        ProgramPart::Globals { .. } => Ok(()),
+        ProgramPart::Procedure {
+            file,
+            procedure,
+            ..
+        } => list_head(names, file, procedure.at, &procedure.head, into),
+    }
+}
+
+/// What parts of a program tell, in order.
+fn tellings<'p>(
+    alloc: Global,
+    names: &Names,
+    parts: &[ProgramPart<'p>],
+) -> Result<Vec<Telling<'p>>, NoMemory>
+    ensures told { IfOk result (λ all. told_at all.items ≡
+        flat_map (told_by_part names.now) (parts_in parts.now)) }
+    ensures ordinary { IfOk result (λ all. All IsOrdinaryTelling all.items) }
+{
+    let mut all = Vec::new(alloc);
+    for part in parts {
+        list_part(names, *part, &mut all)?;
+    }
+    Ok(all)
+}
+
+/// The number that stands for a selection key of a rank.
+fn number_of(rank: u8, key: u32) -> u64
+    ensures { result ≡ number_of rank key }
+{
+    rank as u64 * 0x1_0000_0000 + key as u64
+}
+
+/// The number that stands for a key that is pressed, or for those that have no procedure.
+fn number_of_key(key: Option<u8>) -> u64
+    ensures { result ≡ number_of_key key }
+{
+    match key {
+        None => 0x3_0000_0000,
+        Some(key) => 0x3_0000_0001 + key as u64,
+    }
+}
+
+impl Purposes {
+    /// Nothing.
+    fn new(alloc: Global, seed: Seed) -> Purposes
+        ensures { Knows result [] }
+    {
+        Purposes {
+            ranges: Ranges::new(alloc),
+            timers: NameTable::new(alloc, seed),
+        }
+    }
+
+    /// Whether some procedure so far is for what this one is for. Takes time logarithmic in the
+    /// selectors and keys, and linear in the name of a timer.
+    fn know(&self, purpose: Purpose) -> bool
+        requires { IsOrdinary (purpose_of purpose) }
+        ensures { (earlier : List Told) → Knows self.now earlier →
+            result ≡ list_any (λ told. collide (purpose_of purpose.entry) told.purpose) earlier }
+    {
+        match purpose {
+            Purpose::Frames(keys) => self.ranges.meets(
+                number_of(keys.rank, keys.low),
+                number_of(keys.rank, keys.high),
+            ),
+            Purpose::Timer(name) => self.timers.number(name.bytes()).is_some(),
+            Purpose::Key(key) => self.ranges.meets(number_of_key(key), number_of_key(key)),
+        }
+    }
+
+    /// Takes what one more procedure is for.
+    fn add(&mut self, alloc: Global, purpose: Purpose) -> Result<(), NoMemory>
+        requires { IsOrdinary (purpose_of purpose) }
+        ensures { (earlier : List Told) (told : Told) → told.purpose ≡ purpose_of purpose.entry →
+            Knows self.old earlier → OnOk result (Knows self.new (told ∷ earlier)) }
+    {
+        match purpose {
+            Purpose::Frames(keys) => self.ranges.add(
+                number_of(keys.rank, keys.low),
+                number_of(keys.rank, keys.high),
+            )?,
+            Purpose::Timer(name) => self.timers.note(alloc, name.bytes(), 0)?,
+            Purpose::Key(key) => self.ranges.add(number_of_key(key), number_of_key(key))?,
+        }
+        Ok(())
+    }
+}
+
+/// Notes where a procedure is for what an earlier one is for.
+fn note_collisions(
+    alloc: Global,
+    seed: Seed,
+    tellings: &[Telling],
+    first: &mut Option<Offence>,
+) -> Result<(), NoMemory>
+    requires { All IsOrdinaryTelling tellings.now }
+    ensures { OnOk result (first.new ≡ noted first.old
+        (map purpose_offence (repeated same_purpose [] (told_at tellings.now)))) }
+{
+    let mut purposes = Purposes::new(alloc, seed);
+    for telling in tellings {
+        let known = purposes.know(telling.purpose);
+        note_where(known, telling.file, telling.token, SAME_PURPOSE, first);
+        purposes.add(alloc, telling.purpose)?;
+    }
+    Ok(())
+}
+
+/// Notes where two selectors of one rank overlap, and where two procedures are for one timer or one
+/// key. Takes time n log n in the selectors and procedures.
+pub(crate) fn note_purposes(
+    alloc: Global,
+    names: &Names,
+    seed: Seed,
+    parts: &[ProgramPart],
+    first: &mut Option<Offence>,
+) -> Result<(), NoMemory>
+    ensures { OnOk result (first.new ≡ noted first.old (purpose_offences names.now (parts_in parts.now))) }
+{
+    let tellings = tellings(alloc, names, parts)?;
+    note_collisions(alloc, seed, tellings.as_slice(), first)
+}
