@@ -1,0 +1,12 @@
+-- The lemmas of this crate.
+mod ConstantLemmas
+mod EvaluationLemmas
+mod FormatLemmas
+mod MeaningLemmas
+mod MessageLemmas
+mod NameLemmas
+mod Places
+mod SortLemmas
+mod KnownLemmas
+mod TableLemmas
+mod UsableLemmas

@@ -1,0 +1,32 @@
+-- Places to assign to.
+use Rattle.std.proofs.Common.{◌≡◌, ◌∙◌, ℕ, true, false, List, Option, ap}
+use Rattle.std.specs.Option.{option_map_or}
+use Rattle.int_kinds.specs.declared.kinds.Kind.{Kind}
+use Rattle.dbc_reader.specs.declared.signals.DbcSignal.{DbcSignal}
+use Rattle.capl_tree.specs.declared.expr.Expr.{Expr}
+use Rattle.capl_tree.specs.declared.expr.Expr.TheVariants as expr
+use Rattle.capl_tree.specs.declared.expr.Field.{Field}
+use Rattle.capl_tree.specs.declared.expr.Field.TheVariants as field
+use Rattle.capl_tree.proofs.FormLemmas as form
+use Rattle.capl_meaning.specs.Message.{array_in, is_number_place, is_open_array, is_open_field, is_open_part, message_in}
+use Rattle.capl_meaning.specs.Names.{Scope}
+
+-- bytes of the payload are assignable
+pub open_bytes : (signals : Option (List DbcSignal)) (f : Field) (kind : Kind) (index : Expr) (at : ℕ)
+    → f ≡ field.Bytes kind index at → is_open_field signals f ≡ true
+open_bytes signals f kind index at is = ap (is_open_field signals) (is ∙ form.bytes_form kind index at)
+
+-- a place under parentheses
+pub paren_place : (s : Scope) (e inner : Expr) (at : ℕ) → e ≡ expr.Paren inner at
+    → is_number_place s e ≡ is_number_place s inner
+paren_place s e inner at is = ap (is_number_place s) (is ∙ form.paren_form inner at)
+
+-- an element as a place
+pub index_place : (s : Scope) (e base index : Expr) (at : ℕ) → e ≡ expr.Index base index at
+    → is_number_place s e ≡ option_map_or (λ v. is_open_array v.form) (array_in s base) false
+index_place s e base index at is = ap (is_number_place s) (is ∙ form.index_form base index at)
+
+-- a member as a place
+pub member_place : (s : Scope) (e base : Expr) (f : Field) (at : ℕ) → e ≡ expr.Member base f at
+    → is_number_place s e ≡ option_map_or (is_open_part f) (message_in s base) false
+member_place s e base f at is = ap (is_number_place s) (is ∙ form.member_form base f at)

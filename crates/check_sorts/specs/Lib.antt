@@ -1,0 +1,6 @@
+-- The definitions of this crate.
+pub mod Constant
+pub mod Form
+pub mod Format
+pub mod Message
+pub mod Scope
