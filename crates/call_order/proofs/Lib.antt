@@ -1,0 +1,10 @@
+-- The lemmas of this crate.
+mod CalleeLemmas
+mod CountLemmas
+mod FormLemmas
+mod GraphLemmas
+mod OrderLemmas
+pub mod PlaceLemmas
+pub mod ReachLemmas
+mod RowLemmas
+mod SearchLemmas

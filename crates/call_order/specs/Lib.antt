@@ -1,0 +1,5 @@
+-- The definitions of this crate.
+pub mod Callees
+pub mod Calls
+pub mod Graph
+pub mod Inside
