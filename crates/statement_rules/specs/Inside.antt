@@ -1,0 +1,2 @@
+-- What proofs inside of this crate speak of.
+pub mod Label
