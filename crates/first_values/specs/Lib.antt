@@ -1,0 +1,4 @@
+-- The definitions of this crate.
+pub mod Message
+pub mod Payload
+pub mod Starts
