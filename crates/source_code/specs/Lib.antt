@@ -1,0 +1,5 @@
+-- The definitions of this crate.
+pub mod Code
+pub mod Ends
+pub mod Source
+pub mod Stands

@@ -1,0 +1,32 @@
+-- Nodes with sources, and nodes that are loaded with their code.
+use Rattle.std.specs.Prelude.{◌≡◌, ℕ, List, map}
+use Rattle.std.specs.List.{AllZip}
+use Rattle.dbc_reader.specs.declared.message.DbcMessage.{DbcMessage}
+use Rattle.capl_tree.specs.declared.file.Program.{Program}
+use Rattle.bytecode.specs.declared.code.Code.{Code}
+use Rattle.rounds.specs.Reaction.{NodeState}
+use Rattle.node_run.specs.Code.{CodeMemory}
+use Rattle.node_run.specs.Node.{NodeInRound, loaded}
+use Rattle.source_code.specs.Code.{IsSourceCode}
+use Rattle.source_code.specs.Source.{SourceMemory, first_source_node}
+
+-- a node is loaded with the code of a program with a database, and each of its tasks has so many turns
+pub record IsLoadedFor (base : List DbcMessage) (turns : ℕ) (program : Program) (node : NodeInRound) : Type 0
+  where
+    pub lines : List (List ℕ)
+    pub code : Code
+    pub first_row : ℕ
+    pub code_is : IsSourceCode base program lines code
+    pub is_loaded : node ≡ loaded code first_row turns
+
+-- nodes as they stand
+abbrev pub states_of : List NodeInRound → List (NodeState CodeMemory)
+states_of nodes = map (λ node. node.doing.node) nodes
+
+-- nodes with sources before the measurement
+abbrev pub first_source_nodes : List DbcMessage → ℕ → List Program → List (NodeState SourceMemory)
+first_source_nodes base turns programs = map (λ program. first_source_node base program turns) programs
+
+-- each node is loaded with the code of one of the programs, in order
+abbrev pub AreLoadedFor : List DbcMessage → ℕ → List Program → List NodeInRound → Type 0
+AreLoadedFor base turns programs nodes = AllZip (IsLoadedFor base turns) programs nodes
