@@ -1,0 +1,4 @@
+-- The definitions of this crate.
+pub mod Rows
+pub mod Tables
+pub mod Write
