@@ -1,7 +1,5 @@
 -- What is known of a program that breaks no rule, and of its typed program.
-use Rattle.std.specs.Prelude.{◌≡◌, ◌≢◌, ℕ, ◌<◌, ◌≤◌, List, [], slice_get, AllPairs}
-use Rattle.std.specs.Option.{option_and_then}
-use Rattle.std.specs.Prelude.{unwrap_or}
+use Rattle.std.specs.Prelude.{◌≡◌, ◌≢◌, ℕ, ◌<◌, ◌≤◌, List, [], AllPairs}
 use Rattle.dbc_reader.specs.declared.message.DbcMessage.{DbcMessage}
 use Rattle.capl_tree.specs.declared.file.Program.{Program}
 use Rattle.typed_tree.specs.declared.program.Typed.{Typed}
@@ -10,14 +8,11 @@ use Rattle.capl_meaning.specs.Names.{names_of}
 use Rattle.capl_meaning.specs.Offences.{offences_of}
 use Rattle.capl_meaning.specs.Size.{cells_of_program}
 use Rattle.typed_source.specs.Program.{HasEach, HasNoOther, typed_program}
+use Rattle.check_types.specs.Lines.{line_in}
 
 -- the most cells that a program may have
 abbrev pub most_cells : ℕ
 most_cells = 1000000
-
--- the line of a token of a file, by the lines of the tokens of each file; 0 where there is no such token
-abbrev pub line_in : List (List ℕ) → ℕ → ℕ → ℕ
-line_in lines file token = unwrap_or (option_and_then (λ row. slice_get row token) (slice_get lines file)) 0
 
 -- A program with a database is accepted, and this is its typed program: it breaks no rule and has few enough
 -- cells; its functions stand in some order, each once; the lines of its event procedures are those of these

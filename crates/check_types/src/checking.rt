@@ -1,7 +1,25 @@
-// Why a program is not accepted.
+// Checking a program.
 
+ghost use Rattle.std.specs.Prelude.{◌≡◌, IfErr, IfOk, map};
+ghost use Rattle.check_names.specs.Names.{messages_of};
+ghost use Rattle.check_types.specs.Accepted.{IsAccepted};
+ghost use Rattle.check_types.specs.Refusal.{IsRefusalOf};
+
+use crate::handlers::Source;
+use crate::typed::make_program;
+use call_order::Calls;
 use capl_meaning::Offence;
+use capl_tree::Program;
+use check_names::Names;
+use check_sorts::Constants;
+use dbc_reader::Database;
+use expression_trees::{Layout, TreeTables};
 use sim_outside::NoMemory;
+use sound_check::is_sound;
+use statement_rules::first_offence;
+use statement_trees::StatementTables;
+use std::alloc::Global;
+use typed_tree::Typed;
 
 /// Why a program is not accepted.
 #[derive(Clone, Copy, Debug, PartialEq, Eq)]
@@ -23,4 +41,50 @@ impl From<NoMemory> for CheckRefusal {
     fn from(_: NoMemory) -> CheckRefusal {
         CheckRefusal::NoMemory
     }
+}
+
+/// The typed program of a program with a database, if it has one, where these are the lines of the tokens of
+/// its files, in program order.
+///
+/// # Errors
+///
+/// `Offends` with the first offence against the rules E09 to E28, by file, token and rule; `Size` where
+/// there is none and the program has more than 1,000,000 cells.
+pub fn check(
+    alloc: Global,
+    program: &Program,
+    lines: &[Vec<u32>],
+    base: Option<&Database>,
+) -> Result<Typed, CheckRefusal>
+    ensures accepted { IfOk result (IsAccepted (messages_of base.entry) program.now
+        (map (λ row. row.items) lines.now)) }
+    ensures refused { IfErr result (IsRefusalOf (messages_of base.entry) program.now) }
+{
+    let names = Names::build(alloc, program, base)?;
+    let constants = Constants::build(alloc, &names)?;
+    let calls = Calls::build(alloc, &names)?;
+    if let Some(offence) = first_offence(alloc, program, &names, &constants, &calls)? {
+        return Err(CheckRefusal::Offends(offence));
+    }
+    let Some(layout) = Layout::build(alloc, &names, &constants)? else {
+        return Err(CheckRefusal::Size);
+    };
+    let tables = StatementTables {
+        trees: TreeTables {
+            layout: &layout,
+            calls: &calls,
+        },
+        constants: &constants,
+    };
+    let source = Source {
+        names: &names,
+        lines,
+        tables: &tables,
+    };
+    let typed = make_program(alloc, program, &source)?;
+    // The compiler asks for a sound program. That a program without offences has one is not proved.
+    if !is_sound(alloc, &typed)? {
+        return Err(CheckRefusal::NoMemory);
+    }
+    Ok(typed)
 }

@@ -1,10 +1,17 @@
-//! What checking a program gives: its typed program, or the first rule that it breaks.
+//! From the trees of a program to its typed program, or to the first rule that it breaks.
 //!
-//! `Accepted` in specs/ says when a program is accepted, and which typed program it has then; `Refusal`
-//! what a refusal tells of a program. Which offence is the first is defined in capl_meaning and found by
-//! statement_rules; what the typed program is, typed_source defines.
+//! [`check`] looks at all of a program with the messages of a database. What the rules E09 to E28 are, and
+//! which offence is the first, is defined in capl_meaning; what the typed program of an accepted program
+//! is, in typed_source.
 #![tactic(auto)]
 
-pub use checking::CheckRefusal;
+pub use checking::{CheckRefusal, check};
 
+mod body;
 mod checking;
+mod events;
+mod functions;
+mod handlers;
+#[cfg(test)]
+mod tests;
+mod typed;

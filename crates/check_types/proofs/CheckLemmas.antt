@@ -1,0 +1,80 @@
+-- What is known of a program by the names that were built of it.
+use Rattle.std.proofs.Common.{◌≡◌, ◌<◌, ◌≤◌, ◌∙◌, ℕ, List, [], Option, None, Some, ap, subst, sym}
+use Rattle.std.specs.Option.{IfSome}
+use Rattle.dbc_reader.specs.declared.message.DbcMessage.{DbcMessage}
+use Rattle.capl_tree.specs.declared.file.Program.{Program}
+use Rattle.typed_tree.specs.declared.program.Typed.{Typed}
+use Rattle.typed_tree.specs.Sound.{IsSound}
+use Rattle.capl_meaning.specs.declared.offence.Offence.{Offence}
+use Rattle.capl_meaning.specs.Names.{Names, names_of}
+use Rattle.capl_meaning.specs.Offences.{IsFirstOffence, offences_of}
+use Rattle.typed_meaning.specs.Laid.{AreDistinct}
+use Rattle.typed_meaning.proofs.Distinct.{distinct_without_offences}
+use Rattle.typed_source.specs.Program.{HasEach, HasNoOther, typed_program}
+use Rattle.call_order.specs.declared.calls.Calls.{Calls}
+use Rattle.call_order.specs.Calls.{AreCallsOf, order_of}
+use Rattle.expression_trees.specs.declared.layout.Layout.{Layout}
+use Rattle.expression_trees.specs.Layout.{IsLaidOut, IsLayoutOf, size_in}
+use Rattle.check_types.specs.Accepted.{IsAccepted, IsTooLarge}
+use Rattle.check_types.specs.Lines.{line_in}
+
+-- names are those of their own database
+pub of_own_base : (base : List DbcMessage) (program : Program) (names : Names) → names ≡ names_of base program →
+    names ≡ names_of names.base program
+of_own_base base program names built = built ∙ ap (λ b. names_of b program) (sym (ap (λ (n : Names). n.base) built))
+
+-- the database is that of the names
+same_base : (base : List DbcMessage) (program : Program) (names : Names) → names ≡ names_of base program → names.base ≡ base
+same_base base program names built = ap (λ (n : Names). n.base) built
+
+-- the first offence
+pub first_refused : (base : List DbcMessage) (program : Program) (names : Names) → names ≡ names_of base program →
+    (first : Option Offence) (offence : Offence) → IfSome first (IsFirstOffence names.base program) → first ≡ Some offence →
+    IsFirstOffence base program offence
+first_refused base program names built first offence found is =
+    subst (λ (b : List DbcMessage). IsFirstOffence b program offence) (same_base base program names built)
+    (subst (λ (o : Option Offence). IfSome o (IsFirstOffence names.base program)) is found)
+
+-- no offence
+pub none_refused : (base : List DbcMessage) (program : Program) (names : Names) → names ≡ names_of base program →
+    offences_of names.base program ≡ [] → offences_of base program ≡ []
+none_refused base program names built none =
+    subst (λ (b : List DbcMessage). offences_of b program ≡ []) (same_base base program names built) none
+
+-- too many cells
+pub too_large : (base : List DbcMessage) (program : Program) (names : Names) → names ≡ names_of base program →
+    offences_of names.base program ≡ [] → (layout : Option Layout) → layout ≡ None → IsLaidOut names layout → IsTooLarge base program
+too_large base program names built none layout is laid = record {
+  no_offence = none_refused base program names built none;
+  many_cells =
+      subst (λ (n : Names). 1000000 < size_in n n.variables) built
+      (subst (IsLaidOut names) is laid);
+}
+
+-- no name is declared twice
+pub distinct_names : (base : List DbcMessage) (program : Program) (names : Names) → names ≡ names_of base program →
+    offences_of names.base program ≡ [] → AreDistinct names.variables
+distinct_names base program names built none =
+    subst (λ (n : Names). AreDistinct n.variables) (sym built)
+    (distinct_without_offences base program (none_refused base program names built none))
+
+-- few cells, and where the variables lie
+pub laid_out : (names : Names) (layout : Option Layout) (laid : Layout) → layout ≡ Some laid → IsLaidOut names layout →
+    (size_in names names.variables ≤ 1000000) × IsLayoutOf names laid
+laid_out names layout laid is out = subst (IsLaidOut names) is out
+
+-- an accepted program
+pub accepted : (base : List DbcMessage) (program : Program) (names : Names) (calls : Calls) (lines : List (List ℕ)) (typed : Typed) →
+    names ≡ names_of base program → offences_of names.base program ≡ [] → size_in names names.variables ≤ 1000000 →
+    AreCallsOf names calls → typed ≡ typed_program names.base program (order_of calls) (line_in lines) → IsSound typed →
+    IsAccepted base program lines typed
+accepted base program names calls lines typed built none few are made sound = record {
+  no_offence = none_refused base program names built none;
+  few_cells = subst (λ (n : Names). size_in n n.variables ≤ 1000000) built few;
+  order = order_of calls;
+  has_each = subst (λ (n : Names). HasEach n (order_of calls)) built are.has_each;
+  has_no_other = subst (λ (n : Names). HasNoOther n (order_of calls)) built are.has_no_other;
+  once = are.once;
+  typed_is = made ∙ ap (λ (b : List DbcMessage). typed_program b program (order_of calls) (line_in lines)) (same_base base program names built);
+  sound = sound;
+}

@@ -1,0 +1,4 @@
+-- The lemmas of this crate.
+mod CheckLemmas
+mod MadeLemmas
+mod NameLemmas

@@ -1,0 +1,44 @@
+-- What is built of the program tells why it is refused or accepted.
+use Rattle.check_names.specs.Names.{messages_of}
+use Rattle.check_types.proofs.CheckLemmas.{accepted, distinct_names, first_refused, laid_out, of_own_base, too_large}
+use Rattle.check_types.proofs.checking.check.Goals as goal
+
+pub first_offence-requires-clause-names : goal.first_offence-requires-clause-names
+first_offence-requires-clause-names c =
+    of_own_base (messages_of c.args.base) c.args.program.now c.in_ok-names.names c.in_ok-names.ensures
+
+pub returns-in-Some-clause-refused : goal.returns-in-Some-clause-refused
+returns-in-Some-clause-refused c =
+    first_refused (messages_of c.args.base) c.args.program.now c.in_ok-names.names c.in_ok-names.ensures
+    c.in_ok-offence.field-0 c.in-Some.offence c.in_ok-offence.ensures.first c.in-Some.is
+
+pub returns-in_default-2-clause-refused : goal.returns-in_default-2-clause-refused
+returns-in_default-2-clause-refused c =
+    too_large (messages_of c.args.base) c.args.program.now c.in_ok-names.names c.in_ok-names.ensures
+    (c.in_ok-offence.ensures.none c.in_default.is) c.in_ok-layout.field-0 c.in_default-2.is c.in_ok-layout.ensures
+
+pub make_program-requires-clause-names : goal.make_program-requires-clause-names
+make_program-requires-clause-names c =
+    of_own_base (messages_of c.args.base) c.args.program.now c.in_ok-names.names c.in_ok-names.ensures
+
+pub make_program-requires-clause-tables : goal.make_program-requires-clause-tables
+make_program-requires-clause-tables c =
+    let names = c.in_ok-names.names in
+    record {
+      trees = record {
+        layout = (laid_out names c.in_ok-layout.field-0 c.in-Some-2.layout c.in-Some-2.is c.in_ok-layout.ensures).1;
+        calls = c.in_ok-calls.ensures;
+        distinct =
+            distinct_names (messages_of c.args.base) c.args.program.now names c.in_ok-names.ensures
+            (c.in_ok-offence.ensures.none c.in_default.is);
+      };
+      constants = c.in_ok-constants.ensures;
+    }
+
+pub returns-clause-accepted : goal.returns-clause-accepted
+returns-clause-accepted c =
+    let names = c.in_ok-names.names in
+    accepted (messages_of c.args.base) c.args.program.now names c.in_ok-calls.calls _ c.in_ok-typed.typed c.in_ok-names.ensures
+    (c.in_ok-offence.ensures.none c.in_default.is)
+    (laid_out names c.in_ok-layout.field-0 c.in-Some-2.layout c.in-Some-2.is c.in_ok-layout.ensures).0
+    c.in_ok-calls.ensures c.in_ok-typed.ensures (c.in_ok-is_sound.ensures.0 c.if-not-branch.false)

@@ -1,0 +1,37 @@
+// The bodies of procedures.
+
+ghost use Rattle.std.specs.Prelude.{◌≡◌, ◌++◌, IfOk, OnOk, length};
+ghost use Rattle.check_sorts.specs.Scope.{scope_in};
+ghost use Rattle.statement_trees.specs.Tables.{AreTables, order_of};
+ghost use Rattle.typed_source.specs.Program.{body_of, formats_of_body};
+
+use capl_tree::Stmt;
+use check_sorts::Scope;
+use items::Items;
+use sim_outside::NoMemory;
+use statement_trees::{StatementTables, make_statement};
+use std::alloc::Global;
+use typed_tree::TStmt;
+use write_format::Format;
+
+/// The typed trees of the statements of a body, whose formats are appended to those of the program.
+pub(crate) fn make_body(
+    alloc: Global,
+    scope: Scope,
+    tables: &StatementTables,
+    formats: &mut Vec<Format>,
+    body: &[Stmt],
+) -> Result<Items<TStmt>, NoMemory>
+    requires { AreTables scope.names.now tables.now }
+    ensures trees { IfOk result (λ trees. trees ≡
+        body_of (scope_in scope.entry) (order_of tables.now) (length formats.old.items) body.now) }
+    ensures formats { OnOk result (formats.new.items ≡
+        formats.old.items ++ formats_of_body (scope_in scope.entry) body.now) }
+{
+    let mut trees = Vec::new(alloc);
+    for statement in body {
+        let tree = make_statement(alloc, scope, tables, formats, statement)?;
+        trees.push(tree)?;
+    }
+    Ok(Items::from_list(trees))
+}

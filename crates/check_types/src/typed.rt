@@ -1,0 +1,51 @@
+// The typed program of a program.
+
+ghost use Rattle.std.specs.Prelude.{◌≡◌, IfOk};
+ghost use Rattle.capl_meaning.specs.Names.{names_of};
+ghost use Rattle.check_types.specs.Lines.{line_in};
+ghost use Rattle.check_types.specs.Handlers.{lines_of};
+ghost use Rattle.statement_trees.specs.Tables.{AreTables, order_of};
+ghost use Rattle.typed_source.specs.Program.{typed_program};
+
+use crate::functions::make_functions;
+use crate::handlers::{Source, make_handlers};
+use capl_tree::Program;
+use check_names::program_parts;
+use expression_trees::{cell_kinds, timer_units};
+use first_values::first_values;
+use items::Items;
+use sim_outside::NoMemory;
+use std::alloc::Global;
+use typed_tree::Typed;
+
+/// The typed program of a program, by what it declares.
+pub(crate) fn make_program(
+    alloc: Global,
+    program: &Program,
+    source: &Source,
+) -> Result<Typed, NoMemory>
+    requires names { source.now.names.now ≡ names_of source.now.names.now.base program.now }
+    requires tables { AreTables source.now.names.now source.now.tables.now }
+    ensures { IfOk result (λ typed. typed ≡ typed_program source.now.names.now.base program.now
+        (order_of source.now.tables.now) (line_in (lines_of source.now))) }
+{
+    let names = source.names;
+    let tables = source.tables;
+    let mut formats = Vec::new(alloc);
+    let functions = make_functions(alloc, names, tables, &mut formats)?;
+    let parts = program_parts(alloc, program)?;
+    let handlers = make_handlers(alloc, source, &mut formats, parts.as_slice())?;
+    let layout = tables.trees.layout;
+    let constants = tables.constants;
+    let cells = cell_kinds(alloc, names, layout)?;
+    let starts = first_values(alloc, names, constants)?;
+    let timers = timer_units(alloc, names)?;
+    Ok(Typed {
+        functions,
+        handlers,
+        cells: Items::from_list(cells),
+        starts: Items::from_list(starts),
+        timers: Items::from_list(timers),
+        formats: Items::from_list(formats),
+    })
+}
