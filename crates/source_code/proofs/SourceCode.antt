@@ -26,7 +26,8 @@ use Rattle.typed_meaning.proofs.Distinct.{distinct_without_offences}
 use Rattle.typed_source.specs.Program.{formats_of_body, formats_of_functions, typed_handlers}
 use Rattle.typed_source.proofs.Programs.{program_does}
 use Rattle.typed_source.proofs.ProgramSizes.{program_small}
-use Rattle.check_types.specs.Accepted.{IsAccepted, line_in}
+use Rattle.check_types.specs.Accepted.{IsAccepted}
+use Rattle.check_types.specs.Lines.{line_in}
 use Rattle.source_code.specs.Code.{HasSourceTables, IsEntryOf, IsSourceCode}
 
 -- ---- the typed program of an accepted source

@@ -14,7 +14,8 @@ use Rattle.capl_meaning.specs.Store.{event_kinds, laid_kinds, lay, timer_units}
 use Rattle.capl_meaning.specs.Initial.{first_store}
 use Rattle.capl_meaning.specs.Procedure as source
 use Rattle.capl_meaning.specs.Reaction.{handlers_in}
-use Rattle.check_types.specs.Accepted.{IsAccepted, line_in}
+use Rattle.check_types.specs.Accepted.{IsAccepted}
+use Rattle.check_types.specs.Lines.{line_in}
 
 -- A program with a database is accepted, where these are the lines of the tokens of its files, and this is
 -- the code of its typed program.

@@ -25,7 +25,7 @@ use Rattle.sim_core.specs.Bus.{BusMeaning, after_all_tasks, after_tasks}
 use Rattle.sim_core.specs.Moments.{keys_after, keys_at, least, next_key, next_request, next_timer, requests_after, requests_at}
 use Rattle.sim_core.specs.Run.{AreInstants, AreParts, EndsAt, IsInstant, IsRun, Passed, RunState, after_instant, ask_stop, next_moment, quiet_round, seen_by}
 use Rattle.source_code.specs.Source.{SourceMemory, by_source_reaction}
-use Rattle.source_runs.specs.Nodes.{first_source_nodes}
+use Rattle.source_runs.specs.Sources.{first_source_nodes}
 use Rattle.source_runs.proofs.EachPart.{IsGood, IsLater, round_there}
 
 -- ---- all nodes in a round

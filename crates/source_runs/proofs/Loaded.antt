@@ -8,7 +8,8 @@ use Rattle.node_run.specs.Node.{NodeInRound}
 use Rattle.source_code.specs.Source.{first_source_node}
 use Rattle.source_code.specs.Stands.{StandsFor}
 use Rattle.source_code.proofs.Following.{loaded_alike}
-use Rattle.source_runs.specs.Nodes.{AreLoadedFor, IsLoadedFor, first_source_nodes, states_of}
+use Rattle.source_runs.specs.Nodes.{AreLoadedFor, IsLoadedFor, states_of}
+use Rattle.source_runs.specs.Sources.{first_source_nodes}
 
 one_alike : (base : List DbcMessage) (turns : ℕ) (program : Program) (node : NodeInRound) → IsLoadedFor base turns program node →
     NodesAlike StandsFor node.doing.node (first_source_node base program turns)

@@ -1,4 +1,4 @@
--- Nodes with sources, and nodes that are loaded with their code.
+-- Nodes that are loaded with the code of sources.
 use Rattle.std.specs.Prelude.{◌≡◌, ℕ, List, map}
 use Rattle.std.specs.List.{AllZip}
 use Rattle.dbc_reader.specs.declared.message.DbcMessage.{DbcMessage}
@@ -8,7 +8,6 @@ use Rattle.rounds.specs.Reaction.{NodeState}
 use Rattle.node_run.specs.Code.{CodeMemory}
 use Rattle.node_run.specs.Node.{NodeInRound, loaded}
 use Rattle.source_code.specs.Code.{IsSourceCode}
-use Rattle.source_code.specs.Source.{SourceMemory, first_source_node}
 
 -- a node is loaded with the code of a program with a database, and each of its tasks has so many turns
 pub record IsLoadedFor (base : List DbcMessage) (turns : ℕ) (program : Program) (node : NodeInRound) : Type 0
@@ -22,10 +21,6 @@ pub record IsLoadedFor (base : List DbcMessage) (turns : ℕ) (program : Program
 -- nodes as they stand
 abbrev pub states_of : List NodeInRound → List (NodeState CodeMemory)
 states_of nodes = map (λ node. node.doing.node) nodes
-
--- nodes with sources before the measurement
-abbrev pub first_source_nodes : List DbcMessage → ℕ → List Program → List (NodeState SourceMemory)
-first_source_nodes base turns programs = map (λ program. first_source_node base program turns) programs
 
 -- each node is loaded with the code of one of the programs, in order
 abbrev pub AreLoadedFor : List DbcMessage → ℕ → List Program → List NodeInRound → Type 0

@@ -15,7 +15,8 @@ ghost use Rattle.sim_core.specs.Bus.{bus_by};
 ghost use Rattle.sim_core.specs.Run.{IsRun, Passed};
 ghost use Rattle.source_code.specs.Source.{SourceMemory, by_source_reaction};
 ghost use Rattle.source_code.specs.Stands.{StandsFor};
-ghost use Rattle.source_runs.specs.Nodes.{AreLoadedFor, first_source_nodes, states_of};
+ghost use Rattle.source_runs.specs.Nodes.{AreLoadedFor, states_of};
+ghost use Rattle.source_runs.specs.Sources.{first_source_nodes};
 
 use can_bus::Bus;
 

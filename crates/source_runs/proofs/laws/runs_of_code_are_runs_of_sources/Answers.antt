@@ -10,7 +10,8 @@ use Rattle.source_code.specs.Source.{SourceMemory, by_source_reaction}
 use Rattle.source_code.specs.Stands.{StandsFor}
 use Rattle.source_code.proofs.Following.{runs_follow}
 use Rattle.source_code.proofs.Tasks.{source_once}
-use Rattle.source_runs.specs.Nodes.{first_source_nodes, states_of}
+use Rattle.source_runs.specs.Nodes.{states_of}
+use Rattle.source_runs.specs.Sources.{first_source_nodes}
 use Rattle.source_runs.proofs.Loaded.{all_alike}
 use Rattle.source_runs.proofs.OneRun.{run_once}
 use Rattle.source_runs.proofs.laws.runs_of_code_are_runs_of_sources.Goals as goal

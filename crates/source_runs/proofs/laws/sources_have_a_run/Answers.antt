@@ -1,6 +1,6 @@
 -- Each task of a source is done, a round has so many, and each instant comes later than the one before.
 use Rattle.sim_core.specs.Bus.{bus_by}
-use Rattle.source_runs.specs.Nodes.{first_source_nodes}
+use Rattle.source_runs.specs.Sources.{first_source_nodes}
 use Rattle.source_runs.proofs.EachRun.{first_good, run_there}
 use Rattle.source_runs.proofs.laws.sources_have_a_run.Goals as goal
 
