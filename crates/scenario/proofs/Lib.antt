@@ -3,4 +3,4 @@ mod ChoiceLemmas
 mod NextLineLemmas
 mod SaidLemmas
 mod ReadLemmas
-mod WithinLemmas
+pub mod WithinLemmas

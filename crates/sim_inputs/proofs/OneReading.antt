@@ -1,0 +1,203 @@
+-- A name leads to one scenario with one program, or has one first blame.
+use Rattle.std.proofs.Common.{◌≡◌, ◌≤◌, ℕ, List, [], ◌∷◌, Option, inl, inr, sym, ap, subst, ◌∙◌, arith}
+use Rattle.std.specs.Prelude.{◌⊎◌}
+use Rattle.std.specs.List.{flat_map}
+use Rattle.std.specs.Str.Lines.{lines}
+use Rattle.sim_outside.specs.Folder.{beside}
+use Rattle.sim_outside.specs.declared.blame.Blame.{Blame}
+use Rattle.scenario.specs.Item.{items_of}
+use Rattle.scenario.specs.Scenario.{IsScenario, key_in}
+use Rattle.scenario.specs.declared.scenario.NodeItem.{NodeItem}
+use Rattle.scenario.specs.declared.scenario.Scenario.{Scenario}
+use Rattle.dbc_reader.specs.declared.message.DbcMessage.{DbcMessage}
+use Rattle.capl_tree.specs.Weight.{weight}
+use Rattle.capl_tree.specs.declared.file.Program.{Program}
+use Rattle.capl_include.proofs.UniqueLemmas.{visit-unique}
+use Rattle.capl_include.specs.Expansion.{Contents, Expansion, Outcome, Went, Stopped, IsExpansion, file_limit, nothing_met}
+use Rattle.capl_include.specs.declared.expanded.SourceFile.{SourceFile}
+use Rattle.capl_meaning.specs.Offences.{offences_of}
+use Rattle.capl_meaning.specs.Size.{cells_of_program}
+use Rattle.sim_inputs.specs.Accepted.{AreAccepted, IsFirstBlame, IsLaterBlame, IsProgramBlame, IsSource, IsSourceBlame}
+use Rattle.sim_inputs.specs.Blame.{without_column}
+use Rattle.sim_inputs.specs.Database.{BaseAt, IsBaseBlame}
+use Rattle.sim_inputs.specs.Law.{SayTheSame}
+use Rattle.sim_inputs.specs.Program.{AreTreesOf, FilesAt, IsFilesBlame, IsOffenceBlame, IsSizeBlame, most}
+use Rattle.sim_inputs.specs.Scenario.{ScenarioAt, scenario_limit}
+use Rattle.sim_inputs.proofs.FileLemmas.{one_parse_blame, one_program, one_screen_blame, parsed_or_blame, screened_or_blame}
+use Rattle.sim_inputs.proofs.KeyLemmas.{one_order}
+use Rattle.sim_inputs.proofs.OffenceLemmas.{offence_or_none, one_offence_blame}
+use Rattle.sim_inputs.proofs.TextLemmas.{base_or_blame, one_base, one_base_blame, one_scenario_blame, one_text, scenario_or_blame}
+
+-- ---- the scenario
+
+say_the_same : (text : List ℕ) (scenario other : Scenario) → IsScenario text scenario → IsScenario text other → SayTheSame scenario other
+say_the_same text scenario other is also = record {
+  database = is.said.database ∙ sym also.said.database;
+  nodes = is.said.nodes ∙ sym also.said.nodes;
+  bit = is.said.bit ∙ sym also.said.bit;
+  until = is.said.until ∙ sym also.said.until;
+  turns = is.said.turns ∙ sym also.said.turns;
+  epoch = is.said.epoch ∙ sym also.said.epoch;
+  interface = is.said.interface ∙ sym also.said.interface;
+  picks = is.said.picks ∙ sym also.said.picks;
+  keys = one_order (flat_map key_in (items_of (lines text))) scenario.keys.items other.keys.items is.said.keys also.said.keys;
+  replay = is.said.replay ∙ sym also.said.replay;
+}
+
+one_scenario : (contents : Contents) (name : List ℕ) (scenario other : Scenario) (node third : NodeItem) → ScenarioAt contents name scenario node → ScenarioAt contents name other third → SayTheSame scenario other
+one_scenario contents name scenario other node third at also =
+    let same = one_text contents scenario_limit name at.text also.text at.held also.held in
+    say_the_same also.text scenario other (subst (λ t. IsScenario t scenario) same at.is) also.is
+
+one_node : (contents : Contents) (name : List ℕ) (scenario other : Scenario) (node third : NodeItem) → ScenarioAt contents name scenario node → ScenarioAt contents name other third → node ≡ third
+one_node contents name scenario other node third at also =
+    let same = (one_scenario contents name scenario other node third at also).nodes in
+    let both : node ∷ [] ≡ third ∷ [] = sym at.alone.nodes ∙ same ∙ also.alone.nodes in
+    cc
+
+-- ---- the source
+
+one_outcome : (contents : Contents) (name : List ℕ) (one other : Outcome) → IsExpansion contents name one → IsExpansion contents name other → one ≡ other
+one_outcome contents name one other is also = visit-unique contents name file_limit name nothing_met one other is also
+
+one_files : (contents : Contents) (name : List ℕ) (files others : List SourceFile) → FilesAt contents name files → FilesAt contents name others → files ≡ others
+one_files contents name files others (end, went, is) (end_too, went_too, also) =
+    let same = one_outcome contents name (Went end) (Went end_too) went went_too in
+    let ends : end ≡ end_too = cc in
+    is ∙ ap (λ (e : Expansion). e.files) ends ∙ sym also
+
+files_or_blame : (contents : Contents) (name : List ℕ) (files : List SourceFile) (blame : Blame) → FilesAt contents name files → IsFilesBlame contents name blame → ⊥
+files_or_blame contents name files blame (end, went, is) (first, stopped, also) =
+    let same = one_outcome contents name (Went end) (Stopped first) went stopped in cc
+
+one_files_blame : (contents : Contents) (name : List ℕ) (blame other : Blame) → IsFilesBlame contents name blame → IsFilesBlame contents name other → blame ≡ other
+one_files_blame contents name blame other (first, stopped, is) (first_too, stopped_too, also) =
+    let same = one_outcome contents name (Stopped first) (Stopped first_too) stopped stopped_too in
+    let firsts : first ≡ first_too = cc in
+    is ∙ ap without_column firsts ∙ sym also
+
+-- what is wrong with the program of files that spell it
+abbrev IsMeaningBlame : List DbcMessage → List ℕ → List SourceFile → Program → Blame → Type 0
+IsMeaningBlame base name files program blame = IsOffenceBlame base files program blame ⊎ IsSizeBlame base name program blame
+
+one_meaning_blame : (base : List DbcMessage) (name : List ℕ) (files : List SourceFile) (program : Program) (blame other : Blame) →
+    IsMeaningBlame base name files program blame → IsMeaningBlame base name files program other → blame ≡ other
+one_meaning_blame base name files program blame other (inl offence) (inl offence_too) = one_offence_blame base files program blame other offence offence_too
+one_meaning_blame base name files program blame other (inl offence) (inr (none, large, is)) = absurd (offence_or_none base files program blame none offence)
+one_meaning_blame base name files program blame other (inr (none, large, is)) (inl offence) = absurd (offence_or_none base files program other none offence)
+one_meaning_blame base name files program blame other (inr (none, large, is)) (inr (none_too, large_too, also)) = is ∙ sym also
+
+one_program_blame : (base : List DbcMessage) (name : List ℕ) (files : List SourceFile) (blame other : Blame) → IsProgramBlame base name files blame → IsProgramBlame base name files other → blame ≡ other
+one_program_blame base name files blame other (inl one) (inl two) = one_screen_blame files blame other one two
+one_program_blame base name files blame other (inl one) (inr (inl (right, two))) = absurd (screened_or_blame files blame right one)
+one_program_blame base name files blame other (inl one) (inr (inr (right, two))) = absurd (screened_or_blame files blame right one)
+one_program_blame base name files blame other (inr (inl (right, one))) (inl two) = absurd (screened_or_blame files other right two)
+one_program_blame base name files blame other (inr (inr (right, one))) (inl two) = absurd (screened_or_blame files other right two)
+one_program_blame base name files blame other (inr (inl (right, one))) (inr (inl (right_too, two))) = one_parse_blame files blame other one two
+one_program_blame base name files blame other (inr (inl (right, one))) (inr (inr (right_too, (program, trees, two)))) = absurd (parsed_or_blame files program blame trees one)
+one_program_blame base name files blame other (inr (inr (right, (program, trees, one)))) (inr (inl (right_too, two))) = absurd (parsed_or_blame files program other trees two)
+one_program_blame base name files blame other (inr (inr (right, (program, trees, one)))) (inr (inr (right_too, (third, trees_too, two)))) =
+    let same = one_program files program third trees trees_too in
+    one_meaning_blame base name files third blame other (subst (λ (p : Program). IsMeaningBlame base name files p blame) same one) two
+
+one_source_blame : (contents : Contents) (name : List ℕ) (base : List DbcMessage) (blame other : Blame) → IsSourceBlame contents name base blame → IsSourceBlame contents name base other → blame ≡ other
+one_source_blame contents name base blame other (inl one) (inl two) = one_files_blame contents name blame other one two
+one_source_blame contents name base blame other (inl one) (inr (files, at, two)) = absurd (files_or_blame contents name files blame at one)
+one_source_blame contents name base blame other (inr (files, at, one)) (inl two) = absurd (files_or_blame contents name files other at two)
+one_source_blame contents name base blame other (inr (files, at, one)) (inr (others, at_too, two)) =
+    let same = one_files contents name files others at at_too in
+    one_program_blame base name others blame other (subst (λ (f : List SourceFile). IsProgramBlame base name f blame) same one) two
+
+meaning_or_blame : (base : List DbcMessage) (name : List ℕ) (files : List SourceFile) (program : Program) (blame : Blame) →
+    offences_of base program ≡ [] → cells_of_program base program ≤ most → weight program ≤ most → IsMeaningBlame base name files program blame → ⊥
+meaning_or_blame base name files program blame none few light (inl offence) = offence_or_none base files program blame none offence
+meaning_or_blame base name files program blame none few light (inr (none_too, inl large, is)) = absurd (omega arith)
+meaning_or_blame base name files program blame none few light (inr (none_too, inr heavy, is)) = absurd (omega arith)
+
+program_or_blame : (contents : Contents) (name : List ℕ) (base : List DbcMessage) (files : List SourceFile) (program : Program) (blame : Blame) →
+    IsSource contents name base files program → IsProgramBlame base name files blame → ⊥
+program_or_blame contents name base files program blame source (inl first) = screened_or_blame files blame source.screened first
+program_or_blame contents name base files program blame source (inr (inl (right, first))) = parsed_or_blame files program blame source.trees first
+program_or_blame contents name base files program blame source (inr (inr (right, (third, trees, first)))) =
+    let same = one_program files third program trees source.trees in
+    meaning_or_blame base name files program blame source.no_offence source.few_cells source.light
+    (subst (λ (p : Program). IsMeaningBlame base name files p blame) same first)
+
+source_or_blame : (contents : Contents) (name : List ℕ) (base : List DbcMessage) (files : List SourceFile) (program : Program) (blame : Blame) →
+    IsSource contents name base files program → IsSourceBlame contents name base blame → ⊥
+source_or_blame contents name base files program blame source (inl first) = files_or_blame contents name files blame source.files_at first
+source_or_blame contents name base files program blame source (inr (others, at, first)) =
+    let same = one_files contents name others files at source.files_at in
+    program_or_blame contents name base files program blame source (subst (λ (f : List SourceFile). IsProgramBlame base name f blame) same first)
+
+-- ---- all inputs
+
+one_later_blame : (contents : Contents) (name : List ℕ) (scenario : Scenario) (node : NodeItem) (blame other : Blame) →
+    IsLaterBlame contents name scenario node blame → IsLaterBlame contents name scenario node other → blame ≡ other
+one_later_blame contents name scenario node blame other (inl one) (inl two) = one_base_blame contents name scenario.database blame other one two
+one_later_blame contents name scenario node blame other (inl one) (inr (base, at, two)) = absurd (base_or_blame contents name scenario.database base blame at one)
+one_later_blame contents name scenario node blame other (inr (base, at, one)) (inl two) = absurd (base_or_blame contents name scenario.database base other at two)
+one_later_blame contents name scenario node blame other (inr (base, at, one)) (inr (more, at_too, two)) =
+    let same = one_base contents name scenario.database base more at at_too in
+    one_source_blame contents (beside name node.file) more blame other (subst (λ (b : List DbcMessage). IsSourceBlame contents (beside name node.file) b blame) same one) two
+
+-- what comes behind a scenario rests on its database and its node alone
+abbrev IsBehind : Contents → List ℕ → Option (List ℕ) → List ℕ → Blame → Type 0
+IsBehind contents name database file blame =
+    IsBaseBlame contents name database blame
+    ⊎ ((base : List DbcMessage) × BaseAt contents name database base × IsSourceBlame contents (beside name file) base blame)
+
+moved_later : (contents : Contents) (name : List ℕ) (scenario other : Scenario) (node third : NodeItem) (blame : Blame) →
+    scenario.database ≡ other.database → node ≡ third → IsLaterBlame contents name scenario node blame → IsLaterBlame contents name other third blame
+moved_later contents name scenario other node third blame database same later =
+    subst (λ (n : NodeItem). IsBehind contents name other.database n.file blame) same
+    (subst (λ d. IsBehind contents name d node.file blame) database later)
+
+-- one blame is the first
+pub one_blame : (contents : Contents) (name : List ℕ) (blame other : Blame) → IsFirstBlame contents name blame → IsFirstBlame contents name other → blame ≡ other
+one_blame contents name blame other (inl one) (inl two) = one_scenario_blame contents name blame other one two
+one_blame contents name blame other (inl one) (inr (scenario, node, at, two)) = absurd (scenario_or_blame contents name scenario node blame at one)
+one_blame contents name blame other (inr (scenario, node, at, one)) (inl two) = absurd (scenario_or_blame contents name scenario node other at two)
+one_blame contents name blame other (inr (scenario, node, at, one)) (inr (scenario_too, node_too, at_too, two)) =
+    let same = one_scenario contents name scenario scenario_too node node_too at at_too in
+    let nodes = one_node contents name scenario scenario_too node node_too at at_too in
+    one_later_blame contents name scenario_too node_too blame other
+    (moved_later contents name scenario scenario_too node node_too blame same.database nodes one) two
+
+later_or_accepted : (contents : Contents) (name : List ℕ) (scenario : Scenario) (base : List DbcMessage) (files : List SourceFile) (program : Program) (blame : Blame) →
+    (is : AreAccepted contents name scenario base files program) → IsLaterBlame contents name scenario is.node blame → ⊥
+later_or_accepted contents name scenario base files program blame is (inl first) = base_or_blame contents name scenario.database base blame is.base_at first
+later_or_accepted contents name scenario base files program blame is (inr (more, at, first)) =
+    let same = one_base contents name scenario.database more base at is.base_at in
+    source_or_blame contents (beside name is.node.file) base files program blame is.source
+    (subst (λ (b : List DbcMessage). IsSourceBlame contents (beside name is.node.file) b blame) same first)
+
+-- accepted inputs have no blame
+pub not_both : (contents : Contents) (name : List ℕ) (scenario : Scenario) (base : List DbcMessage) (files : List SourceFile) (program : Program) (blame : Blame) →
+    AreAccepted contents name scenario base files program → IsFirstBlame contents name blame → ⊥
+not_both contents name scenario base files program blame is (inl first) = scenario_or_blame contents name scenario is.node blame is.scenario_at first
+not_both contents name scenario base files program blame is (inr (other, node, at, first)) =
+    let same = one_scenario contents name other scenario node is.node at is.scenario_at in
+    let nodes = one_node contents name other scenario node is.node at is.scenario_at in
+    later_or_accepted contents name scenario base files program blame is
+    (moved_later contents name other scenario node is.node blame same.database nodes first)
+
+moved_base : (contents : Contents) (name : List ℕ) (database other : Option (List ℕ)) (base : List DbcMessage) → database ≡ other → BaseAt contents name database base → BaseAt contents name other base
+moved_base contents name database other base same at = subst (λ d. BaseAt contents name d base) same at
+
+moved_files : (contents : Contents) (name : List ℕ) (node third : NodeItem) (files : List SourceFile) → node ≡ third → FilesAt contents (beside name node.file) files → FilesAt contents (beside name third.file) files
+moved_files contents name node third files same at = subst (λ (n : NodeItem). FilesAt contents (beside name n.file) files) same at
+
+-- accepted inputs are one scenario, with one database, and one program of files
+pub one_accepted : (contents : Contents) (name : List ℕ) (scenario other : Scenario) (base more : List DbcMessage) (files others : List SourceFile) (program third : Program) →
+    AreAccepted contents name scenario base files program → AreAccepted contents name other more others third →
+    SayTheSame scenario other × (base ≡ more) × (files ≡ others) × (program ≡ third)
+one_accepted contents name scenario other base more files others program third is also =
+    let same = one_scenario contents name scenario other is.node also.node is.scenario_at also.scenario_at in
+    let nodes = one_node contents name scenario other is.node also.node is.scenario_at also.scenario_at in
+    let bases = one_base contents name other.database base more
+    (moved_base contents name scenario.database other.database base same.database is.base_at) also.base_at in
+    let sources = one_files contents (beside name also.node.file) files others
+    (moved_files contents name is.node also.node files nodes is.source.files_at) also.source.files_at in
+    let trees = subst (λ (f : List SourceFile). AreTreesOf f program) sources is.source.trees in
+    (same, bases, sources, one_program others program third trees also.source.trees)

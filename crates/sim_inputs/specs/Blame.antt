@@ -1,0 +1,41 @@
+-- The rules that inputs may break, and which part of a file is to blame. They are this project's own.
+use Rattle.std.specs.Prelude.{◌≡◌, ◌<◌, ◌≤◌, ◌⊎◌, ℕ, List, length, Some, None}
+use Rattle.sim_outside.specs.declared.blame.Blame.{Blame}
+use Rattle.sim_outside.specs.declared.blame.Rule.{Rule}
+use Rattle.capl_include.specs.Blame.{file_blame, too_long_rule}
+use Rattle.capl_include.specs.Expansion.{Contents}
+
+-- F01: there is no file of the name
+abbrev pub missing_rule : Rule
+missing_rule = record { group = 70; number = 1 }
+
+-- N01: the program does not run such a scenario yet
+abbrev pub not_yet_rule : Rule
+not_yet_rule = record { group = 78; number = 1 }
+
+-- D01: a statement of a database has no spelling
+abbrev pub statement_rule : Rule
+statement_rule = record { group = 68; number = 1 }
+
+-- D02: an identifier or a name of a database stands for the second time
+abbrev pub twice_rule : Rule
+twice_rule = record { group = 68; number = 2 }
+
+-- a line of a file is to blame
+abbrev pub line_blame : List ℕ → ℕ → Rule → Blame
+line_blame name line rule = record { file = name; line = Some line; column = None; rule = rule }
+
+-- the blame, which shows no column
+abbrev pub without_column : Blame → Blame
+without_column blame = record blame { column = None }
+
+-- the file of a name is held, with at most so many bytes
+abbrev pub Holds : Contents → ℕ → List ℕ → List ℕ → Type 0
+Holds contents limit name text = (contents name ≡ Some text) × (length text ≤ limit)
+
+-- the file of a name is not held (F01), or has more bytes than it may (F02)
+abbrev pub IsFileBlame : Contents → ℕ → List ℕ → Blame → Type 0
+IsFileBlame contents limit name blame =
+    ((contents name ≡ None) × (blame ≡ file_blame name missing_rule))
+    ⊎ ((text : List ℕ) × (contents name ≡ Some text) × (limit < length text)
+    × (blame ≡ file_blame name too_long_rule))

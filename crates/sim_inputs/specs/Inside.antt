@@ -1,0 +1,3 @@
+-- What private functions mean. No public clause speaks of it.
+pub mod Agreement
+pub mod Compiled

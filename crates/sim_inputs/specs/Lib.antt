@@ -1,0 +1,10 @@
+-- The definitions of this crate.
+pub mod Accepted
+pub mod Answer
+pub mod Blame
+pub mod Code
+pub mod Database
+pub mod Inside
+pub mod Law
+pub mod Program
+pub mod Scenario

@@ -1,0 +1,68 @@
+// The scenario.
+
+ghost use Rattle.std.specs.Prelude.{◌≡◌, ◌<◌, ◌≤◌, ◌^◌, ◌⊎◌, ◌↔◌, length, IfOk, IfSome, IsErrOf, IsTrue};
+ghost use Rattle.scenario.specs.Scenario.{IsScenario};
+ghost use Rattle.scenario.specs.Within.{IsWithin};
+ghost use Rattle.scenario.specs.declared.scenario.NodeItem.{NodeItem};
+ghost use Rattle.sim_outside.specs.Fault.{HasRisen};
+ghost use Rattle.sim_inputs.specs.Answer.{IsTaken};
+ghost use Rattle.sim_inputs.specs.Inside.Agreement.{Agrees, Judges};
+ghost use Rattle.sim_inputs.specs.Scenario.{HasOneNode, IsLineBlame, IsNotYet, IsNotYetBlame, IsScenarioBlame, ScenarioAt};
+
+use crate::blames::{NOT_YET, blamed_file, blamed_line};
+use crate::files::read_text;
+use crate::refusal::InputRefusal;
+use scenario::{Scenario, ScenarioRefusal, read};
+use sim_outside::{Files, Text};
+use std::alloc::Global;
+
+/// The most bytes of a scenario.
+const SCENARIO_LIMIT: usize = 1 << 20;
+
+/// The scenario of this name, which has one node and replays no log.
+pub(crate) fn read_scenario<F: Files>(
+    alloc: Global,
+    name: &Text,
+    files: &mut F,
+) -> Result<Scenario, InputRefusal>
+    ensures told { IfSome (F.held files.old) (λ contents.
+        Agrees (λ scenario. (node : NodeItem) × ScenarioAt contents name.now scenario node)
+        (IsScenarioBlame contents name.now) result) }
+    ensures taken { IfOk result IsTaken }
+    ensures within { IfOk result IsWithin }
+    ensures failed { IsErrOf result InputRefusal.Failed → HasRisen (F.faults files.old) (F.faults files.new) }
+    ensures faults_stay { F.faults files.old ≤ F.faults files.new }
+    ensures contents_stay { F.held files.new ≡ F.held files.old }
+{
+    let text = read_text(alloc, name, SCENARIO_LIMIT, files)?;
+    let scenario = scenario_of(alloc, name, &text)?;
+    Ok(scenario)
+}
+
+/// The scenario that the text of this file is.
+fn scenario_of(alloc: Global, name: &Text, text: &[u8]) -> Result<Scenario, InputRefusal>
+    requires { length text.now < 2 ^ 32 }
+    ensures judged { Judges
+        (λ scenario. IsScenario text.now scenario × ((node : NodeItem) × HasOneNode scenario node))
+        (λ blame. IsLineBlame text.now name.now blame ⊎ IsNotYetBlame text.now name.now blame) result }
+    ensures within { IfOk result IsWithin }
+{
+    let scenario = match read(alloc, text) {
+        Ok(scenario) => scenario,
+        Err(ScenarioRefusal::Broken { line, rule }) => {
+            return Err(blamed_line(alloc, name.bytes(), line, rule));
+        }
+        Err(ScenarioRefusal::NoMemory) => return Err(InputRefusal::NoMemory),
+    };
+    if is_not_yet(&scenario) {
+        return Err(blamed_file(alloc, name, NOT_YET));
+    }
+    Ok(scenario)
+}
+
+/// Whether the scenario is one that the program does not run yet.
+fn is_not_yet(scenario: &Scenario) -> bool
+    ensures { IsTrue result ↔ IsNotYet scenario.now }
+{
+    scenario.replay.is_some() || scenario.nodes.len() > 1
+}
