@@ -4,6 +4,7 @@
 
 use sim_outside::{RealFiles, RealSink};
 use sim_run::simulate;
+use stack_vm::Meter;
 use std::process::ExitCode;
 use std::rt::Env;
 use std::{env, io};
@@ -20,7 +21,8 @@ fn main(rt: HostRuntime) -> ExitCode {
         Ok(words) => {
             let mut files = RealFiles::new(&rt);
             let mut out = RealSink::new(&rt);
-            let status = simulate(rt.alloc(), &words, &mut files, &mut out);
+            let mut meter = Meter::new(rt.alloc());
+            let status = simulate(rt.alloc(), &words, &mut files, &mut out, &mut meter);
             ExitCode::from(status.number())
         }
         Err(error) => ExitCode::from(match error.kind() {

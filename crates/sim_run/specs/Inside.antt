@@ -1,6 +1,4 @@
 -- What private functions mean. No public clause speaks of it.
 pub mod Answer
-pub mod Cursor
-pub mod Fields
-pub mod Inputs
-pub mod Table
+pub mod Ran
+pub mod Prints

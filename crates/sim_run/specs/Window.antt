@@ -1,18 +1,21 @@
--- The window of a source: the lines of the texts that its node writes, in order (CAPL manual, write).
-use Rattle.std.specs.Prelude.{ℕ, List, []}
+-- The window of a run: the lines that its node wrote, in order (CAPL manual, write).
+use Rattle.std.specs.Prelude.{ℕ, List, [], ◌∷◌}
 use Rattle.std.specs.List.{flat_map}
-use Rattle.sim_run.specs.declared.form.tree.FileTree.{FileTree}
-use Rattle.sim_run.specs.declared.form.tree.FileTree.TheVariants.{Empty, Start}
-use Rattle.sim_run.specs.declared.form.tree.Statement.{Statement}
-use Rattle.sim_run.specs.declared.form.tree.Statement.TheVariants.{Write, Output}
+use Rattle.vm_host.specs.declared.record.Noted.{Noted}
+use Rattle.vm_host.specs.declared.record.Noted.TheVariants as entry
+use Rattle.scenario.specs.declared.scenario.NodeItem.{NodeItem}
 use Rattle.sim_text.specs.Window.{window_line}
 
--- the line of a statement, if it has one: it is of the start of the measurement
-abbrev pub statement_line : List ℕ → Statement → List ℕ
-statement_line node (Write text) = window_line 0 node text
-statement_line node (Output name) = []
+-- the line of an entry, if it is of the window, under the node's name
+abbrev pub window_entry : List ℕ → Noted → List ℕ
+window_entry name (entry.Line now node text) = window_line now name text
+window_entry name (entry.Frame now frame) = []
 
--- the lines of a source, in order
-abbrev pub window_of : List ℕ → FileTree → List ℕ
-window_of node Empty = []
-window_of node (Start variables statements) = flat_map (statement_line node) statements
+-- the lines of entries, in order
+abbrev pub window_of : List ℕ → List Noted → List ℕ
+window_of name entries = flat_map (window_entry name) entries
+
+-- the name of the first of some nodes
+abbrev pub first_name : List NodeItem → List ℕ
+first_name [] = []
+first_name (node ∷ nodes) = node.name

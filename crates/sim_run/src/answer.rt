@@ -1,47 +1,56 @@
 // The top call.
 
-ghost use Rattle.std.specs.Prelude.{◌≡◌, ◌≤◌, ◌↔◌, ◌⊎◌, List, ℕ, Some, IsErrOf, map, string_bytes};
+ghost use Rattle.std.specs.Prelude.{◌≡◌, ◌↔◌, ◌⊎◌, List, [], ℕ, Some, IsErrOf, map, string_bytes};
 ghost use Rattle.sim_outside.specs.Fault.{HasRisen};
-ghost use Rattle.sim_outside.specs.Sink.{GrowsBy, GrowsByPrefix, Writes};
-ghost use Rattle.sim_run.specs.Answer.{IsAnswer, Prints};
+ghost use Rattle.sim_outside.specs.Sink.{GrowsBy, Writes};
+ghost use Rattle.capl_include.specs.Expansion.{Contents};
+ghost use Rattle.scenario.specs.Within.{IsWithin};
+ghost use Rattle.stack_vm.specs.declared.meter.MeterRow.{MeterRow};
+ghost use Rattle.sim_inputs.specs.Answer.{IsTaken};
+ghost use Rattle.sim_run.specs.Answer.{IsAnswer, IsBegun, printed};
 ghost use Rattle.sim_run.specs.Command.{IsNoCommand};
-ghost use Rattle.sim_run.specs.Inputs.{Contents};
 ghost use Rattle.sim_run.specs.Inside.Answer.{status_after};
+ghost use Rattle.sim_run.specs.Inside.Prints.{PrintsRun};
 ghost use Rattle.sim_run.specs.declared.status.Status.{Status};
 
 use crate::blame::write_blame;
 use crate::command::{Command, command_of};
-use crate::inputs::{InputRefusal, Inputs, read_inputs};
-use crate::log::write_log;
-use crate::scenario::DAY;
+use crate::log::{first_second, write_log};
+use crate::run::run_node;
 use crate::status::Status;
 use crate::window::write_window;
+use scenario::Scenario;
+use sim_inputs::{InputRefusal, Inputs, read_inputs};
 use sim_outside::{Files, Sink, SinkRefusal, Text};
+use stack_vm::Meter;
 use std::alloc::Global;
+use vm_host::Noted;
 
 /// Runs the command that the words are, over these files, and writes the answer.
 ///
-/// `window NAME` writes one line for each text that the node of the scenario NAME writes, and
-/// `log NAME` one line for each frame on the bus up to the end moment. Takes time and memory linear
-/// in the bytes of the scenario and the source, and for `log` time that grows with the square of the
-/// number of frames that the node requests.
+/// `window NAME` writes one line for each text that the node of the scenario NAME writes, and `log NAME`
+/// one line for each frame that leaves the wire, up to the end moment. The meter, which has no rows, gets
+/// one for each event procedure of the node, in program order. What is written waits in memory for the
+/// end of the run.
 pub fn simulate<F: Files, S: Sink>(
     alloc: Global,
     words: &[String],
     files: &mut F,
     out: &mut S,
+    meter: &mut Meter,
 ) -> Status
-    // The whole answer, where it was written to its end.
+    requires { meter.old ≡ [] }
+
+    // The whole answer, where it was written to its end, with its rows.
     ensures whole { (contents : Contents) → F.held files.old ≡ Some contents →
         (result ≡ Status.Done) ⊎ (result ≡ Status.Refused) →
-        (bytes : List ℕ) × IsAnswer contents (map string_bytes words.now) result bytes
+        (bytes : List ℕ) × IsAnswer contents (map string_bytes words.now) result bytes meter.new
         × GrowsBy (S.written out.old) (S.written out.new) bytes }
 
-    // After a fault a beginning of it, and nothing where a read failed.
+    // After a fault nothing was written, or a beginning of the answer; nothing where a read failed.
     ensures prefix { (contents : Contents) → F.held files.old ≡ Some contents →
         (result ≡ Status.WriteFault) ⊎ (result ≡ Status.OutOfMemory) →
-        (status : Status) → (bytes : List ℕ) → IsAnswer contents (map string_bytes words.now) status bytes →
-        GrowsByPrefix (S.written out.old) (S.written out.new) bytes }
+        IsBegun contents (map string_bytes words.now) (S.written out.old) (S.written out.new) }
     ensures nothing_after_read_fault { result ≡ Status.ReadFault → S.written out.new ≡ S.written out.old }
 
     // Words that are no command touch nothing.
@@ -49,13 +58,18 @@ pub fn simulate<F: Files, S: Sink>(
     ensures usage_reads_nothing { result ≡ Status.Usage → files.new ≡ files.old }
     ensures usage_writes_nothing { result ≡ Status.Usage → out.new ≡ out.old }
 
+    // Where nothing was run there are no rows.
+    ensures no_rows { (result ≡ Status.Usage) ⊎ (result ≡ Status.Refused) ⊎ (result ≡ Status.ReadFault) →
+        meter.new ≡ [] }
+
     // Each fault has its cause.
     ensures read_fault { result ≡ Status.ReadFault → HasRisen (F.faults files.old) (F.faults files.new) }
     ensures write_fault { result ≡ Status.WriteFault → HasRisen (S.faults out.old) (S.faults out.new) }
 
     // With no cause for another status the answer is written, where there is memory.
     ensures complete { (contents : Contents) → F.held files.old ≡ Some contents →
-        (bytes : List ℕ) → IsAnswer contents (map string_bytes words.now) Status.Done bytes →
+        (bytes : List ℕ) → (rows : List MeterRow) →
+        IsAnswer contents (map string_bytes words.now) Status.Done bytes rows →
         ¬ HasRisen (F.faults files.old) (F.faults files.new) →
         ¬ HasRisen (S.faults out.old) (S.faults out.new) →
         (result ≡ Status.Done) ⊎ (result ≡ Status.OutOfMemory) }
@@ -67,7 +81,7 @@ pub fn simulate<F: Files, S: Sink>(
         return Status::OutOfMemory;
     };
     match read_inputs(alloc, &name, files) {
-        Ok(inputs) => status_after(Status::Done, write_output(alloc, command, &inputs, out)),
+        Ok(inputs) => status_after(Status::Done, write_run(alloc, command, inputs, out, meter)),
         Err(InputRefusal::Blamed(blame)) => {
             status_after(Status::Refused, write_blame(alloc, &blame, out))
         }
@@ -76,23 +90,46 @@ pub fn simulate<F: Files, S: Sink>(
     }
 }
 
-/// Writes what the command prints.
-fn write_output<S: Sink>(
+/// Runs the node of the inputs, and then writes what the command prints.
+fn write_run<S: Sink>(
     alloc: Global,
     command: Command,
-    inputs: &Inputs,
+    inputs: Inputs,
     out: &mut S,
+    meter: &mut Meter,
 ) -> Result<(), SinkRefusal>
-    requires { inputs.now.scenario.until ≤ DAY }
-    ensures grows { (bytes : List ℕ) → Prints command inputs.now.scenario inputs.now.source bytes →
-        Writes (S.written out.old) (S.written out.new) bytes result }
+    requires within { IsWithin inputs.scenario }
+    requires taken { IsTaken inputs.scenario }
+    requires no_rows { meter.old ≡ [] }
+    ensures prints { PrintsRun command inputs (S.written out.old) (S.written out.new) meter.new result }
     ensures failed { IsErrOf result SinkRefusal.Failed → HasRisen (S.faults out.old) (S.faults out.new) }
 {
-    let scenario = &inputs.scenario;
-    let source = &inputs.source;
+    let Inputs { scenario, code } = inputs;
+    let noted = run_node(alloc, &scenario, code, meter)?;
+    write_entries(alloc, command, &scenario, noted.noted(), out)?;
+    Ok(())
+}
+
+/// Writes what the command prints of the entries of a run.
+fn write_entries<S: Sink>(
+    alloc: Global,
+    command: Command,
+    scenario: &Scenario,
+    entries: &[Noted],
+    out: &mut S,
+) -> Result<(), SinkRefusal>
+    requires within { IsWithin scenario.now }
+    requires taken { IsTaken scenario.now }
+    ensures grows { Writes (S.written out.old) (S.written out.new)
+        (printed command scenario.now entries.now) result }
+    ensures failed { IsErrOf result SinkRefusal.Failed → HasRisen (S.faults out.old) (S.faults out.new) }
+{
     match command {
-        Command::Window => write_window(alloc, scenario.node.bytes(), &source.tree, out),
-        Command::Log => write_log(alloc, scenario.until, source.frames.as_slice(), out),
+        Command::Window => write_window(alloc, scenario.nodes[0].name.bytes(), entries, out),
+        Command::Log => {
+            let first = first_second(scenario.epoch);
+            write_log(alloc, first, scenario.interface.bytes(), entries, out)
+        }
     }
 }
 

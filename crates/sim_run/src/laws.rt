@@ -2,29 +2,35 @@
 
 ghost use Rattle.std.specs.Prelude.{◌≡◌, ◌<◌, ◌≤◌, ◌^◌, List, ℕ, decimal};
 ghost use Rattle.sim_run.specs.Answer.{IsAnswer};
-ghost use Rattle.sim_run.specs.Form.Spelling.{spelling};
+ghost use Rattle.sim_run.specs.Command.{IsCommand};
+ghost use Rattle.sim_run.specs.declared.command.Command.{Command};
+ghost use Rattle.sim_inputs.specs.Accepted.{AreAccepted};
+ghost use Rattle.scenario.specs.declared.scenario.Scenario.{Scenario};
+ghost use Rattle.dbc_reader.specs.declared.message.DbcMessage.{DbcMessage};
+ghost use Rattle.capl_tree.specs.declared.file.Program.{Program};
+ghost use Rattle.capl_include.specs.declared.expanded.SourceFile.{SourceFile};
 ghost use Rattle.text_parts.specs.Digits.{IsNumeral, zero_filled};
-ghost use Rattle.sim_run.specs.Inputs.{Contents};
-ghost use Rattle.sim_run.specs.declared.form.tree.FileTree.{FileTree};
+ghost use Rattle.stack_vm.specs.declared.meter.MeterRow.{MeterRow};
+ghost use Rattle.capl_include.specs.Expansion.{Contents};
 ghost use Rattle.sim_run.specs.declared.status.Status.{Status};
 
-/// Words have one answer over what the files hold.
+/// Words have at most one answer over what the files hold.
 pub fn one_answer()
-    ensures at_most_one { (contents : Contents) (words : List (List ℕ)) (status other : Status)
-        (bytes more : List ℕ) → IsAnswer contents words status bytes → IsAnswer contents words other more →
-        (status ≡ other) × (bytes ≡ more) }
-    // That there is none leads to a contradiction.
-    ensures not_none { (contents : Contents) (words : List (List ℕ)) →
-        ((status : Status) (bytes : List ℕ) → IsAnswer contents words status bytes → ⊥) → ⊥ }
+    ensures { (contents : Contents) (words : List (List ℕ)) (status other : Status)
+        (bytes more : List ℕ) (rows others : List MeterRow) → IsAnswer contents words status bytes rows →
+        IsAnswer contents words other more others → (status ≡ other) × (bytes ≡ more) × (rows ≡ others) }
+{}
+
+/// Accepted inputs of a command have an answer: their source has a run.
+pub fn accepted_inputs_have_an_answer()
+    ensures { (contents : Contents) (words : List (List ℕ)) (command : Command) (name : List ℕ)
+        (scenario : Scenario) (base : List DbcMessage) (files : List SourceFile) (program : Program) →
+        IsCommand words command name → AreAccepted contents name scenario base files program →
+        (bytes : List ℕ) × (rows : List MeterRow) × IsAnswer contents words Status.Done bytes rows }
 {}
 
 /// What the lines have of a number in decimal digits is a numeral that stands for it.
 pub fn numbers_are_numerals()
     ensures { (least number : ℕ) → 1 ≤ least → number < 2 ^ 64 →
         IsNumeral least number (zero_filled least (decimal number)) }
-{}
-
-/// Tokens spell at most one tree of the form that the program takes.
-pub fn one_tree()
-    ensures { (one other : FileTree) → spelling one ≡ spelling other → one ≡ other }
 {}

@@ -1,85 +1,72 @@
-// Running the bus and writing its log.
+// The log: the frames that left the wire.
 
-ghost use Rattle.std.specs.Prelude.{◌≡◌, ◌≤◌, ◌^◌, IfOk, IsErrOf, List};
-ghost use Rattle.can_bus.specs.Bus.{ended};
+ghost use Rattle.std.specs.Prelude.{◌≡◌, ◌≤◌, IsErrOf};
 ghost use Rattle.sim_outside.specs.Fault.{HasRisen};
 ghost use Rattle.sim_outside.specs.Sink.{Writes};
-ghost use Rattle.sim_run.specs.Log.{LogEntry, Logs, after_start, after_instant, entries_at, log_of};
+ghost use Rattle.scenario.specs.Within.{IsEpochWithin};
+ghost use Rattle.sim_run.specs.Log.{first_second, log_entry, log_of};
 
-use bus_heap::HeapBus;
-use can_bus::Bus;
-use can_frame::Frame;
 use log_line::write_line;
-use sim_outside::{NoMemory, Sink, SinkRefusal};
+use scenario::Epoch;
+use sim_outside::{Sink, SinkRefusal};
 use std::alloc::Global;
-
-// The microseconds of a bit at 500,000 bits a second.
-const BIT_MICROS: u32 = 2;
+use vm_host::Noted;
 
 const MICROS_PER_SECOND: u64 = 1_000_000;
 
-// The interface in the log's lines.
-const INTERFACE: &[u8] = b"can0";
+/// The second at which the measurement begins, where no log is replayed.
+pub(crate) fn first_second(epoch: Epoch) -> u64
+    requires { IsEpochWithin epoch }
+    ensures value { result ≡ first_second epoch }
+    ensures within { result ≤ 4294967295 }
+{
+    match epoch {
+        Epoch::At(seconds) => seconds,
+        Epoch::First => 0,
+    }
+}
 
-// The number of the one node on the bus.
-const NODE: u32 = 0;
-
-/// Runs the bus on the frames that the node requests at the start, up to the end moment, and writes
-/// the line of each frame when it ends. Each frame takes time logarithmic in the number of those that wait.
+/// Writes the lines of the entries that are of the log, on this interface, in seconds from the first one
+/// on. Takes time and memory linear in them.
 pub(crate) fn write_log<S: Sink>(
     alloc: Global,
-    until: u64,
-    frames: &[Frame],
+    first: u64,
+    interface: &[u8],
+    entries: &[Noted],
     out: &mut S,
 ) -> Result<(), SinkRefusal>
-    requires { until ≤ 2 ^ 63 }
-    ensures grows { (entries : List LogEntry) → Logs until (after_start frames.now) entries →
-        Writes (S.written out.old) (S.written out.new) (log_of entries) result }
+    requires { first ≤ 4294967295 }
+    ensures grows { Writes (S.written out.old) (S.written out.new)
+        (log_of first interface.now entries.now) result }
     ensures failed { IsErrOf result SinkRefusal.Failed → HasRisen (S.faults out.old) (S.faults out.new) }
 {
-    let mut bus = start(alloc, frames)?;
-    while let Some(now) = bus.next_time() {
-        if now > until {
-            break;
-        }
-        write_instant(alloc, &mut bus, now, out)?;
+    for entry in entries {
+        write_entry(alloc, first, interface, entry, out)?;
     }
     Ok(())
 }
 
-/// The bus after the requests of the start and the first arbitration.
-fn start(alloc: Global, frames: &[Frame]) -> Result<HeapBus, NoMemory>
-    ensures { IfOk result (λ bus. bus ≡ after_start frames.now) }
-{
-    let mut bus = HeapBus::make(alloc, BIT_MICROS);
-    for frame in frames {
-        bus.request(NODE, frame)?;
-    }
-    bus.arbitrate(0);
-    Ok(bus)
-}
-
-/// Does an instant of the bus, and writes the line of the frame that ends, if one does.
-fn write_instant<S: Sink>(
+/// Writes the line of an entry, if it is of the log.
+fn write_entry<S: Sink>(
     alloc: Global,
-    bus: &mut HeapBus,
-    now: u64,
+    first: u64,
+    interface: &[u8],
+    entry: &Noted,
     out: &mut S,
 ) -> Result<(), SinkRefusal>
-    requires { now ≤ 2 ^ 63 }
-    ensures bus { bus.new ≡ after_instant bus.old now }
+    requires { first ≤ 4294967295 }
     ensures grows { Writes (S.written out.old) (S.written out.new)
-        (log_of (entries_at now (ended bus.old now))) result }
+        (log_entry first interface.now entry.now) result }
     ensures failed { IsErrOf result SinkRefusal.Failed → HasRisen (S.faults out.old) (S.faults out.new) }
     ensures faults_stay { S.faults out.old ≤ S.faults out.new }
 {
-    let ended = bus.finish(now);
-    bus.arbitrate(now);
-    let Some(ended) = ended else {
-        return Ok(());
-    };
-    let seconds = now / MICROS_PER_SECOND;
-    let micros = (now % MICROS_PER_SECOND) as u32;
-    let line = write_line(alloc, seconds, micros, INTERFACE, &ended.frame)?;
-    out.write(line.bytes())
+    match entry {
+        Noted::Line { .. } => Ok(()),
+        Noted::Frame { now, frame } => {
+            let seconds = *now / MICROS_PER_SECOND + first;
+            let micros = (*now % MICROS_PER_SECOND) as u32;
+            let line = write_line(alloc, seconds, micros, interface, frame)?;
+            out.write(line.bytes())
+        }
+    }
 }

@@ -2,6 +2,7 @@
 
 use crate::{Status, laws, simulate};
 use sim_outside::{MemFiles, MemSink, Text};
+use stack_vm::Meter;
 use std::alloc::Global;
 use std::process::Abort;
 use std::test::Fail;
@@ -69,14 +70,23 @@ fn runs_end_and_write_as_they_must(rt: HostRuntime) -> Result<(), Fail> {
     let runs = [
         window(hello, Status::Done, "w 0.000000 N hello\n"),
         window("", Status::Done, ""),
+        window("on start {", Status::Refused, "refused n.can E02\n"),
         window(
-            "on start { stop(); }",
+            "on start {\n  x = 1; }",
             Status::Refused,
-            "refused n.can N01\n",
+            "refused n.can:2 E09\n",
         ),
         Run {
             scenario: None,
+            ..window(hello, Status::Refused, "refused s.scn F01\n")
+        },
+        Run {
+            scenario: Some("scenario 1\nnode N n.can\nnode M n.can\n"),
             ..window(hello, Status::Refused, "refused s.scn N01\n")
+        },
+        Run {
+            source: None,
+            ..window(hello, Status::Refused, "refused n.can E07\n")
         },
         Run {
             words: &[],
@@ -102,21 +112,16 @@ fn frames_are_logged_as_the_bus_sends_them(rt: HostRuntime) -> Result<(), Fail> 
     let runs = [
         // The lower identifier goes first though it was asked for second.
         log(two, two_lines),
-        // A standard frame goes before an extended one of the same base bits.
-        log(
-            "variables { message 0x0x a = {dlc=0}; message 0x0 b = {dlc=0}; } \
-             on start { output(a); output(b); }",
-            "(0000000000.000100) can0 000#\n(0000000000.000248) can0 00000000#\n",
-        ),
-        // Data goes before remote.
-        log(
-            "variables { message 0x0 r = {dlc=0, rtr=1}; message 0x0 d = {dlc=0}; } \
-             on start { output(r); output(d); }",
-            "(0000000000.000100) can0 000#\n(0000000000.000200) can0 000#R\n",
-        ),
         Run {
             scenario: Some("scenario 1\nnode N n.can\nuntil 0\n"),
             ..log(two, "")
+        },
+        Run {
+            scenario: Some("scenario 1\nnode N n.can\nepoch 7\ninterface x\n"),
+            ..log(
+                two,
+                "(0000000007.000100) x 000#\n(0000000007.000200) x 001#\n",
+            )
         },
         Run {
             failing_writes: &[(2, 0)],
@@ -124,12 +129,36 @@ fn frames_are_logged_as_the_bus_sends_them(rt: HostRuntime) -> Result<(), Fail> 
             ..log(two, "(0000000000.000100) can0 000#\n")
         },
         window(two, Status::Done, ""),
-        Run {
-            status: Status::Refused,
-            ..log("on start { output(a); }", "refused n.can N01\n")
-        },
     ];
     check(&rt, &runs)
+}
+
+// The turns of the procedures stand in the meter's rows, in program order.
+#[test]
+fn procedures_are_counted(rt: HostRuntime) -> Result<(), Fail> {
+    let alloc = rt.alloc();
+    let source = "on start { int i; while (i < 3) i++; } on key 'a' { stop(); } on preStart { }";
+    let run = Run {
+        scenario: Some("scenario 1\nnode N n.can\nkey 1 a\nkey 2 a\n"),
+        ..window(source, Status::Done, "")
+    };
+    let mut sink = MemSink::new(alloc, Vec::new(alloc));
+    let mut meter = Meter::new(alloc);
+    let words = words(alloc, &run)?;
+    let status = simulate(
+        alloc,
+        &words,
+        &mut files(alloc, &run)?,
+        &mut sink,
+        &mut meter,
+    );
+    assert_eq!(rt; status, Status::Done);
+    assert_eq!(rt; meter.rows(), 3);
+    for (place, (runs, turns)) in [(1, 3), (1, 0), (1, 0)].iter().enumerate() {
+        let row = meter.row(place);
+        assert!(rt; row.is_some_and(|row| row.runs == *runs && row.turns == *turns));
+    }
+    Ok(())
 }
 
 /// Each run ends and writes as it must.
@@ -139,7 +168,9 @@ fn check(rt: &(impl AllocGlobal + Abort), runs: &[Run]) -> Result<(), Fail> {
         let mut files = files(alloc, run)?;
         let mut sink = MemSink::new(alloc, run.failing_writes.to_vec(alloc)?);
         let words = words(alloc, run)?;
-        assert_eq!(rt; simulate(alloc, &words, &mut files, &mut sink), run.status);
+        let mut meter = Meter::new(alloc);
+        let status = simulate(alloc, &words, &mut files, &mut sink, &mut meter);
+        assert_eq!(rt; status, run.status);
         assert_eq!(rt; sink.written(), run.written.as_bytes());
     }
     Ok(())
@@ -159,11 +190,15 @@ fn long_sources_are_refused(rt: HostRuntime) -> Result<(), Fail> {
         let mut files = MemFiles::new(entries, Vec::new(alloc));
         let mut sink = MemSink::new(alloc, Vec::new(alloc));
         let words = words(alloc, &window("", status, ""))?;
-        assert_eq!(rt; simulate(alloc, &words, &mut files, &mut sink), status);
+        let mut meter = Meter::new(alloc);
+        assert_eq!(rt;
+            simulate(alloc, &words, &mut files, &mut sink, &mut meter),
+            status
+        );
     }
     laws::one_answer();
+    laws::accepted_inputs_have_an_answer();
     laws::numbers_are_numerals();
-    laws::one_tree();
     Ok(())
 }
 
