@@ -1,5 +1,6 @@
 -- The lemmas of this crate.
 mod CalleeLemmas
+mod ComponentLemmas
 mod CountLemmas
 mod FormLemmas
 mod GraphLemmas

@@ -15,7 +15,7 @@ use Rattle.call_order.proofs.PlaceLemmas.{at_first, no_first}
 use Rattle.call_order.proofs.ReachLemmas.{found_has}
 
 -- numbers that rise are below each later one
-rise_far : (numbers : List ℕ) → Rise numbers → (d i : ℕ) → i + suc d < length numbers → slice_index numbers i < slice_index numbers (i + suc d)
+pub rise_far : (numbers : List ℕ) → Rise numbers → (d i : ℕ) → i + suc d < length numbers → slice_index numbers i < slice_index numbers (i + suc d)
 rise_far numbers rise zero i within =
     let same : i + 1 ≡ i + suc 0 = omega arith in
     subst (λ k. slice_index numbers i < slice_index numbers k) same (rise i (omega (arith, within)))

@@ -29,7 +29,7 @@ push_has [] x = (0, refl)
 push_has (z ∷ xs) x = let r = push_has xs x in (suc r.0, r.1)
 
 -- a flag that is set was set before, or is the one
-set_only : (flags : List Bool) (i place : ℕ) → slice_get (set flags i true) place ≡ Some true →
+pub set_only : (flags : List Bool) (i place : ℕ) → slice_get (set flags i true) place ≡ Some true →
     (slice_get flags place ≡ Some true) ⊎ (place ≡ i)
 set_only [] i place at = inl at
 set_only (f ∷ flags) zero zero at = inr refl

@@ -1,11 +1,12 @@
 -- The calls of a program, as code has them.
-use Rattle.std.specs.Prelude.{◌≡◌, ◌≢◌, ℕ, true, List, map, slice_get, slice_index, Some, AllPairs}
+use Rattle.std.specs.Prelude.{◌≡◌, ◌≢◌, ℕ, List, map, slice_get, slice_index, Some, AllPairs}
 use Rattle.capl_meaning.specs.Names.{Function, Names}
 use Rattle.capl_meaning.specs.Calls.{function_numbered}
 use Rattle.typed_source.specs.Expression.{place_in}
 use Rattle.typed_source.specs.Program.{HasEach, HasNoOther}
 use Rattle.call_order.specs.declared.calls.Calls.{Calls}
-use Rattle.call_order.specs.Graph.{AreCallees, AreRanked, rows_of}
+use Rattle.call_order.specs.Graph.{AreCallees, Rise, rows_of}
+use Rattle.call_order.specs.Components.{AreComponents}
 
 -- the order of the functions, by the numbers of their procedures
 abbrev pub order_of : Calls → List ℕ
@@ -35,4 +36,5 @@ pub record AreCallsOf (names : Names) (calls : Calls) : Type 0 where
       place_in (order_of calls) f.number ≡ Some (slice_index calls.places.items k)
   pub numbers : calls.numbers.items ≡ map (λ f. f.number) names.functions
   pub callees : AreCallees names (rows_of calls.callees.items)
-  pub ranked : calls.is_ranked ≡ true → AreRanked calls.places.items (rows_of calls.callees.items)
+  pub rising : Rise calls.numbers.items
+  pub components : AreComponents (rows_of calls.callees.items) calls.components

@@ -1,5 +1,5 @@
 -- Rows of a graph: what each place leads to.
-use Rattle.std.specs.Prelude.{◌≡◌, ℕ, ◌+◌, ◌<◌, ◌≤◌, Bool, true, List, length, map, slice_get, slice_index, Some}
+use Rattle.std.specs.Prelude.{◌≡◌, ℕ, ◌⊎◌, ◌+◌, ◌<◌, ◌≤◌, Bool, true, List, length, map, slice_get, slice_index, Some}
 use Rattle.std.specs.Global.{Vec}
 use Rattle.capl_meaning.specs.Names.{Names}
 use Rattle.call_order.specs.Callees.{callees, calls_of_all, functions_at}
@@ -48,3 +48,22 @@ AreApart places = (i j place : ℕ) → slice_get places i ≡ Some place → sl
 -- where each place of a list stands in it
 abbrev pub AreWhere : List ℕ → List ℕ → Type 0
 AreWhere where_ places = (k place : ℕ) → slice_get places k ≡ Some place → slice_index where_ place ≡ k
+
+-- by any number of steps a place leads to another, which so passes what the place passes and each step keeps
+abbrev pub Reaches : List (List ℕ) → ℕ → ℕ → Type 0
+Reaches rows from to = (test : ℕ → Bool) → Keeps rows test → test from ≡ true → test to ≡ true
+
+-- each marked place is reached from its root
+abbrev pub AreReached : List (List ℕ) → List ℕ → List Bool → Type 0
+AreReached rows roots marks =
+    (place : ℕ) → slice_get marks place ≡ Some true → Reaches rows (slice_index roots place) place
+
+-- each marked place reaches its root
+abbrev pub AreReaching : List (List ℕ) → List ℕ → List Bool → Type 0
+AreReaching rows roots marks =
+    (place : ℕ) → slice_get marks place ≡ Some true → Reaches rows place (slice_index roots place)
+
+-- what is marked was marked before, or is one of some
+abbrev pub IsMarked : List Bool → List Bool → (ℕ → Type 0) → Type 0
+IsMarked before after New =
+    (place : ℕ) → slice_get after place ≡ Some true → (slice_get before place ≡ Some true) ⊎ New place

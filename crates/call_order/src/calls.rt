@@ -1,14 +1,14 @@
 // The calls of a program.
 
-ghost use Rattle.std.specs.Prelude.{◌≡◌, IfOk, Some, false, slice_get, true};
+ghost use Rattle.std.specs.Prelude.{◌≡◌, ℕ, IfOk, MatchOption, Some, slice_get};
 ghost use Rattle.capl_meaning.specs.Names.{Function, Names, Scope};
-ghost use Rattle.capl_meaning.specs.Calls.{reaches};
 ghost use Rattle.capl_meaning.specs.Sort.{is_recursive};
 ghost use Rattle.typed_source.specs.Expression.{place_in};
 ghost use Rattle.call_order.specs.Calls.{AreCallsOf, indices_of, order_of};
 
+use crate::components::Components;
 use crate::depth::depth_first;
-use crate::ranks::{are_ranked, number_at};
+use crate::ranks::number_at;
 use crate::rows::{callees_of_all, count_of, is_among, numbers_at, numbers_of_all, rise, stand_at};
 use crate::search::{each_once, reached_from};
 use check_names::Names;
@@ -28,8 +28,8 @@ pub struct Calls {
     numbers: Vec<u32>,
     /// What each function calls, by places among the functions of the program.
     callees: Vec<Vec<u32>>,
-    /// Whether no function calls what stands behind it in the order.
-    is_ranked: bool,
+    /// The components of the calls.
+    components: Components,
 }
 
 impl Calls {
@@ -49,14 +49,19 @@ impl Calls {
         let indices = each_once(alloc, count, first.as_slice())?;
         let places = stand_at(alloc, count, indices.as_slice())?;
         let order = numbers_at(alloc, numbers.as_slice(), indices.as_slice())?;
-        let is_ranked = are_ranked(places.as_slice(), callees.as_slice());
+        let components = Components::build(
+            alloc,
+            callees.as_slice(),
+            indices.as_slice(),
+            places.as_slice(),
+        )?;
         Ok(Calls {
             order,
             indices,
             places,
             numbers,
             callees,
-            is_ranked,
+            components,
         })
     }
 
@@ -86,37 +91,37 @@ impl Calls {
 
     /// Whether a call is recursive that stands in the procedure of this number, and is of the function
     /// of this place among the functions of the program: whether that function reaches the procedure.
-    /// Takes constant time where no calls of the program go round and the call stands in the program,
-    /// but for the look-up of the number, and else time and memory linear in the calls of the program.
+    /// Takes constant time where the call stands in the program, but for the look-up of the number: the
+    /// function is then ranked below the procedure's, or of the same component, or the procedure is none
+    /// that can be called. Any other call is answered by a search, linear in the calls of the program.
     pub fn is_recursive(&self, alloc: Global, owner: u32, function: u32) -> Result<bool, NoMemory>
         ensures { (s : Scope) (f : Function) → AreCallsOf s.names self.now → s.owner ≡ owner →
             slice_get s.names.functions function ≡ Some f →
             IfOk result (λ answer. answer ≡ is_recursive s f) }
     {
-        if self.stands_before(function, owner) {
+        let Some(caller) = self.place_numbered(owner) else {
             return Ok(false);
+        };
+        if self.components.is_below(function as usize, caller) {
+            return Ok(false);
+        }
+        if self.components.are_joined(function as usize, caller) {
+            return Ok(true);
         }
         let found = reached_from(alloc, self.callees.as_slice(), function)?;
         Ok(is_among(self.numbers.as_slice(), found.as_slice(), owner))
     }
 
-    /// Whether no function calls what stands behind it in the order, and a function stands before the
-    /// function of this number.
-    fn stands_before(&self, function: u32, number: u32) -> bool
-        ensures { (names : Names) (f : Function) → AreCallsOf names self.now →
-            slice_get names.functions function ≡ Some f → result ≡ true →
-            reaches names f.number number ≡ false }
+    /// The place, among the functions of the program, of the function of this number, if there is one.
+    /// Takes time logarithmic in the functions.
+    fn place_numbered(&self, number: u32) -> Option<usize>
+        ensures { (names : Names) → AreCallsOf names self.now →
+            MatchOption result ((k : ℕ) → slice_get self.now.numbers.items k ≡ Some number → ⊥)
+            (λ place. slice_get self.now.numbers.items place ≡ Some number) }
     {
-        if !self.is_ranked {
-            return false;
+        match self.numbers.binary_search(&number) {
+            Ok(place) => Some(place),
+            Err(_) => None,
         }
-        let Ok(other) = self.numbers.binary_search(&number) else {
-            return false;
-        };
-        if other >= self.numbers.len() || self.numbers[other] != number {
-            return false;
-        }
-        let rank = number_at(self.places.as_slice(), function as usize);
-        rank < number_at(self.places.as_slice(), other)
     }
 }

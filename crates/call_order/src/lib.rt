@@ -9,8 +9,10 @@ pub use calls::Calls;
 
 mod builtin;
 mod calls;
+mod components;
 mod depth;
 mod expression;
+mod marks;
 mod ranks;
 mod rows;
 mod search;

@@ -2,7 +2,8 @@
 use Rattle.std.proofs.Common.{◌≡◌, ◌<◌, ◌∙◌, ℕ, List, ap, sym, subst, length}
 use Rattle.std.specs.Global.{Vec}
 use Rattle.std.specs.Prelude.{map, slice_index}
-use Rattle.call_order.specs.Graph.{AreApart, AreRanked, AreWhere, Rise, rows_of}
+use Rattle.call_order.specs.Graph.{AreApart, AreWhere, Rise, rows_of}
+use Rattle.call_order.specs.Components.{AreComponents}
 use Rattle.call_order.proofs.OrderLemmas.{IsMade, at_order, functions_apart, functions_numbered, order_each, order_no_other, order_once, order_place}
 use Rattle.call_order.proofs.calls.Calls.build.Goals as goal
 
@@ -38,8 +39,7 @@ returns c =
       places = order_place names numbers indices order c.in_ok-places.places.items made where_;
       numbers = c.in_ok-numbers.ensures;
       callees = c.in_ok-callees.ensures;
-      ranked = λ is.
-          subst (λ (l : List ℕ). AreRanked l (rows_of c.in_ok-callees.callees.items)) c.as_slice-8.ensures.value
-          (subst (λ (l : List (Vec ℕ)). AreRanked c.as_slice-8.result.now (rows_of l)) c.as_slice-9.ensures.value
-          (c.are_ranked-is_ranked.ensures is));
+      rising = rising;
+      components = subst (λ (l : List (Vec ℕ)). AreComponents (rows_of l) c.in_ok-components.components) c.as_slice-8.ensures.value
+          c.in_ok-components.ensures;
     }

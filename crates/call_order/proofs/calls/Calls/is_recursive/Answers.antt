@@ -1,17 +1,38 @@
--- What is known by the order, and else by a search.
+-- What is known by the numbers, by the ranks and by the components, and else by a search.
 use Rattle.std.proofs.Common.{◌≡◌, ◌==◌, ◌∙◌, ℕ, List, ap, sym, subst, true, false, length}
 use Rattle.std.specs.Prelude.{slice_index}
 use Rattle.std.specs.List.{list_any}
 use Rattle.std.specs.Option.{option_map_or}
 use Rattle.capl_meaning.specs.Calls.{reaches}
 use Rattle.call_order.specs.Graph.{AllPass, IsClosed, Keeps, rows_of}
-use Rattle.call_order.proofs.GraphLemmas.{reached_keeps, reached_place, search_answer}
+use Rattle.call_order.proofs.ComponentLemmas.{not_reached, reached_number}
+use Rattle.call_order.proofs.GraphLemmas.{before_false, reached_keeps, reached_place, search_answer}
 use Rattle.call_order.proofs.ReachLemmas.{itself}
 use Rattle.call_order.proofs.calls.Calls.is_recursive.Goals as goal
 
-pub returns-then-stands_before : goal.returns-then-stands_before
-returns-then-stands_before c = λ s f are owner at.
-    sym (ap (reaches s.names f.number) owner ∙ c.stands_before.ensures s.names f are at c.if-stands_before.true)
+pub returns-in_default : goal.returns-in_default
+returns-in_default c = λ s f are owner at.
+    sym (ap (reaches s.names f.number) owner
+    ∙ not_reached s.names c.args.self.now.numbers.items c.args.function f c.args.owner are.numbers at (c.in_default.ensures s.names are))
+
+pub returns-then-is_below : goal.returns-then-is_below
+returns-then-is_below c = λ s f are owner at.
+    let calls = c.args.self.now in
+    let rows = rows_of calls.callees.items in
+    let here = c.in-Some.ensures s.names are in
+    let low = c.is_below.ensures rows are.components c.if-is_below.true in
+    sym (ap (reaches s.names f.number) owner
+    ∙ before_false s.names rows calls.components.ranks.items calls.numbers.items c.args.function f c.in-Some.caller c.args.owner
+    are.callees are.numbered low.0 are.numbers are.apart at here low.1)
+
+pub returns-then-are_joined : goal.returns-then-are_joined
+returns-then-are_joined c = λ s f are owner at.
+    let calls = c.args.self.now in
+    let rows = rows_of calls.callees.items in
+    let here = c.in-Some.ensures s.names are in
+    sym (ap (reaches s.names f.number) owner
+    ∙ reached_number s.names rows calls.numbers.items c.args.function f c.in-Some.caller c.args.owner are.callees are.numbered
+    are.numbers at here (c.are_joined.ensures rows are.components c.if-are_joined.true))
 
 pub returns : goal.returns
 returns c = λ s f are owner at.
