@@ -1,7 +1,9 @@
 -- Constants, as they are evaluated in one pass, and the table of const integers.
 use Rattle.std.specs.Prelude.{◌≡◌, ℕ, ◌==◌, Bool, true, false, not, ◌&&◌, ◌||◌, if◌then◌else◌, nat_lt, List, find, map, is_some, Option, Some, None, IfSome, ℤ, pos}
-use Rattle.std.specs.Map.{lookup}
+use Rattle.std.specs.BTreeMap as btree
 use Rattle.std.specs.Option.{option_map}
+use Rattle.std.specs.Ordering.{nat_cmp, ordering_then}
+use Rattle.std.specs.declared.cmp.Ordering.{Ordering}
 use Rattle.int_kinds.specs.declared.kinds.Kind.{Kind}
 use Rattle.int_kinds.specs.declared.kinds.Kind.TheVariants.{Char, Long}
 use Rattle.int_kinds.specs.declared.operators.BinOp.{BinOp}
@@ -23,9 +25,13 @@ use Rattle.check_sorts.specs.declared.values.ValueTable.{ValueTable}
 
 -- ---- the table
 
+-- places in order: by file, and then by token
+abbrev pub place_cmp : ℕ × ℕ → ℕ × ℕ → Ordering
+place_cmp = λ a b. ordering_then (nat_cmp a.0 b.0) (nat_cmp a.1 b.1)
+
 -- the value that a table has for the const integer whose name stands at a token of a file
 abbrev pub held : ValueTable → ℕ → ℕ → Option ℤ
-held table file token = lookup (λ key. file == key.0 && token == key.1) table.values.entries
+held table file token = btree.get place_cmp table.values (file, token)
 
 -- a place is before another
 abbrev pub precedes : ℕ → ℕ → ℕ → ℕ → Bool

@@ -61,7 +61,8 @@ impl<'c> Known<'c> {
         }
     }
 
-    /// An expression, or None where it is no constant. Takes time linear in it, and no memory.
+    /// An expression, or None where it is no constant. Takes time linear in it, for each name in it also
+    /// logarithmic in the values, and no memory.
     pub(crate) fn evaluate(&self, scope: &Scope, e: &Expr) -> Option<Evaluated>
         requires { AreNumbers (known_at self.now) }
         ensures same { result ≡ evaluated (known_at self.now) (scope_in scope.now) e.now }

@@ -203,8 +203,8 @@ fn lengths_of(alloc: Global, table: &ValueTable, names: &Names) -> Result<Vec<u3
 }
 
 impl Constants {
-    /// The constants of a program. Takes time linear in the initialisers of its const integers and the
-    /// sizes of its arrays, and memory linear in the number of its variables.
+    /// The constants of a program. Takes time n log n in the initialisers of its const integers and the
+    /// sizes of its arrays, but for names of one hash, and memory linear in the number of its variables.
     pub fn build(alloc: Global, names: &Names) -> Result<Constants, NoMemory>
         ensures { IfOk result (AreConstantsOf names.now) }
     {
@@ -214,7 +214,8 @@ impl Constants {
     }
 
     /// The value of a constant, by the const integers that are declared before a token; None where the
-    /// expression is no constant or divides by zero. Takes time linear in it, and no memory.
+    /// expression is no constant or divides by zero. Takes time linear in it, for each name in it also
+    /// logarithmic in the const integers, and no memory.
     pub fn constant_at(&self, scope: Scope, token: u32, e: &Expr) -> Option<i128>
         requires { AreConstantsOf scope.names.now self.now }
         ensures same { result ≡ constant_at (scope_in scope.entry) token e.now }

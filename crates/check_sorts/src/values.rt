@@ -5,14 +5,15 @@ ghost use Rattle.std.specs.Option.{option_or};
 ghost use Rattle.int_kinds.specs.Kind.{IsNumber};
 ghost use Rattle.check_sorts.specs.Constant.{held, is_within, known_at, precedes};
 
-use indexmap::IndexMap;
 use sim_outside::NoMemory;
 use std::alloc::Global;
+use std::collections::BTreeMap;
 
-/// Values by the file and the token of the names that have them. At each place the first stays.
+/// Values by the file and the token of the names that have them. At each place the first stays. They
+/// are kept in order and not hashed, since who writes a program chooses where its names stand.
 #[derive(Debug, Drop)]
 pub(crate) struct ValueTable {
-    values: IndexMap<(u32, u32), i128>,
+    values: BTreeMap<(u32, u32), i128>,
 }
 
 /// The values that are known at a place.
@@ -30,18 +31,18 @@ impl ValueTable {
         ensures { (file token : ℕ) → held result file token ≡ None }
     {
         ValueTable {
-            values: IndexMap::new(alloc),
+            values: BTreeMap::new(alloc),
         }
     }
 
-    /// The value at a place, or None where there is none.
+    /// The value at a place, or None where there is none. Takes time logarithmic in the values.
     pub(crate) fn value(&self, file: u32, token: u32) -> Option<i128>
         ensures { result ≡ held self.now file token }
     {
         self.values.get(&(file, token)).copied()
     }
 
-    /// Notes the value at a place, if none was noted there before.
+    /// Notes the value at a place, if none was noted there before. Takes time logarithmic in the values.
     pub(crate) fn note(&mut self, file: u32, token: u32, value: i128) -> Result<(), NoMemory>
         ensures { (f t : ℕ) → OnOk result (held self.new f t ≡
             option_or (held self.old f t) (if f == file && t == token then Some value else None)) }
