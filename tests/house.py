@@ -11,7 +11,8 @@ Of each crate, or of those that are named:
   impl, which have their trait's;
 - each definition of specs/, and each lemma of proofs/ that other files may use, has a
   comment line directly above it;
-- no file has more than 800 lines.
+- no file has more than 800 lines;
+- crates.txt lists with it only crates that its files name.
 
 Prints a line for each fault. The last line is 'N files, M faults'.
 """
@@ -124,10 +125,36 @@ def faults_of(path, part):
         yield from faults_of_definitions(lines, public_only=part == "proofs")
 
 
+def listed():
+    """What crates.txt lists with each crate."""
+    rows = (line.split("#")[0].partition(":") for line in (ROOT / "crates.txt").read_text(encoding="utf-8").split("\n"))
+    return {name.split()[0]: below.split() for name, _, below in rows if name.strip()}
+
+
+def is_named(below, texts):
+    """Whether some of the texts name a crate by a path."""
+    path = re.compile(rf"\bRattle\.{below}\b|\b{below}::|\buse {below}\b")
+    return any(path.search(text) for text in texts)
+
+
+def faults_of_list(name, below):
+    """The crates that are listed with a crate and not named in its files."""
+    folder = ROOT / "crates" / name
+    files = [path for part in ("src", "specs", "proofs") for path in (folder / part).rglob("*") if path.is_file()]
+    texts = [path.read_text(encoding="utf-8") for path in files]
+    for other in below:
+        if not is_named(other, texts):
+            yield f"crates.txt: {name} lists {other}, which none of its files names"
+
+
 def main():
     names = sys.argv[1:] or sorted(path.name for path in (ROOT / "crates").iterdir() if path.is_dir())
     files = faults = 0
+    lists = listed()
     for name in names:
+        for fault in faults_of_list(name, lists.get(name, [])):
+            faults += 1
+            print(fault)
         for part in ("src", "specs", "proofs"):
             folder = ROOT / "crates" / name / part
             for path in sorted(list(folder.rglob("*.rt")) + list(folder.rglob("*.antt"))):
