@@ -22,6 +22,4 @@ mod refusal;
 mod rule;
 mod shape;
 mod tables;
-#[cfg(test)]
-mod tests;
 mod verified;

@@ -17,5 +17,3 @@ mod ranks;
 mod rows;
 mod search;
 mod statement;
-#[cfg(test)]
-mod tests;

@@ -154,6 +154,3 @@ fn next_name(
     }
     Ok(Some(name))
 }
-
-#[cfg(test)]
-mod tests;

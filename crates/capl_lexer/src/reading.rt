@@ -75,6 +75,3 @@ fn keep(tokens: &mut Vec<Token>, token: Token) -> Result<(), LexRefusal>
     }
     Ok(())
 }
-
-#[cfg(test)]
-mod tests;

@@ -185,6 +185,3 @@ fn is_event_name(name: &[u8]) -> bool
         || name == b"stopMeasurement".as_slice()
         || name == b"key".as_slice()
 }
-
-#[cfg(test)]
-mod tests;

@@ -87,14 +87,3 @@ pub fn worked_procedures_end_so()
     ensures fills { ran [] fills 9 ≡ wrote (codes "[   ab][*  ]" ∷ []) 0 Done }
     ensures puts_signals { left two_messages puts_signals 9 ≡ Some signals_put }
 {}
-
-#[cfg(test)]
-mod tests {
-    #[test]
-    fn laws_can_be_called() {
-        super::one_first_offence();
-        super::sources_break_their_rules();
-        super::sources_at_the_edges();
-        super::worked_procedures_end_so();
-    }
-}

@@ -8,5 +8,3 @@ pub use scan::is_deeper_than;
 
 mod levels;
 mod scan;
-#[cfg(test)]
-mod tests;

@@ -14,5 +14,3 @@ mod parsing;
 mod part;
 mod refusal;
 mod statement;
-#[cfg(test)]
-mod tests;

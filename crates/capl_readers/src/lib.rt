@@ -24,12 +24,3 @@ pub fn one_tree()
     ensures { (tokens : List Tok) (one other : FileTree) →
         IsTreeOf tokens one → IsTreeOf tokens other → one ≡ other }
 {}
-
-#[cfg(test)]
-mod tests {
-    #[test]
-    fn laws_can_be_called() {
-        super::trees_are_read();
-        super::one_tree();
-    }
-}

@@ -18,6 +18,4 @@ mod expr;
 mod file;
 mod procedure;
 mod statement;
-#[cfg(test)]
-mod tests;
 mod weight;

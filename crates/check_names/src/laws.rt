@@ -23,12 +23,3 @@ pub fn named_offences_are_offences()
     ensures { (base : List DbcMessage) (program : Program) (offence : Offence) →
         Contains (named_offences base program) offence → Contains (offences_of base program) offence }
 {}
-
-#[cfg(test)]
-mod tests {
-    #[test]
-    fn laws_can_be_called() {
-        super::the_first_is_noted();
-        super::named_offences_are_offences();
-    }
-}

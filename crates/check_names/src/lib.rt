@@ -34,7 +34,5 @@ mod scope;
 mod seed;
 mod selector;
 mod table;
-#[cfg(test)]
-mod tests;
 mod variable;
 mod word;

@@ -8,9 +8,9 @@ use crate::function::DeclaredFunction;
 use crate::variable::Declared;
 use std::hash::{BuildHasher, DefaultHasher, Hasher};
 
-/// The hash of a program's tables: SipHash, begun with a number that hangs on all its names. So
-/// nobody can write a program whose names all fall into one place of a table, since each change of
-/// a name changes the hash of all.
+/// The hash of a program's tables: SipHash, begun with a number that hangs on all its names. Each
+/// change of a name changes the hash of all, so names that fall into one place of a table cannot be
+/// looked for one after another.
 #[derive(Clone, Copy, Debug, PartialEq, Eq)]
 pub(crate) struct Seed {
     number: u64,

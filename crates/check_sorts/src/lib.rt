@@ -26,7 +26,5 @@ mod message;
 mod scope;
 mod signals;
 mod sort;
-#[cfg(test)]
-mod tests;
 mod values;
 mod words;

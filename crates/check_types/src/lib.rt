@@ -12,6 +12,4 @@ mod checking;
 mod events;
 mod functions;
 mod handlers;
-#[cfg(test)]
-mod tests;
 mod typed;

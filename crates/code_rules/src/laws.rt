@@ -20,11 +20,3 @@ pub fn code_is_verified()
     ensures short { (typed : Typed) (code : Code) → IsSound typed → size typed ≤ 1000000 →
         IsCodeOf typed code → IsShortCode code }
 {}
-
-#[cfg(test)]
-mod tests {
-    #[test]
-    fn laws_can_be_called() {
-        super::code_is_verified();
-    }
-}

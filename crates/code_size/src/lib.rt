@@ -23,5 +23,3 @@ mod flow;
 mod program;
 mod shape;
 mod statement;
-#[cfg(test)]
-mod tests;

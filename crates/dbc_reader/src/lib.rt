@@ -30,6 +30,4 @@ mod refusal;
 mod seed;
 mod signals;
 mod statement;
-#[cfg(test)]
-mod tests;
 mod token;

@@ -6,9 +6,9 @@ ghost use Rattle.std.specs.Hash.DefaultHasher as sip;
 
 use std::hash::{BuildHasher, DefaultHasher, Hasher};
 
-/// The hash of a text's tables: SipHash, begun with a number that hangs on the whole text. So
-/// nobody can write a text whose names all fall into one place of a table, since each change of a
-/// name changes the hash of all.
+/// The hash of a text's tables: SipHash, begun with a number that hangs on the whole text. Each
+/// change of a name changes the hash of all, so names that fall into one place of a table cannot be
+/// looked for one after another.
 #[derive(Clone, Copy, Debug, PartialEq, Eq)]
 pub(crate) struct Seed {
     number: u64,

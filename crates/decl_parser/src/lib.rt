@@ -10,5 +10,3 @@ pub use reading::read_declaration;
 
 mod laws;
 mod reading;
-#[cfg(test)]
-mod tests;

@@ -16,5 +16,3 @@ mod laws;
 pub mod operator;
 mod reading;
 mod refusal;
-#[cfg(test)]
-mod tests;

@@ -19,7 +19,5 @@ mod layout;
 mod made;
 mod place;
 mod tables;
-#[cfg(test)]
-mod tests;
 mod tree;
 mod walk;

@@ -17,5 +17,3 @@ mod exit;
 mod expression;
 mod parts;
 mod size;
-#[cfg(test)]
-mod tests;

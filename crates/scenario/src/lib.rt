@@ -18,6 +18,4 @@ mod line;
 mod reader;
 mod refusal;
 mod scenario;
-#[cfg(test)]
-mod tests;
 mod value;

@@ -25,11 +25,3 @@ pub fn one_reading()
         (base : List DbcMessage) (files : List SourceFile) (program : Program) (one : Blamed) →
         AreAccepted contents name scenario base files program → IsFirstBlame contents name one → ⊥ }
 {}
-
-#[cfg(test)]
-mod tests {
-    #[test]
-    fn laws_can_be_called() {
-        super::one_reading();
-    }
-}

@@ -20,5 +20,3 @@ mod program;
 mod refusal;
 mod scenario_file;
 mod source;
-#[cfg(test)]
-mod tests;

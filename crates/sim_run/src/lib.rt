@@ -19,6 +19,4 @@ pub mod laws;
 mod log;
 mod run;
 mod status;
-#[cfg(test)]
-mod tests;
 mod window;

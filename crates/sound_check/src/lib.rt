@@ -11,5 +11,3 @@ mod expression;
 mod program;
 mod statement;
 mod tables;
-#[cfg(test)]
-mod tests;

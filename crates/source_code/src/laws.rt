@@ -57,13 +57,3 @@ pub fn sources_do_each_task_in_one_way()
         by_source_reaction.does node trigger now done → by_source_reaction.does node trigger now other →
         done ≡ other }
 {}
-
-#[cfg(test)]
-mod tests {
-    #[test]
-    fn laws_can_be_called() {
-        super::compiled_procedures_end_as_in_the_source();
-        super::code_follows_its_source();
-        super::sources_do_each_task_in_one_way();
-    }
-}

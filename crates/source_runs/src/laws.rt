@@ -77,17 +77,3 @@ pub fn sources_have_a_run<B: Bus>()
         (bus_by B.after_request B.next_moment B.ended B.after_finish B.after_arbitration)
         until (first_source_nodes base turns programs) b keys requests rounds final }
 {}
-
-#[cfg(test)]
-mod tests {
-    use arbitration::PlainBus;
-
-    #[test]
-    fn laws_can_be_called() {
-        super::runs_of_code_are_runs_of_sources::<PlainBus>();
-        super::sources_have_one_run::<PlainBus>();
-        super::sources_have_a_run::<PlainBus>();
-        rounds::laws::equal_parts::<crate::CodeAndSource>();
-        sim_core::laws::equal_runs::<crate::CodeAndSource, PlainBus>();
-    }
-}

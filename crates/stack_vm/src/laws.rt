@@ -10,11 +10,3 @@ pub fn a_message_is_sent_as_its_frame()
     ensures { (f : FrameFields) (sent : Bool) (now : ℕ) →
         IsFrame f → frame_of (message_of f sent now) ≡ record f { can = 1 } }
 {}
-
-#[cfg(test)]
-mod tests {
-    #[test]
-    fn laws_can_be_called() {
-        super::a_message_is_sent_as_its_frame();
-    }
-}

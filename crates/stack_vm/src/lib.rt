@@ -24,5 +24,3 @@ mod room;
 mod runs;
 mod state;
 mod step;
-#[cfg(test)]
-mod tests;

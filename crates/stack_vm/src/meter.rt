@@ -81,22 +81,3 @@ impl Meter {
         row.turns = row.turns.saturating_add(turns);
     }
 }
-
-#[cfg(test)]
-mod tests {
-    use super::*;
-    use std::test::Fail;
-
-    #[test]
-    fn rows_are_opened_and_read(rt: HostRuntime) -> Result<(), Fail> {
-        let zero = MeterRow { runs: 0, turns: 0 };
-        let mut meter = Meter::new(rt.alloc());
-        assert_eq!(rt; meter.rows(), 0);
-        assert_eq!(rt; meter.open_rows(2).ok().ok_or("memory")?, 0);
-        assert_eq!(rt; meter.open_rows(1).ok().ok_or("memory")?, 2);
-        assert_eq!(rt; meter.rows(), 3);
-        assert_eq!(rt; meter.row(2), Some(zero));
-        assert_eq!(rt; meter.row(3), None);
-        Ok(())
-    }
-}

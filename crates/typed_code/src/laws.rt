@@ -53,13 +53,3 @@ pub fn examples_have_their_listings()
     ensures arms { stmt_code long_cells no_exits three_arms 0 ≡ three_arms_listing }
     ensures groups { stmt_code long_cells no_exits falling_switch 0 ≡ falling_switch_listing }
 {}
-
-#[cfg(test)]
-mod tests {
-    #[test]
-    fn laws_can_be_called() {
-        super::code_has_its_size();
-        super::expressions_do_what_they_mean();
-        super::examples_have_their_listings();
-    }
-}

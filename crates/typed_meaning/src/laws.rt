@@ -150,16 +150,3 @@ pub fn broken_statements_have_trees()
         callee scope.names name ≡ OfLanguage builtin.CancelTimer → timer_in scope timer ≡ None →
         AloneDoesAs scope order formats (expr.Call name (timer ∷ []) at) typed_stmt.Empty }
 {}
-
-#[cfg(test)]
-mod tests {
-    #[test]
-    fn laws_can_be_called() {
-        super::event_procedures_end_as_in_the_source();
-        super::accepted_programs_declare_no_name_twice();
-        super::what_is_not_seen_changes_nothing();
-        super::cells_hold_the_store();
-        super::broken_expressions_have_trees();
-        super::broken_statements_have_trees();
-    }
-}

@@ -74,15 +74,3 @@ pub fn code_is_within_the_weight()
         IsSound (typed_program base program order line) →
         size (typed_program base program order line) ≤ weight program }
 {}
-
-#[cfg(test)]
-mod tests {
-    #[test]
-    fn laws_can_be_called() {
-        super::trees_do_what_their_parts_do();
-        super::typed_programs_do_what_their_sources_do();
-        super::numbers_have_sound_trees();
-        super::tables_have_what_names_need();
-        super::code_is_within_the_weight();
-    }
-}

@@ -37,5 +37,3 @@ mod part;
 mod piece;
 mod reading;
 mod refusal;
-#[cfg(test)]
-mod tests;

@@ -1,0 +1,94 @@
+// Code that the tests of the verifier and of the machine are about.
+
+ghost use Rattle.std.specs.Prelude.{◌<◌, ◌^◌, IsTrue, length};
+ghost use Rattle.vm_host.specs.Event.{selectors_of};
+ghost use Rattle.bytecode.specs.Verified.{IsShortCode};
+
+use bytecode::{Code, Fun, Handler, Instr};
+use int_kinds::Kind;
+use items::Items;
+use message_cells::MESSAGE_KINDS;
+use std::alloc::{AllocError, Global};
+use vm_host::Event;
+use write_format::Format;
+
+/// The kinds of the event's cells, of a long cell 15, and of the cells of a message from cell 16 on.
+fn kinds(alloc: Global) -> Result<Vec<Kind>, AllocError> {
+    let mut kinds = MESSAGE_KINDS.to_vec(alloc)?;
+    kinds.extend_from_slice(&[Kind::Char, Kind::Long])?;
+    kinds.extend_from_slice(&MESSAGE_KINDS)?;
+    Ok(kinds)
+}
+
+/// Code of one function, which gives nothing and which each of these events runs. After the event's cells
+/// there are a long, which begins with 7, and a message from cell 16 on. Format 0 is the line `go`.
+pub(crate) fn code(
+    alloc: Global,
+    instrs: &[Instr],
+    depths: &[u32],
+    events: Vec<Event>,
+) -> Result<Code, AllocError> {
+    let end = u32::try_from(instrs.len()).unwrap_or(u32::MAX);
+    let mut handlers = Vec::new(alloc);
+    for event in events {
+        handlers.push(Handler {
+            event,
+            function: 0,
+            file: 0,
+            line: 1,
+        })?;
+    }
+    let format = Format::read(alloc, b"go", &[]).map_err(|_| AllocError)?;
+    let function = Fun {
+        start: 0,
+        end,
+        gives: false,
+    };
+    Ok(Code {
+        instrs: Items::from_list(instrs.to_vec(alloc)?),
+        depths: Items::from_list(depths.to_vec(alloc)?),
+        functions: Items::from_list(vec![in alloc; function]?),
+        handlers: Items::from_list(handlers),
+        cells: Items::from_list(kinds(alloc)?),
+        starts: Items::from_list(vec![in alloc; (15, 7)]?),
+        timers: Items::from_list(vec![in alloc; 1000, 1_000_000]?),
+        formats: Items::from_list(vec![in alloc; format]?),
+    })
+}
+
+/// No list is as long as this.
+const LIMIT: usize = 0x1_0000_0000;
+
+/// Whether the event has fewer selectors than the limit.
+fn has_few_selectors(event: &Event) -> bool
+    ensures { IsTrue result → length (selectors_of event.now) < 2 ^ 32 }
+{
+    match event {
+        Event::Message(selectors) => selectors.len() < LIMIT,
+        _ => true,
+    }
+}
+
+/// Whether no list of the code is too long for the verifier.
+pub(crate) fn is_short(code: &Code) -> bool
+    ensures { IsTrue result → IsShortCode code.now }
+{
+    code.instrs.len() < LIMIT
+        && code.depths.len() < LIMIT
+        && code.functions.len() < LIMIT
+        && code.handlers.len() < LIMIT
+        && code
+            .handlers
+            .as_slice()
+            .iter()
+            .all(|handler| has_few_selectors(&handler.event))
+        && code.cells.len() < LIMIT
+        && code.starts.len() < LIMIT
+        && code.timers.len() < LIMIT
+        && code.formats.len() < LIMIT
+        && code
+            .formats
+            .as_slice()
+            .iter()
+            .all(|format| format.is_short())
+}

@@ -1,0 +1,41 @@
+// The size that code_size gives of a program.
+
+use code_size::size_of;
+use int_kinds::Kind;
+use items::Items;
+use std::alloc::{AllocError, Global};
+use std::test::Fail;
+use typed_tree::{TExpr, TFun, TStmt, Typed};
+
+/// `long f() { now; }`
+fn function(alloc: Global) -> Result<TFun, AllocError> {
+    let mut body = Vec::new(alloc);
+    body.push(TStmt::Eval(TExpr::Now))?;
+    Ok(TFun {
+        params: Items::new(alloc),
+        gives: Some(Kind::Long),
+        body: Items::from_list(body),
+    })
+}
+
+/// A program of functions alone.
+fn program(alloc: Global, functions: Vec<TFun>) -> Typed {
+    Typed {
+        functions: Items::from_list(functions),
+        handlers: Items::new(alloc),
+        cells: Items::new(alloc),
+        starts: Items::new(alloc),
+        timers: Items::new(alloc),
+        formats: Items::new(alloc),
+    }
+}
+
+#[test]
+fn instructions_are_counted(rt: HostRuntime) -> Result<(), Fail> {
+    let mut functions = Vec::new(rt.alloc());
+    functions.push(function(rt.alloc())?)?;
+    let typed = program(rt.alloc(), functions);
+    // `Now` and `Drop`, and at the end `Push 0` and `Ret`.
+    assert_eq!(rt; size_of(&typed), 4);
+    Ok(())
+}

@@ -1,0 +1,82 @@
+// What checking short sources gives.
+
+use capl_lexer::lex;
+use capl_parser::parse;
+use capl_tree::Program;
+use check_types::{CheckRefusal, check};
+use items::Items;
+use std::alloc::Global;
+use std::test::Fail;
+use typed_tree::Typed;
+
+/// The program of one file.
+fn program(alloc: Global, source: &str) -> Result<Program, Fail> {
+    let text = source.as_bytes();
+    if text.len() > 1_000 {
+        return Err(Fail::new("long text"));
+    }
+    let Ok(tokens) = lex(alloc, text) else {
+        return Err(Fail::new("no tokens"));
+    };
+    if tokens.len() > 1_000 {
+        return Err(Fail::new("long"));
+    }
+    match parse(alloc, &tokens) {
+        Ok(tree) => Ok(Program {
+            files: Items::from_list(vec![in alloc; tree]?),
+        }),
+        Err(_) => Err(Fail::new("no tree")),
+    }
+}
+
+/// What checking a source gives, where each token of it stands on line 7.
+fn checked(alloc: Global, source: &str) -> Result<Result<Typed, CheckRefusal>, Fail> {
+    let program = program(alloc, source)?;
+    let row = vec![in alloc; 7u32; 200]?;
+    let lines = vec![in alloc; row]?;
+    Ok(check(alloc, &program, lines.as_slice(), None))
+}
+
+#[test]
+fn an_accepted_program_is_typed(rt: HostRuntime) -> Result<(), Fail> {
+    let source = "variables { msTimer t; long a = 5; } \
+        long twice(long n) { return 2 * n; } \
+        on timer t { a = twice(a); } \
+        on message 0x100 { write(\"%d\", this.byte(0)); }";
+    let Ok(typed) = checked(rt.alloc(), source)? else {
+        return Err(Fail::new("it is refused"));
+    };
+    assert_eq!(rt; typed.functions.as_slice().len(), 1);
+    assert_eq!(rt; typed.handlers.as_slice().len(), 2);
+    assert_eq!(rt; typed.cells.as_slice().len(), 17);
+    assert_eq!(rt; typed.timers.as_slice().len(), 1);
+    assert_eq!(rt; typed.formats.as_slice().len(), 1);
+    let lines = typed
+        .handlers
+        .as_slice()
+        .iter()
+        .map(|handler| handler.line)
+        .max();
+    assert_eq!(rt; lines, Some(7));
+    Ok(())
+}
+
+#[test]
+fn a_program_is_refused_for_its_first_offence(rt: HostRuntime) -> Result<(), Fail> {
+    let source = "on start { break; a = 1; }";
+    match checked(rt.alloc(), source)? {
+        Err(CheckRefusal::Offends(offence)) => {
+            assert_eq!(rt; (offence.token, offence.rule.number), (3, 22));
+            Ok(())
+        }
+        _ => Err(Fail::new("it has an offence")),
+    }
+}
+
+#[test]
+fn a_program_of_too_many_cells_is_refused(rt: HostRuntime) -> Result<(), Fail> {
+    match checked(rt.alloc(), "variables { byte a[1000000]; byte b; }")? {
+        Err(CheckRefusal::Size) => Ok(()),
+        _ => Err(Fail::new("it is too large")),
+    }
+}

@@ -1,0 +1,29 @@
+//! Tests of runs: public calls of check_types, node_run, sim_core, sim_inputs and sim_run over sources in
+//! memory, and calls of the laws on code and runs of sources.
+//!
+//! They stand here, above those crates, so that each of those is proved without them; and a source takes
+//! all the crates from the lexer to the verifier, on which node_run and sim_core do not stand. A scenario
+//! and a source in memory are read and checked by sim_inputs, and the node is run on a bus that keeps its
+//! requests in a list.
+#![tactic(auto)]
+
+#[cfg(test)]
+mod bench;
+#[cfg(test)]
+mod checks;
+#[cfg(test)]
+mod commands;
+#[cfg(test)]
+mod entries;
+#[cfg(test)]
+mod inputs;
+#[cfg(test)]
+mod laws;
+#[cfg(test)]
+mod runs;
+#[cfg(test)]
+mod tasks;
+#[cfg(test)]
+mod texts;
+#[cfg(test)]
+mod timers;
