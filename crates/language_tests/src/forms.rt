@@ -1,5 +1,7 @@
 // Parts of trees that the tests of several crates are about.
 
+ghost use Rattle.std.specs.Prelude.{◌≡◌, []};
+
 use capl_tree::{Decl, DeclType, Declr, Expr, FileTree, Program, TopItem};
 use items::Items;
 use sim_outside::Text;
@@ -47,4 +49,13 @@ pub(crate) fn program_of(alloc: Global, items: Vec<TopItem>) -> Result<Program, 
     Ok(Program {
         files: Items::from_list(vec![in alloc; file]?),
     })
+}
+
+/// A program of no file, which declares nothing.
+pub(crate) fn undeclared(alloc: Global) -> Program
+    ensures { result ≡ record { files = [] } }
+{
+    Program {
+        files: Items::new(alloc),
+    }
 }

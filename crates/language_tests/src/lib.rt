@@ -27,11 +27,15 @@ mod nesting;
 #[cfg(test)]
 mod parser;
 #[cfg(test)]
+mod rules;
+#[cfg(test)]
 mod scenarios;
 #[cfg(test)]
 mod screening;
 #[cfg(test)]
 mod sorts;
+#[cfg(test)]
+mod statements;
 #[cfg(test)]
 mod tokens;
 #[cfg(test)]

@@ -1,9 +1,8 @@
 // Where expression_trees lays variables, and the tree of an expression, of a place and of arguments.
 
-ghost use Rattle.std.specs.Prelude.{◌≡◌, []};
 ghost use Rattle.expression_trees.specs.Made.{AreTreeTables};
 
-use super::forms::{declaration, number, program_of, variable};
+use super::forms::{declaration, number, program_of, undeclared, variable};
 use call_order::Calls;
 use capl_meaning::Sort;
 use capl_tree::{Decl, DeclType, Expr, Program, TopItem};
@@ -56,15 +55,6 @@ fn variables_lie_one_behind_the_other(rt: HostRuntime) -> Result<(), Fail> {
     Ok(())
 }
 
-/// A program that declares nothing.
-fn empty(alloc: Global) -> Program
-    ensures { result ≡ record { files = [] } }
-{
-    Program {
-        files: Items::new(alloc),
-    }
-}
-
 /// `1 + 3000000000`
 fn sum(alloc: Global) -> Result<Expr, Fail> {
     Ok(Expr::Binary {
@@ -115,7 +105,7 @@ fn check_row(rt: &impl Abort, alloc: Global, names: &Names, tables: &TreeTables)
 #[test]
 fn expressions_have_trees(rt: HostRuntime) -> Result<(), Fail> {
     let alloc = rt.alloc();
-    let program = empty(alloc);
+    let program = undeclared(alloc);
     let names = Names::build(alloc, &program, None)?;
     let constants = Constants::build(alloc, &names)?;
     let calls = Calls::build(alloc, &names)?;
