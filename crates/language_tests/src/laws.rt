@@ -2,6 +2,10 @@
 
 #[test]
 fn readers_have_laws() {
+    expr_parser::each_spelling_is_read();
+    expr_parser::only_spellings_are_read();
+    decl_parser::each_declaration_is_read();
+    decl_parser::only_declarations_are_read();
     capl_readers::trees_are_read();
     capl_readers::one_tree();
 }

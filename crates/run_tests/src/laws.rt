@@ -1,4 +1,4 @@
-// Calls of the laws on the code of sources, their runs, and what inputs come to.
+// Calls of the laws on the choice of procedures, the code of sources, their runs, and what inputs come to.
 
 use arbitration::PlainBus;
 
@@ -15,10 +15,17 @@ fn sources_run_as_their_code() {
     source_runs::laws::sources_have_one_run::<PlainBus>();
     source_runs::laws::sources_have_a_run::<PlainBus>();
     rounds::laws::equal_parts::<source_runs::CodeAndSource>();
+    rounds::laws::timers_move_on::<source_runs::CodeAndSource>();
     sim_core::laws::equal_runs::<source_runs::CodeAndSource, PlainBus>();
 }
 
 #[test]
 fn inputs_have_one_reading() {
     sim_inputs::laws::one_reading();
+}
+
+#[test]
+fn selectors_choose_one_procedure() {
+    msg_select::laws::one_choice();
+    msg_select::laws::any_order();
 }
