@@ -1,5 +1,5 @@
 -- A bus on which nothing was requested.
-use Rattle.std.proofs.Common.{◌≡◌, ℕ, cond, Option, None, Some, ap, ◌∙◌}
+use Rattle.std.proofs.Common.{◌≡◌, ℕ, cond, None, Some, ap, ◌∙◌}
 use Rattle.std.specs.Prelude.{◌==◌}
 use Rattle.std.specs.FinMap.{len-empty}
 use Rattle.can_frame.specs.Frame.{FrameFields}
