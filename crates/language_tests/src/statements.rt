@@ -1,13 +1,11 @@
-// The typed trees of statements.
+// The typed trees of statements, which the test in typed_trees asks for.
 
 ghost use Rattle.statement_trees.specs.Tables.{AreTables};
 
-use super::forms::{number, undeclared};
-use call_order::Calls;
+use super::forms::number;
 use capl_tree::{Expr, Stmt};
 use check_names::Names;
-use check_sorts::{Constants, Scope};
-use expression_trees::{Layout, TreeTables};
+use check_sorts::Scope;
 use items::Items;
 use sim_outside::Text;
 use statement_trees::{StatementTables, make_alone, make_body, make_statement};
@@ -33,7 +31,7 @@ fn writing(alloc: Global) -> Result<Expr, Fail> {
 }
 
 /// What the calls make of a `break`, of two statements and of a `write`, outside of procedures.
-fn check_made(
+pub(crate) fn check_made(
     rt: &impl Abort,
     alloc: Global,
     names: &Names,
@@ -53,25 +51,5 @@ fn check_made(
     let made = make_alone(alloc, scope, tables, &mut formats, &write)?;
     assert!(rt; matches!(&made, TStmt::Write { format: 0, .. }));
     assert_eq!(rt; formats.len(), 1);
-    Ok(())
-}
-
-#[test]
-fn statements_have_trees(rt: HostRuntime) -> Result<(), Fail> {
-    let alloc = rt.alloc();
-    let program = undeclared(alloc);
-    let names = Names::build(alloc, &program, None)?;
-    let constants = Constants::build(alloc, &names)?;
-    let calls = Calls::build(alloc, &names)?;
-    let layout = Layout::build(alloc, &names, &constants)?.ok_or("it has few cells")?;
-    let trees = TreeTables {
-        layout: &layout,
-        calls: &calls,
-    };
-    let tables = StatementTables {
-        trees,
-        constants: &constants,
-    };
-    check_made(&rt, alloc, &names, &tables)?;
     Ok(())
 }

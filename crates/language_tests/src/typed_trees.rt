@@ -1,8 +1,9 @@
-// Where expression_trees lays variables, and the tree of an expression, of a place and of arguments.
+// Where expression_trees lays variables, and the trees of an expression, a place, arguments and statements.
 
 ghost use Rattle.expression_trees.specs.Made.{AreTreeTables};
 
 use super::forms::{declaration, number, program_of, undeclared, variable};
+use super::statements::check_made;
 use call_order::Calls;
 use capl_meaning::Sort;
 use capl_tree::{Decl, DeclType, Expr, Program, TopItem};
@@ -13,6 +14,7 @@ use expression_trees::{
 };
 use int_kinds::{BinOp, Kind};
 use items::{Boxed, Items};
+use statement_trees::StatementTables;
 use std::alloc::Global;
 use std::process::Abort;
 use std::test::Fail;
@@ -103,7 +105,7 @@ fn check_row(rt: &impl Abort, alloc: Global, names: &Names, tables: &TreeTables)
 }
 
 #[test]
-fn expressions_have_trees(rt: HostRuntime) -> Result<(), Fail> {
+fn expressions_and_statements_have_trees(rt: HostRuntime) -> Result<(), Fail> {
     let alloc = rt.alloc();
     let program = undeclared(alloc);
     let names = Names::build(alloc, &program, None)?;
@@ -116,5 +118,10 @@ fn expressions_have_trees(rt: HostRuntime) -> Result<(), Fail> {
     };
     check_sum(&rt, alloc, &names, &tables)?;
     check_row(&rt, alloc, &names, &tables)?;
+    let tables = StatementTables {
+        trees: tables,
+        constants: &constants,
+    };
+    check_made(&rt, alloc, &names, &tables)?;
     Ok(())
 }
