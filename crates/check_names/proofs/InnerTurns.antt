@@ -18,7 +18,7 @@ use Rattle.check_names.specs.Variable.{variable_by, variable_in, variables_in}
 use Rattle.check_names.proofs.TakeLemmas.{map_more}
 
 -- the owner of a variable that is listed
-owner_by : (base : List DbcMessage) (place : Place) (by : Source) → place.owner ≡ (variable_by base place by).owner
+pub owner_by : (base : List DbcMessage) (place : Place) (by : Source) → place.owner ≡ (variable_by base place by).owner
 owner_by base place (source.Item what item) = refl
 owner_by base place (source.Parameter parameter) = refl
 

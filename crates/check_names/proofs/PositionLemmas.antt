@@ -1,10 +1,12 @@
 -- The first of a list that grows.
-use Rattle.std.proofs.Common.{◌≡◌, ◌+◌, ℕ, zero, suc, Bool, true, false, cond, List, [], ◌∷◌, ◌++◌, ◌∙◌, length, Option, None, Some, refl, ap, sym, arith, take, nat_lt, ◌||◌}
-use Rattle.std.specs.Prelude.{find, if◌then◌else◌, is_some, position, slice_get}
+use Rattle.std.proofs.Common.{◌≡◌, ◌≤◌, ◌<◌, ◌+◌, ℕ, zero, suc, Bool, true, false, cond, List, [], ◌∷◌, ◌++◌, ◌∙◌, length, Option, None, Some, refl, ap, sym, arith, drop, get_or, take, nat_lt, ◌||◌}
+use Rattle.std.specs.Prelude.{find, if◌then◌else◌, is_some, map, position, slice_get}
 use Rattle.std.specs.List.{list_any, position_from}
-use Rattle.std.specs.Option.{option_or}
+use Rattle.std.specs.Option.{option_and_then, option_or}
 use Rattle.std.proofs.lemmas.Bool.Decides.{nat_tests}
 use Rattle.std.proofs.lemmas.Iterator.Adapters.{position_from-zero}
+use Rattle.std.proofs.Math.ListN.{drop_of_length-le}
+use Rattle.check_names.proofs.LoopLemmas.{drop_next}
 
 -- one more item, behind the others
 pub find-push : {X : Type 0} (p : X → Bool) (xs : List X) (x : X) →
@@ -107,3 +109,43 @@ is_early p xs i n is = early-from p 0 xs i n (sym (position_from-zero p xs) ∙ 
 -- and where there is none
 pub is_nowhere : {X : Type 0} (p : X → Bool) (xs : List X) (i : ℕ) → position p xs ≡ None → list_any p (take i xs) ≡ false
 is_nowhere p xs i is = none-from p 0 xs i (sym (position_from-zero p xs) ∙ is)
+
+-- the first of some, by its place
+pub find_position : {X : Type 0} (p : X → Bool) (xs : List X) → option_and_then (slice_get xs) (position p xs) ≡ find p xs
+find_position {X} p xs = by (position p xs) refl (find p xs) refl
+  where
+    by : (o : Option ℕ) → position p xs ≡ o → (f : Option X) → find p xs ≡ f → option_and_then (slice_get xs) o ≡ find p xs
+    by None is None found = sym found
+    by None is (Some x) found = let both = some_first p xs in cc
+    by (Some i) is f found = at_first p i xs is
+
+-- the first one passes the test
+pub passing : {X : Type 0} (p : X → Bool) (xs : List X) (x : X) → find p xs ≡ Some x → p x ≡ true
+passing p [] x found = absurd (cc)
+passing {X} p (y ∷ xs) x found = by (p y) refl found (passing p xs x)
+  where
+    by : (b : Bool) → p y ≡ b → cond b (Some y) (find p xs) ≡ Some x → (find p xs ≡ Some x → p x ≡ true) → p x ≡ true
+    by true is here rest = let same : y ≡ x = cc in ap p (sym same) ∙ is
+    by false is there rest = rest there
+
+-- ---- the first one from a place of a list on that each item is made from
+
+-- an item that fails is passed over
+pub first_next : {X Y : Type 0} (p : Y → Bool) (n : ℕ) (f : X → Y) (xs : List X) (i : ℕ) (x : X) → i < length xs
+    → x ≡ get_or xs i x → p (f x) ≡ false
+    → position_from p (n + 1) (map f (drop (i + 1) xs)) ≡ position_from p n (map f (drop i xs))
+first_next p n f xs i x within is fails =
+    sym (ap (λ l. position_from p n (map f l)) (drop_next xs i x within is)
+    ∙ ap (λ (b : Bool). cond b (Some n) (position_from p (n + 1) (map f (drop (i + 1) xs)))) fails)
+
+-- one that passes is the first
+pub first_here : {X Y : Type 0} (p : Y → Bool) (n : ℕ) (f : X → Y) (xs : List X) (i : ℕ) (x : X) → i < length xs
+    → x ≡ get_or xs i x → p (f x) ≡ true → Some n ≡ position_from p n (map f (drop i xs))
+first_here p n f xs i x within is passes =
+    sym (ap (λ l. position_from p n (map f l)) (drop_next xs i x within is)
+    ∙ ap (λ (b : Bool). cond b (Some n) (position_from p (n + 1) (map f (drop (i + 1) xs)))) passes)
+
+-- behind the last item there is none
+pub first_gone : {X Y : Type 0} (p : Y → Bool) (n : ℕ) (f : X → Y) (xs : List X) (i : ℕ) → length xs ≤ i
+    → None ≡ position_from p n (map f (drop i xs))
+first_gone p n f xs i past = sym (ap (λ l. position_from p n (map f l)) (drop_of_length-le xs past))

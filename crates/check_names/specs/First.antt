@@ -1,6 +1,6 @@
 -- The first of offences that are noted one after another.
 use Rattle.std.specs.Prelude.{◌≡◌, ℕ, ◌==◌, Bool, ◌&&◌, ◌||◌, if◌then◌else◌, nat_le, nat_lt, List, [], ◌∷◌, Option, Some, None}
-use Rattle.sim_outside.specs.declared.blame.Rule.{Rule}
+use Rattle.texts.specs.declared.blame.Rule.{Rule}
 use Rattle.capl_meaning.specs.declared.offence.Offence.{Offence}
 use Rattle.capl_meaning.specs.Offences.{IsFirst}
 

@@ -6,7 +6,7 @@ ghost use Rattle.check_names.specs.Variable.{in_all, in_arms, in_else, in_groups
 
 use capl_tree::{Arm, Decl, Group, Stmt};
 use items::Boxed;
-use sim_outside::NoMemory;
+use texts::NoMemory;
 
 /// Appends the declarations in a statement.
 #[tactic(auto, using(crate::proofs::DeclarationLemmas::form))]

@@ -12,8 +12,8 @@ use crate::seed::Seed;
 use crate::table::NameTable;
 use capl_tree::{Head, Param, Proc, Stmt};
 use int_kinds::Kind;
-use sim_outside::{NoMemory, Text};
 use std::alloc::Global;
+use texts::{NoMemory, Text};
 
 /// A function of a program.
 #[derive(Clone, Copy, Debug)]

@@ -19,8 +19,8 @@ use crate::rule::{NO_IDENTIFIER, NO_MESSAGE, NO_TIMER, UNUSABLE, note_where};
 use crate::selector::{is_identifier, is_in_range, is_range, number_in};
 use capl_meaning::Offence;
 use capl_tree::{Decl, DeclType, Expr, Head, Proc, Sel};
-use sim_outside::NoMemory;
 use std::alloc::Global;
+use texts::NoMemory;
 
 /// The longest message of a database in bytes.
 const MAX_LENGTH: u32 = 8;

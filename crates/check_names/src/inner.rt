@@ -10,7 +10,7 @@ ghost use Rattle.check_names.specs.Inside.Table.{is_named};
 use crate::names::Names;
 use crate::rule::{TWICE, note_where};
 use capl_meaning::Offence;
-use sim_outside::NoMemory;
+use texts::NoMemory;
 
 /// Whether one of the first variables, so many, is of this procedure and has this name, where the
 /// number of the procedure is not 0.

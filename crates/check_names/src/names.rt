@@ -18,16 +18,16 @@ use crate::inner::note_inner_names;
 use crate::part::program_parts;
 use crate::purposes::note_purposes;
 use crate::repeats::note_outer_names;
-use crate::scope::{number_at, tables_of};
+use crate::scope::{are_in_order, first_before, number_at, tables_of};
 use crate::seed::Seed;
 use crate::table::NameTable;
 use crate::variable::{Declared, declared_variables};
 use capl_meaning::Offence;
 use capl_tree::Program;
 use dbc_reader::{Database, DbcMessage};
-use sim_outside::NoMemory;
 use std::alloc::Global;
 use std::marker::Model;
+use texts::NoMemory;
 
 /// What a program declares, with tables of the names. Contracts see it as the messages of its
 /// database, its variables and its functions, both in program order.
@@ -37,17 +37,19 @@ pub struct Names<'p> {
     variables: Vec<Declared<'p>>,
     functions: Vec<DeclaredFunction<'p>>,
     tables: Vec<NameTable>,
+    in_order: bool,
     called: NameTable,
 }
 
 impl<'p> Model for Names<'p> {
+    ghost use Rattle.std.specs.Prelude.{◌≡◌, ◌<◌, ◌^◌, length, true};
     ghost use Rattle.std.specs.Coded.{codes};
     ghost use Rattle.capl_tree.specs.contracts.expr.Expr as expr;
     ghost use Rattle.capl_tree.specs.contracts.expr.Field as field;
     ghost use Rattle.capl_tree.specs.contracts.statement.Stmt as stmt;
     ghost use Rattle.capl_meaning.specs.Names.{Names};
     ghost use Rattle.check_names.specs.Function.{functions_in};
-    ghost use Rattle.check_names.specs.Inside.Table.{AreTables, IsCalled};
+    ghost use Rattle.check_names.specs.Inside.Table.{AreInOrder, AreTables, IsCalled};
     ghost use Rattle.check_names.specs.Names.{messages_of};
     ghost use Rattle.check_names.specs.Variable.{variables_in};
 
@@ -63,13 +65,13 @@ impl<'p> Model for Names<'p> {
 
     ghost invariant = { λ names.
         AreTables names.tables.items (variables_in (messages_of names.base) names.variables.items)
-        × IsCalled names.called (functions_in names.functions.items) };
+        × (IsCalled names.called (functions_in names.functions.items)
+        × ((names.in_order ≡ true → AreInOrder (variables_in (messages_of names.base) names.variables.items))
+        × (length names.variables.items < 2 ^ 32))) };
 }
 
 impl<'p> Names<'p> {
     /// What a program declares. Takes time and memory linear in the program, but for names of one hash.
-    /// A program in which a variable's name stands before that of an earlier variable of its procedure
-    /// is refused as if there were no memory for it: no source has such a tree.
     pub fn build(
         alloc: Global,
         program: &'p Program,
@@ -82,18 +84,22 @@ impl<'p> Names<'p> {
         let functions = declared_functions(alloc, parts.as_slice())?;
         let seed = Seed::of(variables.as_slice(), functions.as_slice());
         let tables = tables_of(alloc, seed, variables.as_slice())?;
+        let in_order = are_in_order(tables.as_slice(), variables.as_slice());
         let called = called_functions(alloc, seed, functions.as_slice())?;
         Ok(Names {
             base,
             variables,
             functions,
             tables,
+            in_order,
             called,
         })
     }
 
     /// The number of the first parameter or local of this name in the procedure of this number whose
-    /// declared name stands before the token, or None where there is none.
+    /// declared name stands before the token, or None where there is none. Takes time linear in the
+    /// name in the trees of a source, but for names of one hash; where in a procedure of the tree a
+    /// name stands before that of an earlier variable, it may look at all variables.
     pub fn local(&self, procedure: u32, name: &[u8], token: u32) -> Option<u32>
         ensures { result ≡ position (is_local procedure name.now token) self.now.variables }
     {
@@ -102,7 +108,13 @@ impl<'p> Names<'p> {
         }
         let number = number_at(self.tables.as_slice(), procedure, name)?;
         let variable = self.variables.get(number as usize)?;
-        (variable.token() < token).then_some(number)
+        if variable.token() < token {
+            return Some(number);
+        }
+        if self.in_order {
+            return None;
+        }
+        first_before(self.variables.as_slice(), procedure, name, token)
     }
 
     /// The number of the first global of this name, or None where there is none.

@@ -5,8 +5,8 @@ ghost use Rattle.capl_meaning.specs.Variable.{parts_of};
 ghost use Rattle.check_names.specs.Part.{AreItemsListed, IsItemListed, parts_in};
 
 use capl_tree::{Decl, Proc, Program, TopItem};
-use sim_outside::NoMemory;
 use std::alloc::Global;
+use texts::NoMemory;
 
 /// A part of a program that declares.
 #[derive(Clone, Copy, Debug)]

@@ -18,8 +18,8 @@ use crate::selector::selector_of;
 use crate::table::NameTable;
 use capl_meaning::Offence;
 use capl_tree::{Head, Sel};
-use sim_outside::{NoMemory, Text};
 use std::alloc::Global;
+use texts::{NoMemory, Text};
 use vm_host::Selector;
 
 /// What a procedure is for.

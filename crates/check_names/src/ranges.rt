@@ -4,9 +4,9 @@ ghost use Rattle.std.specs.Prelude.{◌≡◌, ◌≤◌, ℕ, List, [], ◌∷�
 ghost use Rattle.std.specs.List.{list_any};
 ghost use Rattle.check_names.specs.Inside.Ranges.{AreApart, AreRanges, IsMet, IsMetBy, meet};
 
-use sim_outside::NoMemory;
 use std::alloc::Global;
 use std::collections::BTreeMap;
+use texts::NoMemory;
 
 /// Ranges of numbers, of which those with a number in common are kept as one.
 #[derive(Debug, Drop)]

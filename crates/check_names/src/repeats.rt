@@ -15,8 +15,8 @@ use crate::table::NameTable;
 use crate::word::is_builtin;
 use capl_meaning::Offence;
 use capl_tree::{Decl, Head};
-use sim_outside::{NoMemory, Text};
 use std::alloc::Global;
+use texts::{NoMemory, Text};
 
 /// A name that is declared, and where.
 #[derive(Clone, Copy, Debug)]

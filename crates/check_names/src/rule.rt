@@ -5,7 +5,7 @@ ghost use Rattle.check_names.specs.First.{broken_at, noted};
 
 use crate::first::note;
 use capl_meaning::Offence;
-use sim_outside::Rule;
+use texts::Rule;
 
 /// The name after `on timer` is no global timer.
 pub(crate) const NO_TIMER: Rule = Rule {

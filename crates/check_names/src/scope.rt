@@ -1,18 +1,17 @@
 // The tables of a program's variables: that of the globals, and then one for each procedure.
 
-ghost use Rattle.std.specs.Prelude.{◌≡◌, ◌==◌, ◌&&◌, ◌<◌, ◌≤◌, ℕ, List, IfOk, None, OnOk, Some, if◌then◌else◌, length, slice_get};
+ghost use Rattle.std.specs.Prelude.{◌≡◌, ◌==◌, ◌&&◌, ◌<◌, ◌^◌, ℕ, List, IfOk, None, OnOk, Some, if◌then◌else◌, length, position, true};
 ghost use Rattle.std.specs.Option.{option_or};
 ghost use Rattle.std.specs.Str.{bytes_eq};
 ghost use Rattle.dbc_reader.specs.declared.message.DbcMessage.{DbcMessage};
-ghost use Rattle.capl_meaning.specs.Variable.{Variable};
-ghost use Rattle.check_names.specs.Inside.Table.{AreTables, is_named, number_at};
+ghost use Rattle.check_names.specs.Inside.Table.{AreInOrder, AreTables, is_in_order, is_named, is_named_before, number_at};
 ghost use Rattle.check_names.specs.Variable.{variable_in, variables_in};
 
 use crate::seed::Seed;
 use crate::table::NameTable;
 use crate::variable::Declared;
-use sim_outside::NoMemory;
 use std::alloc::Global;
+use texts::NoMemory;
 
 /// The number that the table of an owner has for a name.
 pub(crate) fn number_at(tables: &[NameTable], owner: u32, name: &[u8]) -> Option<u32>
@@ -53,44 +52,26 @@ fn note_at(
     Ok(())
 }
 
-/// Refuses a variable whose declared name stands before that of the first one of its name. No source
-/// has such a variable.
-fn check_order(variables: &[Declared], first: Option<u32>, token: u32) -> Result<(), NoMemory>
-    ensures { (base : List DbcMessage) (number : ℕ) (v : Variable) → first ≡ Some number →
-        slice_get (variables_in base variables.now) number ≡ Some v → OnOk result (v.token ≤ token) }
-{
-    let Some(number) = first else {
-        return Ok(());
-    };
-    match variables.get(number as usize) {
-        Some(known) if token < known.token() => Err(NoMemory),
-        _ => Ok(()),
-    }
-}
-
 /// Notes a variable in the table of its owner, if its name was not noted there before.
 fn note_variable(
     alloc: Global,
     seed: Seed,
-    variables: &[Declared],
     number: u32,
     variable: &Declared,
     tables: &mut Vec<NameTable>,
 ) -> Result<(), NoMemory>
-    ensures noted { (base : List DbcMessage) (owner : ℕ) (name : List ℕ) →
+    ensures { (base : List DbcMessage) (owner : ℕ) (name : List ℕ) →
         OnOk result (number_at tables.new.items owner name ≡ option_or (number_at tables.old.items owner name)
         (if is_named owner name (variable_in base variable.now) then Some number else None)) }
-    ensures rises { (base : List DbcMessage) (i : ℕ) (w : Variable) → let v = variable_in base variable.now in
-        number_at tables.old.items v.owner v.name ≡ Some i →
-        slice_get (variables_in base variables.now) i ≡ Some w →
-        OnOk result (w.token ≤ v.token) }
 {
-    let owner = variable.place.owner;
-    let name = variable.name();
-    let first = number_at(tables.as_slice(), owner, name);
-    check_order(variables, first, variable.token())?;
-    note_at(alloc, seed, tables, owner, name, number)?;
-    Ok(())
+    note_at(
+        alloc,
+        seed,
+        tables,
+        variable.place.owner,
+        variable.name(),
+        number,
+    )
 }
 
 /// The tables of variables.
@@ -99,14 +80,79 @@ pub(crate) fn tables_of(
     seed: Seed,
     variables: &[Declared],
 ) -> Result<Vec<NameTable>, NoMemory>
-    ensures { (base : List DbcMessage) →
+    ensures first { (base : List DbcMessage) →
         IfOk result (λ tables. AreTables tables.items (variables_in base variables.now)) }
+    ensures few { IfOk result (λ tables. length variables.now < 2 ^ 32) }
 {
     let mut tables = Vec::new(alloc);
     let mut number = 0u32;
     for variable in variables {
-        note_variable(alloc, seed, variables, number, variable, &mut tables)?;
+        note_variable(alloc, seed, number, variable, &mut tables)?;
         number = number.checked_add(1).ok_or(NoMemory)?;
     }
     Ok(tables)
+}
+
+/// Whether a variable does not stand before the first one of its name in its procedure. Outside of
+/// procedures the order does not matter.
+fn is_in_order(tables: &[NameTable], variables: &[Declared], variable: &Declared) -> bool
+    requires { (base : List DbcMessage) → AreTables tables.now (variables_in base variables.now) }
+    ensures { (base : List DbcMessage) →
+        result ≡ is_in_order (variables_in base variables.now) (variable_in base variable.now) }
+{
+    let owner = variable.place.owner;
+    if owner == 0 {
+        return true;
+    }
+    let Some(number) = number_at(tables, owner, variable.name()) else {
+        return true;
+    };
+    match variables.get(number as usize) {
+        Some(first) => first.token() <= variable.token(),
+        None => true,
+    }
+}
+
+/// Whether in each procedure no variable stands before the first one of its name. So it is in the
+/// trees of a source. Takes time linear in the variables, but for names of one hash.
+pub(crate) fn are_in_order(tables: &[NameTable], variables: &[Declared]) -> bool
+    requires { (base : List DbcMessage) → AreTables tables.now (variables_in base variables.now) }
+    ensures { (base : List DbcMessage) → result ≡ true → AreInOrder (variables_in base variables.now) }
+{
+    for variable in variables {
+        if !is_in_order(tables, variables, variable) {
+            return false;
+        }
+    }
+    true
+}
+
+/// Whether a variable is of this procedure and has this name, which stands before a token.
+fn is_named_before(variable: &Declared, procedure: u32, name: &[u8], token: u32) -> bool
+    ensures { (base : List DbcMessage) →
+        result ≡ is_named_before procedure name.now token (variable_in base variable.now) }
+{
+    variable.place.owner == procedure && name == variable.name() && variable.token() < token
+}
+
+/// The number of the first variable of this name in a procedure that stands before a token, which is
+/// looked for from one variable to the next.
+pub(crate) fn first_before(
+    variables: &[Declared],
+    procedure: u32,
+    name: &[u8],
+    token: u32,
+) -> Option<u32>
+    requires { length variables.now < 2 ^ 32 }
+    ensures { (base : List DbcMessage) → result
+        ≡ position (is_named_before procedure name.now token) (variables_in base variables.now) }
+{
+    let mut number = 0u32;
+    for variable in variables {
+        if is_named_before(variable, procedure, name, token) {
+            return Some(number);
+        }
+        number += 1;
+    }
+    None
 }

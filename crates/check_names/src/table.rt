@@ -7,8 +7,8 @@ ghost use Rattle.check_names.specs.Inside.Table.{numbered};
 
 use crate::seed::Seed;
 use indexmap::IndexMap;
-use sim_outside::NoMemory;
 use std::alloc::Global;
+use texts::NoMemory;
 
 /// Names with the first number that each was noted with.
 #[derive(Debug, Drop)]

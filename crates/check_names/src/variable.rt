@@ -9,8 +9,8 @@ ghost use Rattle.check_names.specs.Variable.{is_misfit, lent, variable_in, varia
 use crate::declaration::gather_all;
 use crate::part::ProgramPart;
 use capl_tree::{Decl, DeclType, Declr, Head, Param, Proc};
-use sim_outside::NoMemory;
 use std::alloc::Global;
+use texts::NoMemory;
 
 /// Where a declaration stands.
 #[derive(Clone, Copy, Debug, PartialEq, Eq)]

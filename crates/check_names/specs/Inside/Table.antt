@@ -1,5 +1,5 @@
 -- What tables of names have.
-use Rattle.std.specs.Prelude.{◌≡◌, ℕ, ◌==◌, Bool, false, ◌&&◌, nat_lt, if◌then◌else◌, List, find, position, slice_get, Option, None}
+use Rattle.std.specs.Prelude.{◌≡◌, ℕ, ◌==◌, Bool, true, ◌&&◌, ◌||◌, nat_le, nat_lt, List, find, position, slice_get, Option, Some}
 use Rattle.std.specs.Option.{option_and_then, option_map_or}
 use Rattle.std.specs.Str.{bytes_eq}
 use Rattle.std.specs.Map.{lookup}
@@ -24,17 +24,19 @@ abbrev pub is_named_before : ℕ → List ℕ → ℕ → Variable → Bool
 is_named_before owner name token v =
     v.owner == owner && (bytes_eq name v.name && nat_lt v.token token)
 
--- the declared name of a variable that was found stands before a token
-abbrev pub stands_before : ℕ → Option Variable → Bool
-stands_before token found = option_map_or (λ v. nat_lt v.token token) found false
+-- the tables have for each name the first variable of their owner
+abbrev pub AreTables : List NameTable → List Variable → Type 0
+AreTables tables vs = (owner : ℕ) (name : List ℕ) →
+    number_at tables owner name ≡ position (is_named owner name) vs
 
--- the tables have for each name the first variable of their owner, and where any variable of that name stands
--- before a token the first one does
-pub record AreTables (tables : List NameTable) (vs : List Variable) : Type 0 where
-  pub first : (owner : ℕ) (name : List ℕ) → number_at tables owner name ≡ position (is_named owner name) vs
-  pub before : (owner : ℕ) (name : List ℕ) (token : ℕ) → position (is_named_before owner name token) vs
-      ≡ (if stands_before token (find (is_named owner name) vs)
-      then position (is_named owner name) vs else None)
+-- a variable of a procedure does not stand before the first one of its name there
+abbrev pub is_in_order : List Variable → Variable → Bool
+is_in_order vs v = v.owner == 0
+    || option_map_or (λ first. nat_le first.token v.token) (find (is_named v.owner v.name) vs) true
+
+-- so it is with each of them
+abbrev pub AreInOrder : List Variable → Type 0
+AreInOrder vs = (i : ℕ) (v : Variable) → slice_get vs i ≡ Some v → is_in_order vs v ≡ true
 
 -- a table has for each name the first function of that name
 abbrev pub IsCalled : NameTable → List Function → Type 0

@@ -5,7 +5,7 @@ use Rattle.std.specs.Option.{option_and_then, option_map_or}
 use Rattle.capl_meaning.specs.Names.{is_global}
 use Rattle.capl_meaning.specs.Variable.{Variable}
 use Rattle.check_names.specs.Variable.{is_misfit}
-use Rattle.check_names.proofs.NameLemmas.{find_position}
+use Rattle.check_names.proofs.PositionLemmas.{find_position}
 use Rattle.check_names.proofs.global.names_misfit.Goals as goal
 
 pub returns-in-None : goal.returns-in-None

@@ -1,17 +1,18 @@
 -- One more variable.
-use Rattle.std.proofs.Common.{◌∙◌, List, sym, subst, rules, take}
+use Rattle.std.proofs.Common.{◌∙◌, List, arith, sym, subst, rules, take}
 use Rattle.std.proofs.lemmas.List.{take_all}
 use Rattle.capl_meaning.specs.Variable.{Variable}
 use Rattle.check_names.specs.declared.variable.Declared.{Declared}
 use Rattle.check_names.specs.Inside.Table.{AreTables}
 use Rattle.check_names.specs.Variable.{variable_in, variables_in}
 use Rattle.check_names.proofs.ScopeLemmas.{tables_more}
-use Rattle.check_names.proofs.TakeLemmas.{in_whole_map, map_length, map_more}
+use Rattle.check_names.proofs.TakeLemmas.{map_length, map_more}
 use Rattle.check_names.proofs.scope.tables_of.Goals as goal
 
 pub loop-variable-preserved : goal.loop-variable-preserved
 loop-variable-preserved c = record {
   number = search rules;
+  fits = search rules;
   tables = λ base.
       let i = c.loop-variable.variable-index in
       let all = c.args.variables.now in
@@ -22,13 +23,15 @@ loop-variable-preserved c = record {
       (variable_in base item) c.loop-variable.number
       (c.loop-variable.invariant.number ∙ map_length (variable_in base) i all c.loop-variable-test.true)
       (c.loop-variable.invariant.tables base)
-      (λ owner name. c.in_ok-note_variable.ensures.noted base owner name)
-      (λ k w at found. c.in_ok-note_variable.ensures.rises base k w at (in_whole_map (variable_in base) i k all w found)));
+      (λ owner name. c.in_ok-note_variable.ensures base owner name));
 }
 
-pub returns : goal.returns
-returns c = λ base.
+pub returns-clause-first : goal.returns-clause-first
+returns-clause-first c = λ base.
     let i = c.loop-variable.variable-index in
     let all = c.args.variables.now in
     subst (λ (ds : List Declared). AreTables c.loop-variable.tables.items (variables_in base ds))
     (take_all i all c.loop-variable-test.false) (c.loop-variable.invariant.tables base)
+
+pub returns-clause-few : goal.returns-clause-few
+returns-clause-few c = omega arith
