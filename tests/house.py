@@ -14,6 +14,10 @@ Of each crate, or of those that are named:
 - no file has more than 800 lines;
 - crates.txt lists with it only crates that its files name.
 
+Where no crate is named, also that docs/crates.md has the headings and crates of crates.txt, in its order: a
+heading is a comment directly above a crate there, and a `## ` line above a row that begins with a crate's
+name in backquotes here.
+
 Prints a line for each fault. The last line is 'N files, M faults'.
 """
 import pathlib
@@ -147,10 +151,40 @@ def faults_of_list(name, below):
             yield f"crates.txt: {name} lists {other}, which none of its files names"
 
 
+def layers_of(path, heading, crate):
+    """The layers of a file in order, each a heading with its crates; a heading without crates is none."""
+    layers = []
+    for line in path.read_text(encoding="utf-8").split("\n"):
+        if found := heading.match(line):
+            layers.append((found[1].strip(), []))
+        elif (found := crate.match(line)) and layers:
+            layers[-1][1].append(found[1])
+    return [(name, crates) for name, crates in layers if crates]
+
+
+def faults_of_page():
+    """Where the layers and crates of docs/crates.md are not those of crates.txt."""
+    listed = layers_of(ROOT / "crates.txt", re.compile(r"# (.*)"), re.compile(r"([a-z_0-9]+)(?: staticlib)?:"))
+    shown = layers_of(ROOT / "docs" / "crates.md", re.compile(r"## (.*)"), re.compile(r"\| `([a-z_0-9]+)` \|"))
+    for i in range(max(len(listed), len(shown))):
+        name, crates = listed[i] if i < len(listed) else ("", [])
+        other, rows = shown[i] if i < len(shown) else ("", [])
+        if name != other:
+            yield f"docs/crates.md: layer {i + 1} is '{other}', and in crates.txt '{name}'"
+        elif crates != rows:
+            missing = [crate for crate in crates if crate not in rows]
+            more = [crate for crate in rows if crate not in crates]
+            what = f"lacks {missing} and has {more} besides" if missing or more else f"is not in the order {crates}"
+            yield f"docs/crates.md: layer '{name}' {what}"
+
+
 def main():
     names = sys.argv[1:] or sorted(path.name for path in (ROOT / "crates").iterdir() if path.is_dir())
     files = faults = 0
     lists = listed()
+    for fault in faults_of_page() if not sys.argv[1:] else ():
+        faults += 1
+        print(fault)
     for name in names:
         for fault in faults_of_list(name, lists.get(name, [])):
             faults += 1

@@ -13,10 +13,14 @@ output is:
     room    a file that takes as many bytes as this file says, and then fails
 
 Each scenario runs in a copy of its folder, for at most 60 seconds, and nothing
-may stand on standard error. The last line is 'N passed, M failed'.
+may stand on standard error. Then `capl` is tried: without words and when asked for help,
+in a checkout with the released program and nothing built, where that program is of the
+sources, and in one whose sources are others, where it has to build and cannot.
+The last line is 'N passed, M failed'.
 """
 import contextlib
 import fcntl
+import hashlib
 import os
 import pathlib
 import resource
@@ -113,20 +117,75 @@ def faults_of(program, folder):
     return faults
 
 
+def called(script, *words, **how):
+    """Calls capl with words, and gives status, output and error output."""
+    done = subprocess.run([script, *words], stdin=subprocess.DEVNULL, capture_output=True, timeout=SECONDS, **how)
+    return done.returncode, done.stdout, done.stderr
+
+
+def faults_of_help(*words):
+    """What is wrong with what capl says of its use."""
+    status, out, err = called(ROOT / "capl", *words)
+    if status != 2 or out or not err.startswith(b"usage: capl "):
+        yield f"status {status}, wrote {out[:400]!r}, standard error has {err[:400]!r}"
+
+
+@contextlib.contextmanager
+def fresh_checkout():
+    """A copy of what capl reads, with nothing built, and an environment without rt."""
+    places = [it for it in os.environ["PATH"].split(":") if not shutil.which("rt", path=it)]
+    with tempfile.TemporaryDirectory() as keep:
+        top = pathlib.Path(keep)
+        for name in ("crates", "examples", "release"):
+            shutil.copytree(ROOT / name, top / name, ignore=shutil.ignore_patterns("out", "must-fail"))
+        for name in ("capl", "crates.txt"):
+            shutil.copy(ROOT / name, top)
+        yield top, {**os.environ, "PATH": ":".join(places)}
+
+
+def is_released(top):
+    """Whether the released program of a checkout is of its sources, under the kit that it is of."""
+    if not (top / "release" / "sources").exists():
+        return False
+    kit, told = (top / "release" / "sources").read_text(encoding="utf-8").splitlines()
+    paths = [top / "crates.txt", *(path for kind in ("rt", "antt") for path in top.glob(f"crates/**/*.{kind}"))]
+    whole = hashlib.sha256(kit.encode() + b"\n")
+    for name, path in sorted((os.fsencode(path.relative_to(top)), path) for path in paths):
+        whole.update(hashlib.sha256(path.read_bytes()).hexdigest().encode() + b"  " + name + b"\n")
+    return whole.hexdigest() == told
+
+
+def faults_of_released():
+    """What is wrong with capl where nothing is built: it runs the released program, but only over its sources."""
+    with fresh_checkout() as (top, env):
+        hello = top / "examples" / "hello"
+        words = top / "capl", "window", hello / "hello.scn"
+        said = called(*words, env=env)
+        if is_released(top) and said != (0, (hello / "stdout").read_bytes(), b""):
+            yield f"the released program: {said}"
+        with open(next(top.glob("crates/*/src/main.rt")), "a", encoding="utf-8") as file:
+            file.write("\n")
+        status, out, _ = called(*words, env=env)
+        if status != 70 or out:
+            yield f"of other sources than the released program's: status {status}, wrote {out[:400]!r}"
+
+
 def main():
     if len(sys.argv) != 2:
         sys.exit("usage: run.py PROGRAM")
     program = str(pathlib.Path(sys.argv[1]).resolve())
     folders = sorted(path.parent for group in ("examples", "tests/cases")
                      for path in (ROOT / group).glob("*/words"))
+    trials = [(folder.relative_to(ROOT), faults_of(program, folder)) for folder in folders]
+    trials += [(" ".join(["capl", *words]), list(faults_of_help(*words))) for words in ((), ("--help",), ("-h",))]
+    trials += [("capl on a fresh clone", list(faults_of_released()))]
     passed = failed = 0
-    for folder in folders:
-        faults = faults_of(program, folder)
+    for name, faults in trials:
         if not faults:
             passed += 1
             continue
         failed += 1
-        print(f"FAIL {folder.relative_to(ROOT)}")
+        print(f"FAIL {name}")
         for fault in faults:
             print(f"    {fault}")
     print(f"{passed} passed, {failed} failed")

@@ -9,5 +9,3 @@ pub use plain_bus::PlainBus;
 mod places;
 mod plain_bus;
 mod ranks;
-#[cfg(test)]
-mod tests;

@@ -11,10 +11,10 @@ use can_bus::{
     Bus, Ended, Transmission, Waiting, intermission, time_on_wire, transmission_with_rank,
 };
 use can_frame::Frame;
-use sim_outside::NoMemory;
 use std::alloc::Global;
 use std::collections::BTreeMap;
 use std::marker::Model;
+use texts::NoMemory;
 
 /// The bus over a list of the waiting requests, by node and then by number.
 ///

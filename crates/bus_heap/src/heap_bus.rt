@@ -15,10 +15,10 @@ use can_bus::{
     Bus, Ended, Transmission, Waiting, intermission, rank, time_on_wire, transmission_with_rank,
 };
 use can_frame::Frame;
-use sim_outside::NoMemory;
 use std::alloc::Global;
 use std::collections::BTreeMap;
 use std::marker::Model;
+use texts::NoMemory;
 
 /// The greatest number that a request can have.
 const LAST_NUMBER: u64 = u64::MAX;

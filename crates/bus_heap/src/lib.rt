@@ -11,5 +11,3 @@ pub use heap_bus::HeapBus;
 mod heap;
 mod heap_bus;
 mod ranks;
-#[cfg(test)]
-mod tests;

@@ -4,8 +4,8 @@ ghost use Rattle.std.specs.Prelude.{◌≡◌, map, IfOk};
 ghost use Rattle.can_bus.specs.Ranks.{with_rank_in};
 
 use can_bus::{Transmission, Waiting, rank};
-use sim_outside::NoMemory;
 use std::alloc::Global;
+use texts::NoMemory;
 
 /// A request, where it is the node's with its rank for its number.
 fn with_rank(

@@ -9,8 +9,8 @@ ghost use Rattle.bytecode.specs.Tables.{KeepsTables};
 use crate::code::{Code, Fun};
 use crate::rule::keeps_rule;
 use crate::tables::keeps_tables;
-use sim_outside::NoMemory;
 use std::alloc::Global;
+use texts::NoMemory;
 
 /// The first place whose rule fails, or `None` where every rule holds.
 pub(crate) fn first_failure(alloc: Global, code: &Code) -> Result<Option<u32>, NoMemory>

@@ -1,7 +1,7 @@
 // Why code is not verified.
 
 use crate::code::Code;
-use sim_outside::NoMemory;
+use texts::NoMemory;
 
 /// Why code is not verified.
 #[derive(Debug, Drop)]

@@ -13,8 +13,8 @@ use crate::code::{Code, Fun, Handler};
 use crate::distinct::{keys_differ, selectors_are_apart, timers_differ};
 use int_kinds::{Kind, holds, is_number};
 use message_cells::begin_with_event;
-use sim_outside::NoMemory;
 use std::alloc::Global;
+use texts::NoMemory;
 use vm_host::{Event, Selector};
 use write_format::Format;
 

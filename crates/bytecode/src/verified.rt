@@ -7,9 +7,9 @@ ghost use Rattle.bytecode.specs.Verified.{IsShortCode, IsVerified};
 use crate::code::Code;
 use crate::failure::first_failure;
 use crate::refusal::VerifyRefusal;
-use sim_outside::NoMemory;
 use std::alloc::Global;
 use std::marker::Model;
+use texts::NoMemory;
 
 /// Code that keeps every rule of the verifier. Only [`verify`] makes it.
 ///

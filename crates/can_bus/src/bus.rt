@@ -6,7 +6,7 @@ ghost use Rattle.can_bus.specs.declared.bus.Ended.{Ended};
 ghost use Rattle.can_bus.specs.Laws.{RequestsCommute, SoundStays, DueLater, DueLaterFromNothing};
 
 use can_frame::Frame;
-use sim_outside::NoMemory;
+use texts::NoMemory;
 
 /// A frame that left the wire, and the node that sent it.
 #[derive(Clone, Copy, Debug, PartialEq, Eq)]

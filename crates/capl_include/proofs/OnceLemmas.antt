@@ -12,7 +12,7 @@ use Rattle.capl_lexer.specs.declared.token.Token.{Token}
 use Rattle.capl_include.specs.Answer.{HaveDifferentNames}
 use Rattle.capl_include.specs.Expansion.{Expansion, has_met, meeting}
 use Rattle.capl_include.specs.Inside.Once.{GoesOnce, ReadsEach}
-use Rattle.sim_outside.specs.Fault.{raised, raised_by}
+use Rattle.texts.specs.Fault.{raised, raised_by}
 use Rattle.capl_include.specs.declared.expanded.SourceFile.{SourceFile}
 
 or_true : (a b : Bool) → a ≡ true → (a || b) ≡ true

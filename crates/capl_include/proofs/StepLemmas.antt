@@ -1,6 +1,6 @@
 -- The step of an include.
 use Rattle.std.proofs.Common.{◌≡◌, ℕ, true, false, List, [], ◌∷◌, refl, sym, ap, subst}
-use Rattle.sim_outside.specs.declared.blame.Blame.{Blame}
+use Rattle.texts.specs.declared.blame.Blame.{Blame}
 use Rattle.capl_lexer.specs.declared.token.Tok.{Tok}
 use Rattle.capl_lexer.specs.declared.token.Tok.TheVariants as tok
 use Rattle.capl_lexer.specs.declared.token.Token.{Token}

@@ -3,7 +3,7 @@ use Rattle.std.proofs.Common.{◌≡◌, ◌<◌, ◌≤◌, ◌+◌, ℕ, zero,
 use Rattle.std.specs.Prelude.{◌⊎◌, IfSome, IfErr, IsErrAnd}
 use Rattle.std.proofs.lemmas.Bool.Decides.{nat_tests}
 use Rattle.std.proofs.lemmas.List.{drop_more, drop_all}
-use Rattle.sim_outside.specs.declared.blame.Blame.{Blame}
+use Rattle.texts.specs.declared.blame.Blame.{Blame}
 use Rattle.capl_lexer.specs.Reading.{line_at, token_limit}
 use Rattle.capl_lexer.specs.declared.token.Tok.{Tok}
 use Rattle.capl_lexer.specs.declared.token.Tok.TheVariants as tok

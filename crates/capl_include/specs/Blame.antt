@@ -1,7 +1,7 @@
 -- The rules that the files of a program may break, and their places.
 use Rattle.std.specs.Prelude.{ℕ, List, Some, None}
-use Rattle.sim_outside.specs.declared.blame.Blame.{Blame}
-use Rattle.sim_outside.specs.declared.blame.Rule.{Rule}
+use Rattle.texts.specs.declared.blame.Blame.{Blame}
+use Rattle.texts.specs.declared.blame.Rule.{Rule}
 
 -- a rule on sources
 abbrev pub source_rule : ℕ → Rule

@@ -4,8 +4,8 @@ ghost use Rattle.capl_include.specs.Blame.{file_blame, place_blame};
 ghost use Rattle.capl_include.specs.Inside.Refusal.{IsBlamedOrNoMemory};
 
 use crate::refusal::ExpandRefusal;
-use sim_outside::{Blame, NoMemory, Rule, Text};
 use std::alloc::Global;
+use texts::{Blame, NoMemory, Rule, Text};
 
 /// No blank, comment or token begins here.
 pub(crate) const NO_TOKEN: Rule = Rule {

@@ -2,7 +2,7 @@
 
 use capl_lexer::Token;
 use items::Items;
-use sim_outside::Text;
+use texts::Text;
 
 /// A file of a program.
 #[derive(Debug, Drop)]

@@ -2,7 +2,7 @@
 
 ghost use Rattle.std.specs.Prelude.{◌≡◌, ◌+◌, ◌<◌, ◌≤◌, false, IfOk, IfErr, OnOk, IfSome, IsErrOf, length};
 ghost use Rattle.capl_lexer.specs.Reading.{token_limit};
-ghost use Rattle.sim_outside.specs.Fault.{HasRisen, raised, raised_by};
+ghost use Rattle.texts.specs.Fault.{HasRisen, raised, raised_by};
 ghost use Rattle.capl_include.specs.Expansion.{Went, has_met};
 ghost use Rattle.capl_include.specs.Answer.{IsAnswer, IsOnly, HaveDifferentNames, token_count};
 ghost use Rattle.capl_include.specs.Inside.Once.{GoesOnce, ReadsEach};
@@ -17,8 +17,9 @@ use crate::progress::Progress;
 use crate::refusal::ExpandRefusal;
 use capl_lexer::{LexRefusal, TOKEN_LIMIT, Tok, Token, lex};
 use items::Items;
-use sim_outside::{FileRefusal, Files, Text};
+use sim_outside::{FileRefusal, Files};
 use std::alloc::Global;
+use texts::Text;
 
 /// The most bytes of a file.
 const BYTE_LIMIT: usize = 1 << 20;

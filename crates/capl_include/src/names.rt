@@ -4,8 +4,9 @@ ghost use Rattle.std.specs.Prelude.{◌≡◌, IfOk};
 ghost use Rattle.std.specs.List.{list_all};
 ghost use Rattle.capl_include.specs.Name.{with_slashes, included_name, is_shown, is_included_name};
 
-use sim_outside::{NoMemory, Text, beside};
+use sim_outside::beside;
 use std::alloc::Global;
+use texts::{NoMemory, Text};
 
 /// The most bytes that the name of an included file may have, its folder's included.
 const NAME_LIMIT: usize = 255;

@@ -7,9 +7,9 @@ use crate::expanded::{Expanded, SourceFile};
 use crate::refusal::ExpandRefusal;
 use capl_lexer::Token;
 use items::Items;
-use sim_outside::{NoMemory, Text};
 use std::alloc::Global;
 use std::marker::Model;
+use texts::{NoMemory, Text};
 
 /// The most files that a program may have.
 const FILE_LIMIT: usize = 32;

@@ -3,8 +3,8 @@
 ghost use Rattle.std.specs.Prelude.{◌≡◌};
 ghost use Rattle.capl_include.specs.declared.refusal.ExpandRefusal.TheVariants.{NoMemory};
 
-use sim_outside::{Blame, NoMemory};
 use std::alloc::AllocFailed;
+use texts::{Blame, NoMemory};
 
 /// Why a program was not expanded.
 #[derive(Debug, Drop)]

@@ -5,7 +5,7 @@ use Rattle.std.specs.Str.{bytes_eq}
 use Rattle.std.proofs.lemmas.Bool.{and_parts}
 use Rattle.std.proofs.lemmas.List.{append_assoc, append-nil, append_cancel_left, map_push, take_at, drop_at, drop_more, take-append-drop, length-take-le}
 use Rattle.std.proofs.lemmas.Slice.Eq.{bytes_eq-Decides}
-use Rattle.sim_outside.specs.declared.blame.Rule.{Rule}
+use Rattle.texts.specs.declared.blame.Rule.{Rule}
 use Rattle.capl_lexer.specs.Screening.{kinds_of, EndsWith, IsFloatWord, IsFloatingPoint, IsOutsideWord, IsOutsideSign, IsEventName, IsOutsideName, IsOutside, floating_point_rule, outside_rule, BreaksBehind, Breaks}
 use Rattle.capl_lexer.specs.Inside.Screening.{IsOther, IsBehind, is_on, behind_name, behind_sign, behind_word, behind_token, is_float_word, is_point, is_floating_point, is_outside_word, is_bracket, is_outside_sign, is_event_name, is_outside_name, is_outside}
 use Rattle.capl_lexer.specs.declared.screening.Behind.{Behind}

@@ -7,8 +7,8 @@ ghost use Rattle.capl_lexer.specs.Inside.Front.{IsTokenFront, HasNoToken};
 use crate::byte_class::ByteClass;
 use crate::front::Front;
 use crate::token::Tok;
-use sim_outside::{NoMemory, Text};
 use std::alloc::Global;
+use texts::{NoMemory, Text};
 
 /// The token at the front of a text that begins with `#`, or None where no letter follows it.
 pub(crate) fn directive(alloc: Global, text: &[u8]) -> Result<Option<Front>, NoMemory>

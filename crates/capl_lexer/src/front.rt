@@ -11,8 +11,8 @@ use crate::quoted::{character, string};
 use crate::signs::sign;
 use crate::token::Tok;
 use crate::words::reserved_word;
-use sim_outside::{NoMemory, Text};
 use std::alloc::Global;
+use texts::{NoMemory, Text};
 
 /// A token at the front of a text.
 #[derive(Debug, Drop)]

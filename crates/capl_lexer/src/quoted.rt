@@ -10,8 +10,8 @@ ghost use Rattle.capl_lexer.specs.Inside.Item.{IsItemFront, HasNoItem, IsEscapeF
 use crate::byte_class::ByteClass;
 use crate::front::Front;
 use crate::token::Tok;
-use sim_outside::{NoMemory, Text};
 use std::alloc::Global;
+use texts::{NoMemory, Text};
 
 /// A byte of a string or a character: what it is, and how many bytes stand for it.
 #[derive(Clone, Copy, Debug)]

@@ -3,8 +3,8 @@
 ghost use Rattle.std.specs.Prelude.{◌≡◌};
 ghost use Rattle.capl_lexer.specs.declared.refusal.LexRefusal.TheVariants.{NoMemory};
 
-use sim_outside::NoMemory;
 use std::alloc::AllocFailed;
+use texts::NoMemory;
 
 /// Why a text was not read.
 #[derive(Debug, Drop)]

@@ -3,10 +3,10 @@
 ghost use Rattle.std.specs.Prelude.{◌≡◌, ◌↔◌, ◌<◌, ◌∷◌, ℕ, [], IsTrue, IfSome, IfNone, MatchOption};
 ghost use Rattle.capl_lexer.specs.Screening.{kinds_of, EndsWith, BreaksBehind, Breaks};
 ghost use Rattle.capl_lexer.specs.Inside.Screening.{IsBehind, behind_token, is_on, is_floating_point, is_outside_word, is_outside_sign, is_event_name, is_outside_name, is_outside};
-ghost use Rattle.sim_outside.specs.declared.blame.Rule.{Rule};
+ghost use Rattle.texts.specs.declared.blame.Rule.{Rule};
 
 use crate::token::{Sign, Tok, Token, Word};
-use sim_outside::Rule;
+use texts::Rule;
 
 /// The token is floating point.
 const FLOATING_POINT: Rule = Rule {

@@ -7,8 +7,8 @@ use crate::byte_class::ByteClass;
 use crate::comment::{block_comment, line_comment};
 use crate::front::token_front;
 use crate::token::Tok;
-use sim_outside::NoMemory;
 use std::alloc::Global;
+use texts::NoMemory;
 
 /// A step of the reading of a text.
 #[derive(Debug, Drop)]

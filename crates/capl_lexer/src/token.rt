@@ -3,7 +3,7 @@
 ghost use Rattle.std.specs.Prelude.{◌≡◌};
 ghost use Rattle.capl_lexer.specs.Spelling.{word_spelling};
 
-use sim_outside::Text;
+use texts::Text;
 
 /// A token and where it stands in its file.
 #[derive(Debug, Drop)]

@@ -13,8 +13,8 @@ use Rattle.signal_codec.specs.declared.layout.Layout.{Layout}
 use Rattle.vm_host.specs.declared.outcome.Outcome.TheVariants.{Trapped}
 use Rattle.vm_host.specs.declared.outcome.TrapKind.TheVariants.{Index, ZeroDivisor}
 use Rattle.message_cells.specs.Message.{size}
-use Rattle.worlds.specs.World.{World, Run, Gives, Fails, and_then, run_map}
-use Rattle.worlds.specs.Control.{Calls, Computes, deciding}
+use Rattle.control_flow.specs.World.{World, Run, Gives, Fails, and_then, run_map}
+use Rattle.control_flow.specs.Control.{Calls, Computes, deciding}
 use Rattle.capl_tree.specs.declared.procedure.Param.{Param}
 use Rattle.capl_tree.specs.declared.expr.Expr.{Expr, Row_of-Expr, end_of-Expr, more_of-Expr, items-the_row-Expr}
 use Rattle.capl_tree.specs.declared.expr.Expr.TheVariants as expr

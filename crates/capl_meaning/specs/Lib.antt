@@ -21,6 +21,5 @@ pub mod Expression
 pub mod Statement
 pub mod Procedure
 pub mod Example
-pub mod Reaction
 pub mod RunExample
 pub mod ChoiceExample

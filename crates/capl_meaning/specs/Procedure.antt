@@ -7,14 +7,15 @@ use Rattle.vm_host.specs.declared.event.Event.{Event}
 use Rattle.vm_host.specs.declared.event.Event.TheVariants as event
 use Rattle.vm_host.specs.declared.outcome.Outcome.{Outcome}
 use Rattle.vm_host.specs.declared.outcome.Outcome.TheVariants.{Done}
-use Rattle.worlds.specs.World.{Run, Gives, Fails}
-use Rattle.worlds.specs.Control.{Calls, Does, End, calls_by, in_order}
+use Rattle.dbc_reader.specs.declared.message.DbcMessage.{DbcMessage}
+use Rattle.control_flow.specs.World.{Run, Gives, Fails}
+use Rattle.control_flow.specs.Control.{Calls, Does, End, calls_by, in_order}
 use Rattle.capl_tree.specs.declared.file.Program.{Program}
 use Rattle.capl_tree.specs.declared.procedure.Head.{Head}
 use Rattle.capl_tree.specs.declared.procedure.Head.TheVariants as head
 use Rattle.capl_tree.specs.declared.statement.Stmt.{Stmt}
 use Rattle.capl_meaning.specs.Variable.{Part, Globals, Procedure, parts_of}
-use Rattle.capl_meaning.specs.Names.{Function, Names, Scope, global, inside, inside_function}
+use Rattle.capl_meaning.specs.Names.{Function, Names, Scope, global, inside, inside_function, names_of}
 use Rattle.capl_meaning.specs.ProcedureRules.{selector_of}
 use Rattle.capl_meaning.specs.Calls.{function_numbered}
 use Rattle.capl_meaning.specs.Store.{This, timer_number}
@@ -95,6 +96,10 @@ handlers_of_part names (Procedure number file procedure) = option_map_or (λ e. 
 -- the event procedures of a program, in program order
 abbrev pub handlers_of : Names → Program → List Handler
 handlers_of names program = flat_map (handlers_of_part names) (parts_of program)
+
+-- the event procedures of a program with a database, in program order
+abbrev pub handlers_in : List DbcMessage → Program → List Handler
+handlers_in base program = handlers_of (names_of base program) program
 
 -- where and when an event procedure runs: with `this`, after the measurement has ended or not, at a moment
 abbrev pub setting_of : Handler → This → Bool → ℕ → Setting

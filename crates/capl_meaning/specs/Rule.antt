@@ -1,6 +1,6 @@
 -- The rules on programs of well formed trees. Their numbers are this project's own.
 use Rattle.std.specs.Prelude.{ℕ}
-use Rattle.sim_outside.specs.declared.blame.Rule.{Rule}
+use Rattle.texts.specs.declared.blame.Rule.{Rule}
 
 -- a rule on sources, by its number
 abbrev pub source_rule : ℕ → Rule

@@ -19,18 +19,17 @@ use Rattle.capl_tree.specs.declared.statement.Stmt.{Stmt}
 use Rattle.capl_tree.specs.declared.statement.Stmt.TheBlock.{end_of-Arm, more_of-Arm}
 use Rattle.capl_tree.specs.declared.statement.Stmt.TheVariants as stmt
 use Rattle.capl_tree.specs.Forms as tree
-use Rattle.rounds.specs.declared.occurrence.Occurrence.TheVariants.{Start}
-use Rattle.rounds.specs.Reaction.{RunEnd}
 use Rattle.capl_meaning.specs.Names.{names_of}
-use Rattle.capl_meaning.specs.Store.{Store, lay}
-use Rattle.capl_meaning.specs.Initial.{first_store}
-use Rattle.capl_meaning.specs.Reaction.{handler_end, handlers_in}
+use Rattle.capl_meaning.specs.Store.{lay}
+use Rattle.capl_meaning.specs.Initial.{first_store, plain_message}
+use Rattle.capl_meaning.specs.Procedure.{Ending, ending_of, handlers_in}
 use Rattle.capl_meaning.specs.Example.{declares, file_of, number, on_start, plain, procedure}
 
 -- the end of the first event procedure of a program when the measurement starts, with so many turns
-abbrev pub start_end : List DbcMessage → Program → ℕ → Option (RunEnd Store)
+abbrev pub start_end : List DbcMessage → Program → ℕ → Option Ending
 start_end base program turns =
-    option_map (λ handler. handler_end handler turns (first_store (names_of base program)) Start 0 [])
+    option_map (λ handler. ending_of handler (record { frame = plain_message 0 0; key = pos 0 }) false 0 turns
+    (record { store = first_store (names_of base program); active = [] }))
     (slice_get (handlers_in base program) 0)
 
 -- what a run did, how many turns it took, and how it ended
@@ -42,13 +41,13 @@ pub record Ran : Type 0 where
 -- the same of the start of a program
 abbrev pub ran : List DbcMessage → Program → ℕ → Option Ran
 ran base program turns =
-    option_map (λ end. record { effects = end.effects; turns = end.turns; outcome = end.outcome })
+    option_map (λ end. record { effects = end.effects; turns = end.turns_taken; outcome = end.outcome })
     (start_end base program turns)
 
 -- the cells of the variables at the end of the start of a program
 abbrev pub left : List DbcMessage → Program → ℕ → Option (List ℤ)
 left base program turns =
-    option_map (λ end. lay (names_of base program) end.memory) (start_end base program turns)
+    option_map (λ end. lay (names_of base program) end.memory.store) (start_end base program turns)
 
 -- a run that wrote these lines
 abbrev pub wrote : List (List ℕ) → ℕ → Outcome → Option Ran

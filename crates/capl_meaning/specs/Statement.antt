@@ -14,8 +14,8 @@ use Rattle.write_format.specs.Reading.{codes_of, pieces_of}
 use Rattle.vm_host.specs.Duration.{micros}
 use Rattle.vm_host.specs.Effect as effect
 use Rattle.message_cells.specs.Message.{frame_of}
-use Rattle.worlds.specs.World.{World, Run, Gives, and_then, run_map, after_effect}
-use Rattle.worlds.specs.Control.{Calls, Computes, Does, GoesOn, Breaks, Continues, Returns, deciding, for_loop, do_loop, followed_by, leaving_switch, nothing, while_loop}
+use Rattle.control_flow.specs.World.{World, Run, Gives, and_then, run_map, after_effect}
+use Rattle.control_flow.specs.Control.{Calls, Computes, Does, GoesOn, Breaks, Continues, Returns, deciding, for_loop, do_loop, followed_by, leaving_switch, nothing, while_loop}
 use Rattle.capl_tree.specs.declared.expr.Expr.{Expr, items-the_row-Expr}
 use Rattle.capl_tree.specs.declared.expr.Expr.TheVariants as expr
 use Rattle.capl_tree.specs.declared.statement.Stmt.{Stmt, Row_of-Stmt, end_of-Stmt, more_of-Stmt}

@@ -1,6 +1,6 @@
 // Offences.
 
-use sim_outside::Rule;
+use texts::Rule;
 
 /// A place of a program at which it breaks a rule.
 #[derive(Clone, Copy, Debug, PartialEq, Eq)]

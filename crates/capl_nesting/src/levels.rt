@@ -4,8 +4,8 @@ ghost use Rattle.std.specs.Prelude.{◌≡◌, ◌<◌, ◌≤◌, ◌+◌, ◌-
 ghost use Rattle.capl_tree.specs.Nesting.{counted, cleared, closed};
 ghost use Rattle.capl_nesting.specs.Inside.Levels.{counts, IsSummed};
 
-use sim_outside::NoMemory;
 use std::alloc::Global;
+use texts::NoMemory;
 
 /// The levels that are open, each with its count, and the depth that they make.
 #[derive(Drop)]

@@ -8,8 +8,8 @@ ghost use Rattle.capl_nesting.specs.Tokens.{toks};
 
 use crate::levels::Levels;
 use capl_lexer::{Sign, Tok, Token, Word};
-use sim_outside::NoMemory;
 use std::alloc::Global;
+use texts::NoMemory;
 
 /// Whether the tokens nest deeper than `most`. Takes time linear in their number, and memory for as many
 /// levels as they open up to `most`.

@@ -1,3 +1,3 @@
 -- The lemmas of this crate.
-pub mod Turns
+pub mod Ends
 pub mod Whole

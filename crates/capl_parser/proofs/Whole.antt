@@ -13,9 +13,9 @@ use Rattle.capl_tree.specs.Tree.{IsTreeOf}
 use Rattle.expr_parser.specs.declared.refusal.Refusal.{Refusal}
 use Rattle.expr_parser.specs.declared.refusal.Refusal.TheVariants as part
 use Rattle.expr_parser.specs.Reading.{Gives}
-use Rattle.capl_readers.specs.File.{file}
-use Rattle.capl_readers.specs.Statement.{parts_of}
-use Rattle.capl_readers.proofs.Whole.{read_tree, none_spelled}
+use Rattle.parser_laws.specs.File.{file}
+use Rattle.parser_laws.specs.Statement.{parts_of}
+use Rattle.parser_laws.proofs.Whole.{read_tree, none_spelled}
 use Rattle.capl_parser.specs.declared.refusal.ParseRefusal.{ParseRefusal}
 use Rattle.capl_parser.specs.Refusal.{nesting_limit, IsRefusalOf, refusal_of}
 

@@ -4,20 +4,19 @@
 
 ghost use Rattle.std.specs.Prelude.{◌≡◌, ◌<◌, ◌^◌, length};
 ghost use Rattle.expr_parser.specs.Reading.{Gives};
-ghost use Rattle.capl_readers.specs.File as read;
-ghost use Rattle.capl_readers.specs.Statement.{parts_of};
+ghost use Rattle.parser_laws.specs.File as read;
+ghost use Rattle.parser_laws.specs.Statement.{parts_of};
 
 use crate::head::read_head;
-use crate::part::read_declared;
-use crate::statement::read_block;
 use capl_lexer::{Sign, Tok, Word};
 use capl_tree::{Decl, Proc, TopItem};
 use expr_parser::{Cursor, Refusal};
 use items::Items;
-use sim_outside::Text;
+use stmt_parser::{read_block, read_declared};
+use texts::Text;
 
 /// The parts of a file, up to its end.
-#[tactic(auto, unfolding(capl_readers::specs::File::file, capl_readers::specs::Statement::until))]
+#[tactic(auto, unfolding(parser_laws::specs::File::file, parser_laws::specs::Statement::until))]
 pub(crate) fn read_file(cursor: &mut Cursor<'_>, total: u32) -> Result<Items<TopItem>, Refusal>
     requires { length cursor.old < 2 ^ 32 }
     ensures { Gives (read.file (parts_of total) cursor.old) result cursor.new }
@@ -33,7 +32,7 @@ pub(crate) fn read_file(cursor: &mut Cursor<'_>, total: u32) -> Result<Items<Top
 }
 
 /// A part of a file.
-#[tactic(auto, unfolding(capl_readers::specs::File::top_item))]
+#[tactic(auto, unfolding(parser_laws::specs::File::top_item))]
 fn top_item(cursor: &mut Cursor<'_>, total: u32) -> Result<TopItem, Refusal>
     ensures { Gives (read.top_item (parts_of total) cursor.old) result cursor.new }
 {
@@ -48,7 +47,7 @@ fn top_item(cursor: &mut Cursor<'_>, total: u32) -> Result<TopItem, Refusal>
 }
 
 /// Behind `includes`: the names of files between braces.
-#[tactic(auto, unfolding(capl_readers::specs::File::includes, expr_parser::specs::Reading::after))]
+#[tactic(auto, unfolding(parser_laws::specs::File::includes, expr_parser::specs::Reading::after))]
 fn includes(cursor: &mut Cursor<'_>) -> Result<TopItem, Refusal>
     ensures { Gives (read.includes cursor.old) result cursor.new }
 {
@@ -59,7 +58,7 @@ fn includes(cursor: &mut Cursor<'_>) -> Result<TopItem, Refusal>
 }
 
 /// The names of included files, up to a closing brace.
-#[tactic(auto, unfolding(capl_readers::specs::Statement::until))]
+#[tactic(auto, unfolding(parser_laws::specs::Statement::until))]
 fn names(cursor: &mut Cursor<'_>) -> Result<Items<Text>, Refusal>
     ensures { Gives (read.names cursor.old) result cursor.new }
 {
@@ -84,7 +83,7 @@ fn included(cursor: &mut Cursor<'_>) -> Result<Text, Refusal>
 }
 
 /// Behind `variables`: declarations between braces.
-#[tactic(auto, unfolding(capl_readers::specs::File::variables, expr_parser::specs::Reading::after))]
+#[tactic(auto, unfolding(parser_laws::specs::File::variables, expr_parser::specs::Reading::after))]
 fn variables(cursor: &mut Cursor<'_>, total: u32) -> Result<TopItem, Refusal>
     ensures { Gives (read.variables (parts_of total) cursor.old) result cursor.new }
 {
@@ -95,7 +94,7 @@ fn variables(cursor: &mut Cursor<'_>, total: u32) -> Result<TopItem, Refusal>
 }
 
 /// Declarations, up to a closing brace.
-#[tactic(auto, unfolding(capl_readers::specs::Statement::until))]
+#[tactic(auto, unfolding(parser_laws::specs::Statement::until))]
 fn declarations(cursor: &mut Cursor<'_>, total: u32) -> Result<Items<Decl>, Refusal>
     ensures { Gives (read.declarations (parts_of total) cursor.old) result cursor.new }
 {
@@ -110,7 +109,7 @@ fn declarations(cursor: &mut Cursor<'_>, total: u32) -> Result<Items<Decl>, Refu
 }
 
 /// A procedure.
-#[tactic(auto, unfolding(capl_readers::specs::File::procedure, expr_parser::specs::Reading::after))]
+#[tactic(auto, unfolding(parser_laws::specs::File::procedure, expr_parser::specs::Reading::after))]
 fn procedure(cursor: &mut Cursor<'_>, total: u32) -> Result<Proc, Refusal>
     ensures { Gives (read.procedure (parts_of total) cursor.old) result cursor.new }
 {

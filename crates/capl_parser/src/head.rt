@@ -4,17 +4,17 @@
 
 ghost use Rattle.std.specs.Prelude.{◌≡◌};
 ghost use Rattle.expr_parser.specs.Reading.{Gives, items};
-ghost use Rattle.capl_readers.specs.File as read;
+ghost use Rattle.parser_laws.specs.File as read;
 
 use capl_lexer::{Sign, Tok, Word};
 use capl_tree::{Expr, Head, Param, Sel};
 use expr_parser::{Cursor, Refusal};
 use int_kinds::Kind;
 use items::Items;
-use sim_outside::Text;
+use texts::Text;
 
 /// The head of a procedure.
-#[tactic(auto, unfolding(capl_readers::specs::File::procedure_head))]
+#[tactic(auto, unfolding(parser_laws::specs::File::procedure_head))]
 pub(crate) fn read_head(cursor: &mut Cursor<'_>, total: u32) -> Result<Head, Refusal>
     ensures { Gives (read.procedure_head total cursor.old) result cursor.new }
 {
@@ -29,7 +29,7 @@ pub(crate) fn read_head(cursor: &mut Cursor<'_>, total: u32) -> Result<Head, Ref
 }
 
 /// A function whose first word may be this kind.
-#[tactic(auto, unfolding(capl_readers::specs::File::function_of))]
+#[tactic(auto, unfolding(parser_laws::specs::File::function_of))]
 fn function_of(cursor: &mut Cursor<'_>, total: u32, kind: Option<Kind>) -> Result<Head, Refusal>
     ensures { Gives (read.function_of total kind cursor.old) result cursor.new }
 {
@@ -40,7 +40,7 @@ fn function_of(cursor: &mut Cursor<'_>, total: u32, kind: Option<Kind>) -> Resul
 }
 
 /// A function of this kind, from its name on.
-#[tactic(auto, unfolding(capl_readers::specs::File::signature, expr_parser::specs::Reading::after))]
+#[tactic(auto, unfolding(parser_laws::specs::File::signature, expr_parser::specs::Reading::after))]
 fn signature(cursor: &mut Cursor<'_>, total: u32, kind: Option<Kind>) -> Result<Head, Refusal>
     ensures { Gives (read.signature total kind cursor.old) result cursor.new }
 {
@@ -67,7 +67,7 @@ fn name(cursor: &mut Cursor<'_>) -> Result<Text, Refusal>
 }
 
 /// Behind the opening parenthesis of a function: its parameters up to the closing one.
-#[tactic(auto, unfolding(capl_readers::specs::File::parameters, expr_parser::specs::Reading::after))]
+#[tactic(auto, unfolding(parser_laws::specs::File::parameters, expr_parser::specs::Reading::after))]
 fn parameters(cursor: &mut Cursor<'_>, total: u32) -> Result<Items<Param>, Refusal>
     ensures { Gives (read.parameters total cursor.old) result cursor.new }
 {
@@ -99,7 +99,7 @@ fn some_parameters(cursor: &mut Cursor<'_>, total: u32) -> Result<Items<Param>, 
 }
 
 /// A parameter.
-#[tactic(auto, unfolding(capl_readers::specs::File::parameter, capl_readers::specs::File::parameter_of))]
+#[tactic(auto, unfolding(parser_laws::specs::File::parameter, parser_laws::specs::File::parameter_of))]
 fn parameter(cursor: &mut Cursor<'_>, total: u32) -> Result<Param, Refusal>
     ensures { Gives (read.parameter total cursor.old) result cursor.new }
 {
@@ -113,7 +113,7 @@ fn parameter(cursor: &mut Cursor<'_>, total: u32) -> Result<Param, Refusal>
 }
 
 /// Behind `on`: an event.
-#[tactic(auto, unfolding(capl_readers::specs::File::event))]
+#[tactic(auto, unfolding(parser_laws::specs::File::event))]
 fn event(cursor: &mut Cursor<'_>, total: u32) -> Result<Head, Refusal>
     ensures { Gives (read.event total cursor.old) result cursor.new }
 {
@@ -133,7 +133,7 @@ fn event(cursor: &mut Cursor<'_>, total: u32) -> Result<Head, Refusal>
 }
 
 /// Behind `on` and this name: an event.
-#[tactic(auto, unfolding(capl_readers::specs::File::named_event))]
+#[tactic(auto, unfolding(parser_laws::specs::File::named_event))]
 fn named_event(cursor: &mut Cursor<'_>, name: &Text) -> Result<Head, Refusal>
     ensures { Gives (read.named_event name.now cursor.old) result cursor.new }
 {
@@ -152,7 +152,7 @@ fn named_event(cursor: &mut Cursor<'_>, name: &Text) -> Result<Head, Refusal>
 }
 
 /// Behind `on key`: which one.
-#[tactic(auto, unfolding(capl_readers::specs::File::key, expr_parser::specs::Reading::after))]
+#[tactic(auto, unfolding(parser_laws::specs::File::key, expr_parser::specs::Reading::after))]
 fn key(cursor: &mut Cursor<'_>) -> Result<Head, Refusal>
     ensures { Gives (read.key cursor.old) result cursor.new }
 {
@@ -181,7 +181,7 @@ fn selectors(cursor: &mut Cursor<'_>, total: u32) -> Result<Items<Sel>, Refusal>
 }
 
 /// A selector.
-#[tactic(auto, unfolding(capl_readers::specs::File::selector))]
+#[tactic(auto, unfolding(parser_laws::specs::File::selector))]
 fn selector(cursor: &mut Cursor<'_>, total: u32) -> Result<Sel, Refusal>
     ensures { Gives (read.selector total cursor.old) result cursor.new }
 {
@@ -193,7 +193,7 @@ fn selector(cursor: &mut Cursor<'_>, total: u32) -> Result<Sel, Refusal>
 }
 
 /// A selector that is no `*`, at this place.
-#[tactic(auto, unfolding(capl_readers::specs::File::one_selector))]
+#[tactic(auto, unfolding(parser_laws::specs::File::one_selector))]
 fn one_selector(cursor: &mut Cursor<'_>, total: u32, at: u32) -> Result<Sel, Refusal>
     ensures { Gives (read.one_selector total at cursor.old) result cursor.new }
 {
@@ -209,7 +209,7 @@ fn one_selector(cursor: &mut Cursor<'_>, total: u32, at: u32) -> Result<Sel, Ref
 }
 
 /// Behind the first number of a selector at this place: the last, where there is one.
-#[tactic(auto, unfolding(capl_readers::specs::File::range))]
+#[tactic(auto, unfolding(parser_laws::specs::File::range))]
 fn range(cursor: &mut Cursor<'_>, total: u32, at: u32, low: Expr) -> Result<Sel, Refusal>
     ensures { Gives (read.range total at low cursor.old) result cursor.new }
 {

@@ -6,7 +6,7 @@ ghost use Rattle.capl_parser.specs.declared.refusal.ParseRefusal.TheVariants.{No
 ghost use Rattle.capl_parser.specs.Refusal.{refusal_of};
 
 use expr_parser::Refusal;
-use sim_outside::NoMemory;
+use texts::NoMemory;
 
 /// Why tokens have no tree.
 #[derive(Debug, Drop)]

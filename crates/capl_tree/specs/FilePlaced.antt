@@ -3,7 +3,7 @@
 -- The file has `total` tokens. A part is written out before the rest of the file, so that the number of its
 -- first token and the count of the tokens from there on make the total.
 use Rattle.std.specs.Prelude.{ℕ, Bool, List, [], ◌∷◌, Option, Some, None, ⊤}
-use Rattle.sim_outside.specs.declared.text.Text.{Text}
+use Rattle.texts.specs.declared.text.Text.{Text}
 use Rattle.capl_lexer.specs.declared.token.Tok.{Tok}
 use Rattle.capl_lexer.specs.declared.token.Tok.TheVariants as tok
 use Rattle.capl_lexer.specs.declared.token.Word.TheVariants as word

@@ -4,7 +4,7 @@
 -- `void` stands before a function that gives nothing, and whether it stands between parentheses that have no
 -- parameter.
 use Rattle.std.specs.Prelude.{ℕ, Bool, true, false, List, [], ◌∷◌, Option, Some, None, codes}
-use Rattle.sim_outside.specs.declared.text.Text.{Text}
+use Rattle.texts.specs.declared.text.Text.{Text}
 use Rattle.int_kinds.specs.declared.kinds.Kind.{Kind}
 use Rattle.capl_lexer.specs.declared.token.Tok.{Tok}
 use Rattle.capl_lexer.specs.declared.token.Tok.TheVariants as tok

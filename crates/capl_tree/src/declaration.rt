@@ -3,7 +3,7 @@
 use crate::expr::{Expr, Field};
 use int_kinds::Kind;
 use items::Items;
-use sim_outside::Text;
+use texts::Text;
 
 /// A declaration of variables of one type.
 #[derive(Debug, Drop)]

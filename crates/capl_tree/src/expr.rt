@@ -5,7 +5,7 @@ ghost use Rattle.capl_tree.specs.Place.{expression_place, field_place};
 
 use int_kinds::{BinOp, Kind, UnOp};
 use items::{Boxed, Items};
-use sim_outside::Text;
+use texts::Text;
 
 /// An expression.
 #[derive(Debug, Drop)]

@@ -3,7 +3,7 @@
 use crate::declaration::Decl;
 use crate::procedure::Proc;
 use items::Items;
-use sim_outside::Text;
+use texts::Text;
 
 /// A part of a file at its outermost level.
 #[derive(Debug, Drop)]

@@ -4,7 +4,7 @@ use crate::expr::Expr;
 use crate::statement::Stmt;
 use int_kinds::Kind;
 use items::Items;
-use sim_outside::Text;
+use texts::Text;
 
 /// An event procedure or a function.
 #[derive(Debug, Drop)]

@@ -16,8 +16,8 @@ use crate::values::{Known, ValueTable};
 use capl_tree::{Expr, Init};
 use check_names::{Declared, Names, Source};
 use int_kinds::{Kind, wrap};
-use sim_outside::NoMemory;
 use std::alloc::Global;
+use texts::NoMemory;
 
 /// The values of a program's const integers, and how many elements its arrays have.
 #[derive(Debug, Drop)]

@@ -11,8 +11,8 @@ ghost use Rattle.check_sorts.specs.Format.{LeavesLess, codes_by, shown};
 
 use capl_meaning::{Builtin, Sort};
 use int_kinds::{Kind, bits};
-use sim_outside::NoMemory;
 use std::alloc::Global;
+use texts::NoMemory;
 use write_format::{Code, Conversion, Piece, next_piece};
 
 /// What is first of the codes of a text.

@@ -5,9 +5,9 @@ ghost use Rattle.std.specs.Option.{option_or};
 ghost use Rattle.int_kinds.specs.Kind.{IsNumber};
 ghost use Rattle.check_sorts.specs.Constant.{held, is_within, known_at, precedes};
 
-use sim_outside::NoMemory;
 use std::alloc::Global;
 use std::collections::BTreeMap;
+use texts::NoMemory;
 
 /// Values by the file and the token of the names that have them. At each place the first stays. They
 /// are kept in order and not hashed, since who writes a program chooses where its names stand.

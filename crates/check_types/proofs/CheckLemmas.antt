@@ -8,13 +8,13 @@ use Rattle.typed_tree.specs.Sound.{IsSound}
 use Rattle.capl_meaning.specs.declared.offence.Offence.{Offence}
 use Rattle.capl_meaning.specs.Names.{Names, names_of}
 use Rattle.capl_meaning.specs.Offences.{IsFirstOffence, offences_of}
-use Rattle.typed_meaning.specs.Laid.{AreDistinct}
-use Rattle.typed_meaning.proofs.Distinct.{distinct_without_offences}
+use Rattle.typed_laws.specs.Laid.{AreDistinct}
+use Rattle.typed_laws.proofs.Distinct.{distinct_without_offences}
 use Rattle.typed_source.specs.Program.{HasEach, HasNoOther, typed_program}
-use Rattle.call_order.specs.declared.calls.Calls.{Calls}
-use Rattle.call_order.specs.Calls.{AreCallsOf, order_of}
-use Rattle.expression_trees.specs.declared.layout.Layout.{Layout}
-use Rattle.expression_trees.specs.Layout.{IsLaidOut, IsLayoutOf, size_in}
+use Rattle.check_calls.specs.declared.calls.Calls.{Calls}
+use Rattle.check_calls.specs.Calls.{AreCallsOf, order_of}
+use Rattle.type_expressions.specs.declared.layout.Layout.{Layout}
+use Rattle.type_expressions.specs.Layout.{IsLaidOut, IsLayoutOf, size_in}
 use Rattle.check_types.specs.Accepted.{IsAccepted, IsTooLarge}
 use Rattle.check_types.specs.Lines.{line_in}
 

@@ -10,8 +10,8 @@ use Rattle.capl_meaning.specs.Names.{Names, is_global, is_local}
 use Rattle.capl_meaning.specs.Procedure.{timer_named}
 use Rattle.capl_meaning.specs.Store.{key_of, timer_number}
 use Rattle.capl_meaning.specs.Variable.{Variable}
-use Rattle.call_order.proofs.PlaceLemmas.{at_first, no_first}
-use Rattle.call_order.proofs.ReachLemmas.{found_has}
+use Rattle.check_calls.proofs.PlaceLemmas.{at_first, no_first}
+use Rattle.check_calls.proofs.ReachLemmas.{found_has}
 
 -- both of two truths
 both : (a b : Bool) → a && b ≡ true → (a ≡ true) × (b ≡ true)

@@ -2,15 +2,15 @@
 
 ghost use Rattle.std.specs.Prelude.{◌≡◌, ◌++◌, IfOk, OnOk, length};
 ghost use Rattle.check_sorts.specs.Scope.{scope_in};
-ghost use Rattle.statement_trees.specs.Tables.{AreTables, order_of};
+ghost use Rattle.type_statements.specs.Tables.{AreTables, order_of};
 ghost use Rattle.typed_source.specs.Program.{body_of, formats_of_body};
 
 use capl_tree::Stmt;
 use check_sorts::Scope;
 use items::Items;
-use sim_outside::NoMemory;
-use statement_trees::{StatementTables, make_statement};
 use std::alloc::Global;
+use texts::NoMemory;
+use type_statements::{StatementTables, make_statement};
 use typed_tree::TStmt;
 use write_format::Format;
 

@@ -7,18 +7,18 @@ ghost use Rattle.check_types.specs.Refusal.{IsRefusalOf};
 
 use crate::handlers::Source;
 use crate::typed::make_program;
-use call_order::Calls;
 use capl_meaning::Offence;
 use capl_tree::Program;
+use check_calls::Calls;
 use check_names::Names;
 use check_sorts::Constants;
+use check_statements::first_offence;
 use dbc_reader::Database;
-use expression_trees::{Layout, TreeTables};
-use sim_outside::NoMemory;
 use sound_check::is_sound;
-use statement_rules::first_offence;
-use statement_trees::StatementTables;
 use std::alloc::Global;
+use texts::NoMemory;
+use type_expressions::{Layout, TreeTables};
+use type_statements::StatementTables;
 use typed_tree::Typed;
 
 /// Why a program is not accepted.

@@ -3,15 +3,15 @@
 ghost use Rattle.std.specs.Prelude.{◌≡◌, IfOk, filter_map};
 ghost use Rattle.capl_meaning.specs.Procedure.{event_of, timer_named};
 ghost use Rattle.capl_meaning.specs.ProcedureRules.{selector_of};
-ghost use Rattle.expression_trees.specs.Layout.{IsLayoutOf};
-ghost use Rattle.typed_meaning.specs.Laid.{AreDistinct};
+ghost use Rattle.type_expressions.specs.Layout.{IsLayoutOf};
+ghost use Rattle.typed_laws.specs.Laid.{AreDistinct};
 
 use capl_tree::{Head, Sel};
 use check_names::{Names, selector_of};
-use expression_trees::Layout;
 use items::Items;
-use sim_outside::NoMemory;
 use std::alloc::Global;
+use texts::NoMemory;
+use type_expressions::Layout;
 use vm_host::{Event, Selector};
 
 /// What the selectors of a message procedure select.

@@ -3,20 +3,20 @@
 ghost use Rattle.std.specs.Prelude.{◌≡◌, ◌++◌, IfOk, OnOk, Some, length, slice_get};
 ghost use Rattle.capl_meaning.specs.Names.{inside_function};
 ghost use Rattle.check_names.specs.Function.{function_in};
-ghost use Rattle.expression_trees.specs.Layout.{IsLayoutOf};
-ghost use Rattle.statement_trees.specs.Tables.{AreTables, order_of};
-ghost use Rattle.typed_meaning.specs.Agreement.{parameter_slots};
-ghost use Rattle.typed_meaning.specs.Laid.{AreDistinct, slot};
+ghost use Rattle.type_expressions.specs.Layout.{IsLayoutOf};
+ghost use Rattle.type_statements.specs.Tables.{AreTables, order_of};
+ghost use Rattle.typed_laws.specs.Agreement.{parameter_slots};
+ghost use Rattle.typed_laws.specs.Laid.{AreDistinct, slot};
 ghost use Rattle.typed_source.specs.Program.{formats_of_function, formats_of_functions, function_of, functions_of};
 
 use crate::body::make_body;
 use check_names::{DeclaredFunction, Names};
 use check_sorts::{Scope, ThisForm};
-use expression_trees::Layout;
 use items::Items;
-use sim_outside::NoMemory;
-use statement_trees::StatementTables;
 use std::alloc::Global;
+use texts::NoMemory;
+use type_expressions::Layout;
+use type_statements::StatementTables;
 use typed_tree::TFun;
 use write_format::Format;
 

@@ -6,7 +6,7 @@ ghost use Rattle.capl_meaning.specs.Procedure.{handlers_of_part};
 ghost use Rattle.check_names.specs.Part.{part_in, parts_in};
 ghost use Rattle.check_types.specs.Lines.{line_in};
 ghost use Rattle.check_types.specs.Handlers.{lines_of};
-ghost use Rattle.statement_trees.specs.Tables.{AreTables, order_of};
+ghost use Rattle.type_statements.specs.Tables.{AreTables, order_of};
 ghost use Rattle.typed_source.specs.Program.{formats_of_handlers, typed_handlers};
 
 use crate::body::make_body;
@@ -14,9 +14,9 @@ use crate::events::event_of;
 use check_names::{Names, ProgramPart};
 use check_sorts::Scope;
 use items::Items;
-use sim_outside::NoMemory;
-use statement_trees::StatementTables;
 use std::alloc::Global;
+use texts::NoMemory;
+use type_statements::StatementTables;
 use typed_tree::THandler;
 use write_format::Format;
 

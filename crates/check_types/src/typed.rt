@@ -4,18 +4,18 @@ ghost use Rattle.std.specs.Prelude.{◌≡◌, IfOk};
 ghost use Rattle.capl_meaning.specs.Names.{names_of};
 ghost use Rattle.check_types.specs.Lines.{line_in};
 ghost use Rattle.check_types.specs.Handlers.{lines_of};
-ghost use Rattle.statement_trees.specs.Tables.{AreTables, order_of};
+ghost use Rattle.type_statements.specs.Tables.{AreTables, order_of};
 ghost use Rattle.typed_source.specs.Program.{typed_program};
 
 use crate::functions::make_functions;
 use crate::handlers::{Source, make_handlers};
 use capl_tree::Program;
 use check_names::program_parts;
-use expression_trees::{cell_kinds, timer_units};
-use first_values::first_values;
 use items::Items;
-use sim_outside::NoMemory;
 use std::alloc::Global;
+use texts::NoMemory;
+use type_expressions::{cell_kinds, timer_units};
+use type_starts::first_values;
 use typed_tree::Typed;
 
 /// The typed program of a program, by what it declares.

@@ -6,11 +6,11 @@ use Rattle.std.proofs.lemmas.Bool.{eq-eqb}
 use Rattle.std.proofs.lemmas.List.{map-append, length-append, get_or_push, get_or_append_left}
 use Rattle.std.proofs.lemmas.List.Folds.{list_any_at}
 use Rattle.std.proofs.lemmas.Slice.Eq.{bytes_eq-Decides}
-use Rattle.dbc_reader.specs.Token.{Placed, tokens_of}
-use Rattle.dbc_reader.specs.Database.{Said, nothing, is_independent, names_of, last_signals, with_signal, bare, after_signal, after_statement, repeated_signal, repeated, change_first, with_float, with_mark, Lead, IsDatabase, AreDistinct}
-use Rattle.dbc_reader.specs.declared.statement.Statement.{Statement}
-use Rattle.dbc_reader.specs.declared.statement.Statement.TheVariants as statement
-use Rattle.dbc_reader.specs.declared.statement.FloatMark.{FloatMark}
+use Rattle.dbc_statements.specs.Token.{Placed, tokens_of}
+use Rattle.dbc_reader.specs.Database.{Said, nothing, is_independent, names_of, last_signals, with_signal, bare, unmarked, after_signal, after_statement, repeated_signal, repeated, change_first, with_float, with_mark, Lead, IsDatabase, AreDistinct}
+use Rattle.dbc_statements.specs.declared.statement.Statement.{Statement}
+use Rattle.dbc_statements.specs.declared.statement.Statement.TheVariants as statement
+use Rattle.dbc_statements.specs.declared.statement.FloatMark.{FloatMark}
 use Rattle.dbc_reader.specs.declared.owner.Owner.{Owner}
 use Rattle.dbc_reader.specs.declared.owner.Owner.TheVariants as owner
 use Rattle.dbc_reader.specs.declared.signals.DbcSignal.{DbcSignal}
@@ -110,7 +110,7 @@ signal_differs said owner.LastMessage signal line new differ = record {
 
 statement_differs : (said : Said) (st : Statement) → repeated said st ≡ None → Differ said.messages → Differ (after_statement said st).messages
 statement_differs said (statement.Message id id_line name name_line len) new differ = message_differs said id id_line name name_line len (is_independent id name) refl new differ
-statement_differs said (statement.Signal signal line) new differ = signal_differs said said.owner signal line new differ
+statement_differs said (statement.Signal name layout line) new differ = signal_differs said said.owner (unmarked name layout) line new differ
 statement_differs said (statement.Float mark) new differ = differ
 statement_differs said statement.Other new differ = differ
 

@@ -1,5 +1,4 @@
 -- The lemmas of this crate.
-pub mod LexerLemmas
 pub mod Tables
 pub mod SaidLemmas
 pub mod OneReading

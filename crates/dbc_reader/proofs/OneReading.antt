@@ -1,9 +1,9 @@
 -- A text has one database, or one refusal.
 use Rattle.std.proofs.Common.{◌≡◌, ◌≢◌, ℕ, Bool, List, [], ◌∷◌, Option, Some, None, refl, sym, ap, subst, ◌∙◌}
-use Rattle.dbc_reader.specs.Token.{Placed, tokens_of, line_of}
-use Rattle.dbc_reader.specs.Statement.{statement_at, keyword}
+use Rattle.dbc_statements.specs.Token.{Placed, tokens_of, line_of}
+use Rattle.dbc_statements.specs.Statement.{statement_at, keyword}
 use Rattle.dbc_reader.specs.Database.{Said, nothing, has_owner, after_statement, repeated, messages_of, Lead, IsDatabase, IsWrong, IsUnspelled, IsRepeated, IsRefusal}
-use Rattle.dbc_reader.specs.declared.statement.Statement.{Statement}
+use Rattle.dbc_statements.specs.declared.statement.Statement.{Statement}
 use Rattle.dbc_reader.specs.declared.message.DbcMessage.{DbcMessage}
 use Rattle.dbc_reader.specs.declared.refusal.DbcRefusal.{DbcRefusal}
 use Rattle.dbc_reader.specs.declared.refusal.DbcRefusal.TheVariants as refusal

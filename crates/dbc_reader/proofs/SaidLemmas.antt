@@ -5,14 +5,14 @@ use Rattle.std.specs.Str.{bytes_eq}
 use Rattle.std.specs.Global.{Vec}
 use Rattle.std.proofs.lemmas.List.{map-append}
 use Rattle.indexmap.specs.IndexSet.{insert_key}
-use Rattle.dbc_reader.specs.Token.{Placed, line_of}
-use Rattle.dbc_reader.specs.Statement.{statement_at}
-use Rattle.dbc_reader.specs.declared.statement.Statement.{Statement}
+use Rattle.dbc_statements.specs.Token.{Placed, line_of}
+use Rattle.dbc_statements.specs.Statement.{statement_at}
+use Rattle.dbc_statements.specs.declared.statement.Statement.{Statement}
 use Rattle.dbc_reader.specs.declared.signals.DbcSignal.{DbcSignal}
 use Rattle.dbc_reader.specs.declared.message.DbcMessage.{DbcMessage}
 use Rattle.dbc_reader.specs.Database.{Said, has_owner, last_signals, with_signal, after_statement, is_independent, bare, names_of, repeated, repeated_signal, after_signal, Lead}
 use Rattle.dbc_reader.specs.declared.owner.Owner.TheVariants as owner
-use Rattle.dbc_reader.specs.declared.statement.Statement.TheVariants as statement
+use Rattle.dbc_statements.specs.declared.statement.Statement.TheVariants as statement
 use Rattle.dbc_reader.proofs.Tables.{seen}
 
 -- a new name goes last in a table

@@ -4,11 +4,12 @@
 use Rattle.std.specs.Prelude.{◌≡◌, ◌≢◌, ℕ, Bool, true, false, ◌&&◌, ◌==◌, nat_eq, if◌then◌else◌, List, [], ◌∷◌, ◌++◌, map, fold, Option, Some, None, AllPairs, All, codes}
 use Rattle.std.specs.List.{list_any}
 use Rattle.std.specs.Str.{bytes_eq}
-use Rattle.dbc_reader.specs.Token.{Placed, tokens_of, line_of}
-use Rattle.dbc_reader.specs.Statement.{statement_at}
-use Rattle.dbc_reader.specs.declared.statement.Statement.{Statement}
-use Rattle.dbc_reader.specs.declared.statement.Statement.TheVariants as statement
-use Rattle.dbc_reader.specs.declared.statement.FloatMark.{FloatMark}
+use Rattle.signal_codec.specs.declared.layout.Layout.{Layout}
+use Rattle.dbc_statements.specs.Token.{Placed, tokens_of, line_of}
+use Rattle.dbc_statements.specs.Statement.{statement_at}
+use Rattle.dbc_statements.specs.declared.statement.Statement.{Statement}
+use Rattle.dbc_statements.specs.declared.statement.Statement.TheVariants as statement
+use Rattle.dbc_statements.specs.declared.statement.FloatMark.{FloatMark}
 use Rattle.dbc_reader.specs.declared.owner.Owner.{Owner}
 use Rattle.dbc_reader.specs.declared.owner.Owner.TheVariants as owner
 use Rattle.dbc_reader.specs.declared.signals.DbcSignal.{DbcSignal}
@@ -55,6 +56,10 @@ with_signal (m ∷ n ∷ ms) signal = m ∷ with_signal (n ∷ ms) signal
 abbrev pub bare : ℕ → List ℕ → ℕ → DbcMessage
 bare id name len = record { id = id; name = name; len = len; signals = [] }
 
+-- a signal that no mark makes a float
+abbrev pub unmarked : List ℕ → Layout → DbcSignal
+unmarked name layout = record { name = name; layout = layout; float = false }
+
 -- with one more signal, where it belongs to the last message
 abbrev pub after_signal : Said → Owner → DbcSignal → Said
 after_signal said owner.LastMessage signal = record said { messages = with_signal said.messages signal }
@@ -65,7 +70,7 @@ abbrev pub after_statement : Said → Statement → Said
 after_statement said (statement.Message id id_line name name_line len) =
     if is_independent id name then record said { owner = owner.Dropped }
     else record said { messages = said.messages ++ bare id name len ∷ []; owner = owner.LastMessage }
-after_statement said (statement.Signal signal line) = after_signal said said.owner signal
+after_statement said (statement.Signal name layout line) = after_signal said said.owner (unmarked name layout)
 after_statement said (statement.Float mark) = record said { marks = said.marks ++ mark ∷ [] }
 after_statement said statement.Other = said
 
@@ -82,7 +87,8 @@ repeated said (statement.Message id id_line name name_line len) =
     else if list_any (nat_eq id) (map (λ m. m.id) said.messages) then Some id_line
     else if list_any (bytes_eq name) (map (λ m. m.name) said.messages) then Some name_line
     else None
-repeated said (statement.Signal signal line) = repeated_signal said said.owner signal line
+repeated said (statement.Signal name layout line) =
+    repeated_signal said said.owner (unmarked name layout) line
 repeated said _ = None
 
 -- the tokens begin with these statements, none of which repeats what those before it gave; they lead to

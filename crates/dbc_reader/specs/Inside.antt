@@ -1,4 +1,2 @@
 -- What this crate's own functions are proved by; no contract of a public function rests on it.
-pub mod Lexer
-pub mod Reading
 pub mod Builder

@@ -2,7 +2,7 @@
 
 ghost use Rattle.std.specs.Prelude.{◌≡◌};
 ghost use Rattle.dbc_reader.specs.Database.{Said, has_owner, is_independent, messages_of, nothing};
-ghost use Rattle.dbc_reader.specs.declared.statement.Statement.TheVariants as statement;
+ghost use Rattle.dbc_statements.specs.declared.statement.Statement.TheVariants as statement;
 ghost use Rattle.dbc_reader.specs.Inside.Builder.{Adds, Agree, said_of};
 
 use crate::database::Database;
@@ -11,13 +11,14 @@ use crate::owner::Owner;
 use crate::refusal::NotAdded;
 use crate::seed::Seed;
 use crate::signals::{DbcSignal, Signals};
-use crate::statement::{FloatMark, Statement};
+use dbc_statements::{FloatMark, Statement};
 use indexmap::IndexSet;
-use sim_outside::Text;
+use signal_codec::Layout;
 use std::alloc::Global;
+use texts::Text;
 
 /// What statements said so far, with tables of the messages' names and identifiers.
-#[derive(Debug, Drop)]
+#[derive(Drop)]
 pub(crate) struct Builder {
     messages: Vec<DbcMessage>,
     names: IndexSet<Vec<u8>, Seed>,
@@ -63,7 +64,7 @@ impl Builder {
                 name_line,
                 len,
             } => self.add_message(alloc, id, id_line, name, name_line, len),
-            Statement::Signal { signal, line } => self.add_signal(alloc, signal, line),
+            Statement::Signal { name, layout, line } => self.add_signal(alloc, name, layout, line),
             Statement::Float(mark) => {
                 self.marks.push(mark)?;
                 Ok(())
@@ -106,15 +107,26 @@ impl Builder {
     }
 
     /// Adds a signal to the last message, if it belongs to it.
-    fn add_signal(&mut self, alloc: Global, signal: DbcSignal, line: u32) -> Result<(), NotAdded>
+    fn add_signal(
+        &mut self,
+        alloc: Global,
+        name: Text,
+        layout: Layout,
+        line: u32,
+    ) -> Result<(), NotAdded>
         requires { Agree self.old }
-        ensures { Adds (said_of self.old) (statement.Signal signal line) self.new result }
+        ensures { Adds (said_of self.old) (statement.Signal name layout line) self.new result }
     {
         if !matches!(self.owner, Owner::LastMessage) {
             return Ok(());
         }
         let Some(last) = self.messages.last_mut() else {
             return Ok(());
+        };
+        let signal = DbcSignal {
+            name,
+            layout,
+            float: false,
         };
         if last.signals.push(alloc, signal)? {
             Ok(())

@@ -8,7 +8,7 @@ ghost use Rattle.dbc_reader.specs.Database.{with_mark};
 use crate::message::DbcMessage;
 use crate::seed::Seed;
 use crate::signals::DbcSignal;
-use crate::statement::FloatMark;
+use dbc_statements::FloatMark;
 use indexmap::IndexSet;
 use std::marker::Model;
 

@@ -1,9 +1,9 @@
 //! Databases of messages and signals, read from DBC files.
 //!
-//! A text is read into tokens, and these into statements, from its beginning to its end. [`read`] gives
-//! the messages with their signals that the statements say, or names the line of the first statement
-//! that has no spelling, or that of the first identifier or name for the second time. [`Database`]
-//! finds messages by name and by identifier, and signals by name.
+//! The statements of a text, which dbc_statements reads, are taken from its beginning to its end. [`read`]
+//! gives the messages with their signals that they say, or names the line of the first statement that has
+//! no spelling, or that of the first identifier or name for the second time. [`Database`] finds messages by
+//! name and by identifier, and signals by name.
 //!
 //! Only messages, their signals, and which of these are floats are kept; of every other statement
 //! the spelling alone is looked at.
@@ -16,18 +16,11 @@ pub use refusal::DbcRefusal;
 pub use signals::{DbcSignal, Signals};
 
 mod builder;
-mod cursor;
 mod database;
-mod front;
-mod keyword;
 pub mod laws;
 mod message;
 mod owner;
-mod parts;
 mod reading;
-mod receivers;
 mod refusal;
 mod seed;
 mod signals;
-mod statement;
-mod token;

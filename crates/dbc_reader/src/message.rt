@@ -1,7 +1,7 @@
 // Messages.
 
 use crate::signals::Signals;
-use sim_outside::Text;
+use texts::Text;
 
 /// A message with its signals.
 #[derive(Debug, Drop)]

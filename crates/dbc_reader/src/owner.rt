@@ -1,7 +1,7 @@
 // Whom a signal belongs to.
 
 /// Whom a signal belongs to that stands next in the text.
-#[derive(Clone, Copy, Debug, PartialEq, Eq)]
+#[derive(Clone, Copy)]
 pub(crate) enum Owner {
     /// No message stood before.
     Nobody,

@@ -5,11 +5,10 @@ ghost use Rattle.dbc_reader.specs.declared.message.DbcMessage.{DbcMessage};
 ghost use Rattle.dbc_reader.specs.Database.{IsDatabase, IsRefusal, AreDistinct};
 
 use crate::builder::Builder;
-use crate::cursor::Cursor;
 use crate::database::Database;
-use crate::refusal::{DbcRefusal, NotAdded, Unread};
+use crate::refusal::{DbcRefusal, NotAdded};
 use crate::seed::Seed;
-use crate::statement::next_statement;
+use dbc_statements::{Cursor, Unread, next_statement};
 use std::alloc::Global;
 
 /// Reads the database of a DBC text. Takes time and memory linear in the text, but for names of one

@@ -2,8 +2,8 @@
 
 ghost use Rattle.std.specs.Prelude.{◌≡◌};
 
-use sim_outside::NoMemory;
 use std::alloc::{AllocError, AllocFailed};
+use texts::NoMemory;
 use thiserror::Error;
 
 /// Why a text has no database.
@@ -21,27 +21,8 @@ pub enum DbcRefusal {
     NoMemory,
 }
 
-/// Why no statement, or no part of one, was read.
-#[derive(Clone, Copy, Debug, PartialEq, Eq)]
-pub(crate) enum Unread {
-    /// It is not spelled here.
-    NotSpelled,
-    /// The system gave no memory.
-    NoMemory,
-}
-
-impl From<NoMemory> for Unread {
-    ghost use Rattle.dbc_reader.specs.declared.refusal.Unread.TheVariants as unread;
-
-    ghost from_gives = { λ _ made. made ≡ unread.NoMemory };
-
-    fn from(_: NoMemory) -> Unread {
-        Unread::NoMemory
-    }
-}
-
 /// Why a statement was not added to those before it.
-#[derive(Clone, Copy, Debug, PartialEq, Eq)]
+#[derive(Clone, Copy)]
 pub(crate) enum NotAdded {
     /// It gives a name or an identifier for the second time, in this line.
     Twice { line: u32 },

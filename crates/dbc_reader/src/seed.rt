@@ -9,7 +9,7 @@ use std::hash::{BuildHasher, DefaultHasher, Hasher};
 /// The hash of a text's tables: SipHash, begun with a number that hangs on the whole text. Each
 /// change of a name changes the hash of all, so names that fall into one place of a table cannot be
 /// looked for one after another.
-#[derive(Clone, Copy, Debug, PartialEq, Eq)]
+#[derive(Clone, Copy, Debug)]
 pub(crate) struct Seed {
     number: u64,
 }

@@ -9,9 +9,9 @@ ghost use Rattle.dbc_reader.specs.Database.{names_of, with_float};
 use crate::seed::Seed;
 use indexmap::IndexSet;
 use signal_codec::Layout;
-use sim_outside::{NoMemory, Text};
 use std::alloc::Global;
 use std::marker::Model;
+use texts::{NoMemory, Text};
 
 /// A signal of a message.
 #[derive(Debug, Drop)]

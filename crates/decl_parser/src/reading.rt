@@ -11,7 +11,7 @@ use expr_parser::operator::kind_of;
 use expr_parser::{Cursor, Refusal, read_expression, read_field};
 use int_kinds::Kind;
 use items::Items;
-use sim_outside::Text;
+use texts::Text;
 
 /// A declaration up to its semicolon. `total` is the number of tokens of the file, from which the places are
 /// counted. A depth above the number of tokens left refuses nothing for its depth. NotSpelled where the

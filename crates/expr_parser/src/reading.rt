@@ -12,7 +12,7 @@ use capl_lexer::{Sign, Tok, Word};
 use capl_tree::{Expr, Field};
 use int_kinds::{BinOp, Kind, UnOp};
 use items::{Boxed, Items};
-use sim_outside::Text;
+use texts::Text;
 
 /// An expression that binds at the level `least` or more strongly, from 1, an assignment, to 13, a prefix
 /// operator. `total` is the number of tokens of the file, from which the places are counted. A depth above

@@ -30,10 +30,10 @@ impl<T: Drop> From<AllocFailed<T>> for Refusal {
     }
 }
 
-impl From<sim_outside::NoMemory> for Refusal {
+impl From<texts::NoMemory> for Refusal {
     ghost from_gives = { λ _ refusal. refusal ≡ NoMemory };
 
-    fn from(_: sim_outside::NoMemory) -> Refusal {
+    fn from(_: texts::NoMemory) -> Refusal {
         Refusal::NoMemory
     }
 }

@@ -8,8 +8,8 @@ use crate::crc::crc15;
 use crate::field::Field;
 use crate::header::header;
 use can_frame::Frame;
-use sim_outside::NoMemory;
 use std::alloc::Global;
+use texts::NoMemory;
 
 /// The bits of the frame from SOF to the last CRC bit, without stuff bits. `true` is a recessive
 /// 1, `false` a dominant 0.

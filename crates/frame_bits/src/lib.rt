@@ -16,6 +16,4 @@ mod header;
 pub mod laws;
 mod length;
 mod stuffing;
-#[cfg(test)]
-mod tests;
 mod walk;

@@ -16,11 +16,11 @@ use Rattle.typed_tree.specs.declared.program.Typed.{Typed}
 use Rattle.typed_tree.specs.Expression.{params_of}
 use Rattle.typed_tree.specs.Shape.{has_index, is_checked_first, is_not, is_wrapped_first}
 use Rattle.typed_tree.specs.Size.{Sizes, index_size, one_if, test_size, truth_size, value_size}
-use Rattle.typed_code.specs.Exit.{Forward}
-use Rattle.typed_code.specs.Expression.{index_code, params_code, prefix_instr, test_code, truth_code, value_code}
-use Rattle.typed_code.specs.Listing.{Listing, instr_if}
-use Rattle.typed_code.specs.Place.{index_count, index_depth, read_instr, write_instr}
-use Rattle.typed_code.specs.Statement.{values_code}
+use Rattle.code_listing.specs.Exit.{Forward}
+use Rattle.code_listing.specs.Expression.{index_code, params_code, prefix_instr, test_code, truth_code, value_code}
+use Rattle.code_listing.specs.Listing.{Listing, instr_if}
+use Rattle.code_listing.specs.Place.{index_count, index_depth, read_instr, write_instr}
+use Rattle.code_listing.specs.Statement.{values_code}
 use Rattle.code_size.proofs.Steps.{drop_next}
 use Rattle.gen_expr.proofs.Rows.{call_code}
 

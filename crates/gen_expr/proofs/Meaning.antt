@@ -2,7 +2,7 @@
 use Rattle.std.specs.Prelude.{◌≡◌, ℕ, ◌+◌, List, [], ◌∷◌, ◌++◌, length, drop}
 use Rattle.std.proofs.Common.{refl}
 use Rattle.bytecode.specs.declared.code.Code.{Code}
-use Rattle.worlds.specs.Control.{Calls}
+use Rattle.control_flow.specs.Control.{Calls}
 use Rattle.typed_tree.specs.declared.expression.TExpr.{TExpr}
 use Rattle.typed_tree.specs.declared.program.Typed.{Typed}
 use Rattle.typed_tree.specs.Expression.{Setting}
@@ -10,9 +10,9 @@ use Rattle.typed_tree.specs.Memory.{Memory}
 use Rattle.typed_tree.specs.Size.{value_size}
 use Rattle.typed_tree.specs.Sound.{IsSound}
 use Rattle.typed_tree.specs.SoundExpression.{IsSoundExpr}
-use Rattle.typed_code.specs.Expression.{value_code}
-use Rattle.typed_code.specs.Listing.{Listing}
-use Rattle.typed_code.specs.Runs.{IsSetFor, RunsAsValue}
+use Rattle.code_listing.specs.Expression.{value_code}
+use Rattle.code_listing.specs.Listing.{Listing}
+use Rattle.code_listing.specs.Runs.{IsSetFor, RunsAsValue}
 use Rattle.gen_expr.specs.Meaning.{MeansValue}
 
 -- what stands behind a list

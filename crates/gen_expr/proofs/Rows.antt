@@ -8,8 +8,8 @@ use Rattle.typed_tree.specs.declared.expression.TExpr.TheVariants.{Call}
 use Rattle.typed_tree.specs.declared.program.Typed.{Typed}
 use Rattle.typed_tree.specs.Expression.{params_of}
 use Rattle.typed_tree.specs.Size.{value_size}
-use Rattle.typed_code.specs.Expression.{args_code, params_code, value_code}
-use Rattle.typed_code.specs.Statement.{values_code}
+use Rattle.code_listing.specs.Expression.{args_code, params_code, value_code}
+use Rattle.code_listing.specs.Statement.{values_code}
 use Rattle.code_size.proofs.Rows.{row_of}
 
 -- a row has the code of its list

@@ -1,7 +1,7 @@
 -- The exit of a test, as code has it.
 use Rattle.gen_expr.specs.declared.exit.Exit.{Exit}
 use Rattle.gen_expr.specs.declared.exit.Exit.TheVariants.{Forward, Backward}
-use Rattle.typed_code.specs.Exit as defined
+use Rattle.code_listing.specs.Exit as defined
 
 -- the exit, as the definition of the code has it
 abbrev pub exit_of : Exit → defined.Exit

@@ -1,16 +1,16 @@
 -- Appended code that does what an expression means.
 use Rattle.std.specs.Prelude.{◌≡◌, ℕ, List, length, drop, ℤ}
 use Rattle.bytecode.specs.declared.code.Code.{Code}
-use Rattle.worlds.specs.World.{World}
-use Rattle.worlds.specs.Control.{Calls}
+use Rattle.control_flow.specs.World.{World}
+use Rattle.control_flow.specs.Control.{Calls}
 use Rattle.typed_tree.specs.declared.expression.TExpr.{TExpr}
 use Rattle.typed_tree.specs.declared.program.Typed.{Typed}
 use Rattle.typed_tree.specs.Expression.{Setting, value_of}
 use Rattle.typed_tree.specs.Memory.{Memory}
 use Rattle.typed_tree.specs.Sound.{IsSound}
 use Rattle.typed_tree.specs.SoundExpression.{IsSoundExpr}
-use Rattle.typed_code.specs.Listing.{Listing}
-use Rattle.typed_code.specs.Runs.{IsFit, IsSetFor, Leaves, StandsAt}
+use Rattle.code_listing.specs.Listing.{Listing}
+use Rattle.code_listing.specs.Runs.{IsFit, IsSetFor, Leaves, StandsAt}
 
 -- What was appended to one listing in another, for an expression of a sound program: in every code that has
 -- it at its place and is set for the expression, from any stack, open calls and fit world, it runs to its end

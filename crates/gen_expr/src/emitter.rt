@@ -5,9 +5,9 @@ ghost use Rattle.bytecode.specs.declared.instr.Instr.{Instr};
 ghost use Rattle.gen_expr.specs.Target.{HasTarget, aimed};
 
 use bytecode::Instr;
-use sim_outside::NoMemory;
 use std::alloc::Global;
 use std::marker::Model;
+use texts::NoMemory;
 
 /// Instructions in order, each with its depth: the number of values of its function that are on the
 /// stack when it is reached.

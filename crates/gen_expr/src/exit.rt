@@ -1,7 +1,7 @@
 // The exit of a test.
 
 ghost use Rattle.std.specs.Prelude.{◌≡◌};
-ghost use Rattle.typed_code.specs.Exit.{exit_instr, own_truth};
+ghost use Rattle.code_listing.specs.Exit.{exit_instr, own_truth};
 ghost use Rattle.gen_expr.specs.Exit.{exit_of};
 
 use bytecode::Instr;

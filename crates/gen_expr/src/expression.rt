@@ -2,9 +2,9 @@
 
 ghost use Rattle.std.specs.Prelude.{◌≡◌, ◌+◌, ◌<◌, ◌^◌, ◌++◌, length, sum_by, OnOk};
 ghost use Rattle.typed_tree.specs.Size.{dropped_size, index_size, test_size, value_size};
-ghost use Rattle.typed_code.specs.Exit.{own_truth};
-ghost use Rattle.typed_code.specs.Expression.{index_code, test_code, value_code};
-ghost use Rattle.typed_code.specs.Statement.{dropped_code, values_code};
+ghost use Rattle.code_listing.specs.Exit.{own_truth};
+ghost use Rattle.code_listing.specs.Expression.{index_code, test_code, value_code};
+ghost use Rattle.code_listing.specs.Statement.{dropped_code, values_code};
 ghost use Rattle.gen_expr.specs.Exit.{exit_of};
 ghost use Rattle.gen_expr.specs.Meaning.{MeansValue};
 
@@ -16,9 +16,9 @@ use crate::parts::{
 };
 use crate::size::{test_size, value_size};
 use bytecode::Instr;
+use code_listing::laws::expressions_do_what_they_mean;
 use code_size::{is_comparison, is_not, params_of, truth_size};
-use sim_outside::NoMemory;
-use typed_code::laws::expressions_do_what_they_mean;
+use texts::NoMemory;
 use typed_tree::{Place, TExpr, Typed};
 
 /// Appends the code of an expression as a value, of which the first instruction has this depth.

@@ -1,7 +1,7 @@
 //! The code of expressions: instructions made from typed trees.
 //!
 //! [`emit`] appends the code of an expression as a value, and [`emit_test`] its code as a test that
-//! goes to an [`Exit`]. Both make exactly the listing of typed_code's definition, from the place and
+//! goes to an [`Exit`]. Both make exactly the listing of code_listing's definition, from the place and
 //! the depth at which they begin. Its targets are made of sizes, which [`value_size`] and
 //! [`test_size`] count before the code is there, so nothing is filled in afterwards. An [`Emitter`]
 //! holds the code so far, each instruction with its depth.

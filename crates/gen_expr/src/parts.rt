@@ -4,10 +4,10 @@ ghost use Rattle.std.specs.Prelude.{◌≡◌, ◌+◌, ◌*◌, ◌<◌, ◌^�
 ghost use Rattle.bytecode.specs.declared.instr.Instr.TheVariants as instr;
 ghost use Rattle.typed_tree.specs.Shape.{has_index, is_checked_first, is_wrapped_first};
 ghost use Rattle.typed_tree.specs.Size.{bump_size, exit_size, one_if, truth_size};
-ghost use Rattle.typed_code.specs.Exit.{exit_code, own_truth};
-ghost use Rattle.typed_code.specs.Expression.{opposite_op, params_code, prefix_instr, test_op, truth_code};
-ghost use Rattle.typed_code.specs.Listing.{instr_if};
-ghost use Rattle.typed_code.specs.Place.{bump_at_index_code, bump_code, bump_in_place_code, bump_op, index_count, index_depth, kind_at_index, read_instr, write_instr};
+ghost use Rattle.code_listing.specs.Exit.{exit_code, own_truth};
+ghost use Rattle.code_listing.specs.Expression.{opposite_op, params_code, prefix_instr, test_op, truth_code};
+ghost use Rattle.code_listing.specs.Listing.{instr_if};
+ghost use Rattle.code_listing.specs.Place.{bump_at_index_code, bump_code, bump_in_place_code, bump_op, index_count, index_depth, kind_at_index, read_instr, write_instr};
 ghost use Rattle.gen_expr.specs.Exit.{exit_of};
 
 use crate::emitter::Emitter;
@@ -15,7 +15,7 @@ use crate::exit::{Exit, exit_instr, own_truth};
 use bytecode::Instr;
 use code_size::{has_index, is_checked_first, is_truth, is_wrapped_first, kind_of};
 use int_kinds::{BinOp, Kind, UnOp, bits};
-use sim_outside::NoMemory;
+use texts::NoMemory;
 use typed_tree::{Place, TExpr, Typed};
 
 /// The instruction that reads a place. Its index, if it has one, is on top.

@@ -10,11 +10,11 @@ use Rattle.typed_tree.specs.declared.statement.TGroup.{TGroup}
 use Rattle.typed_tree.specs.declared.statement.TStmt.{TStmt}
 use Rattle.typed_tree.specs.declared.statement.TStmt.TheVariants as stmt
 use Rattle.typed_tree.specs.Size.{for_test_size, jump_size, stmt_size, test_size, value_size}
-use Rattle.typed_code.specs.Exit.{Backward}
-use Rattle.typed_code.specs.Expression.{test_code, value_code}
-use Rattle.typed_code.specs.Listing.{Listing, jump_code}
-use Rattle.typed_code.specs.Program.{function_table, procedures_code, procedures_of, program_code}
-use Rattle.typed_code.specs.Statement.{Exits, for_test_code, stmt_code}
+use Rattle.code_listing.specs.Exit.{Backward}
+use Rattle.code_listing.specs.Expression.{test_code, value_code}
+use Rattle.code_listing.specs.Listing.{Listing, jump_code}
+use Rattle.code_listing.specs.Program.{function_table, procedures_code, procedures_of, program_code}
+use Rattle.code_listing.specs.Statement.{Exits, for_test_code, stmt_code}
 use Rattle.gen_stmt.specs.Inside.Procedures.{of_function, of_handler}
 use Rattle.code_size.specs.Rows.{functions_size}
 use Rattle.gen_stmt.specs.Inside.Rows.{part_code_of, switch_code_of}

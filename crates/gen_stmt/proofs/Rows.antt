@@ -14,11 +14,11 @@ use Rattle.typed_tree.specs.Shape.{goes_on, is_break, is_end, is_end_of_groups}
 use Rattle.typed_tree.specs.Size.{arms_size, case_count, for_test_size, group_sizes, jump_size, last_group_size, stmt_size, stmts_size, test_size, value_size}
 use Rattle.bytecode.specs.declared.instr.Instr.TheVariants as instr
 use Rattle.typed_tree.specs.Statement.{default_group}
-use Rattle.typed_code.specs.Exit.{Forward}
-use Rattle.typed_code.specs.Expression.{test_code, value_code}
-use Rattle.typed_code.specs.Listing.{Listing, jump_code}
-use Rattle.typed_code.specs.Program.{body_code}
-use Rattle.typed_code.specs.Statement.{Exits, arms_code, cases_code, for_test_code, groups_code, last_group_code, loop_code, stmt_code, stmts_code}
+use Rattle.code_listing.specs.Exit.{Forward}
+use Rattle.code_listing.specs.Expression.{test_code, value_code}
+use Rattle.code_listing.specs.Listing.{Listing, jump_code}
+use Rattle.code_listing.specs.Program.{body_code}
+use Rattle.code_listing.specs.Statement.{Exits, arms_code, cases_code, for_test_code, groups_code, last_group_code, loop_code, stmt_code, stmts_code}
 use Rattle.gen_stmt.specs.Inside.Rows.{arms_code_of, groups_code_of, part_code_of, switch_code_of}
 use Rattle.code_size.proofs.Rows.{arms_size-list, block_row, default_before, group_size-list, group_sizes-list, if_row, if_same, is_end-list, is_end_of_groups-list, labels-list, of_choice, switch_row}
 use Rattle.code_size.specs.Rows.{before_default, case_count_of, group_sizes_of, is_nil, kept, kept_if, labels_of_groups, part_size_of}

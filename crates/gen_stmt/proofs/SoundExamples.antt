@@ -10,7 +10,7 @@ use Rattle.typed_tree.specs.declared.statement.TStmt.{TStmt}
 use Rattle.typed_tree.specs.declared.program.Typed.{Typed}
 use Rattle.typed_tree.specs.declared.expression.TExpr.TheVariants.{Const}
 use Rattle.typed_tree.specs.SoundExpression.{IsSoundExpr}
-use Rattle.code_runs.specs.Example.{endless_loop}
+use Rattle.code_meaning.specs.Example.{endless_loop}
 use Rattle.typed_tree.specs.Sound.{IsSound, IsSoundHandler, in_handler}
 use Rattle.typed_tree.specs.SoundStatement.{IsSoundStmt}
 use Rattle.gen_stmt.specs.Example.{on_start}

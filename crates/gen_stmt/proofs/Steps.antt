@@ -17,11 +17,11 @@ use Rattle.typed_tree.specs.Shape.{goes_on}
 use Rattle.typed_tree.specs.Size.{jump_size, one_if, procedure_size, stmt_size, test_size, value_size}
 use Rattle.typed_tree.specs.declared.expression.TExpr.{TExpr}
 use Rattle.typed_tree.specs.Statement.{same_label}
-use Rattle.typed_code.specs.Exit.{Forward}
-use Rattle.typed_code.specs.Expression.{test_code}
-use Rattle.typed_code.specs.Listing.{Listing, instr_if, jump_code}
-use Rattle.typed_code.specs.Program.{Procedure, body_code, function_table, handler_table, place_behind, procedure_code, procedures_code}
-use Rattle.typed_code.specs.Statement.{Exits, cases_code, labels_code, stmt_code}
+use Rattle.code_listing.specs.Exit.{Forward}
+use Rattle.code_listing.specs.Expression.{test_code}
+use Rattle.code_listing.specs.Listing.{Listing, instr_if, jump_code}
+use Rattle.code_listing.specs.Program.{Procedure, body_code, function_table, handler_table, place_behind, procedure_code, procedures_code}
+use Rattle.code_listing.specs.Statement.{Exits, cases_code, labels_code, stmt_code}
 use Rattle.gen_expr.proofs.Emitted.{value_some}
 use Rattle.code_size.proofs.Steps.{arms_here, drop_next, is_nil-drop, sizes_here}
 use Rattle.gen_stmt.specs.Inside.Procedures.{entry_of, of_function}

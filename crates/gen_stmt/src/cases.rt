@@ -2,13 +2,13 @@
 
 ghost use Rattle.std.specs.Prelude.{◌≡◌, ◌+◌, ◌<◌, ◌^◌, [], ◌∷◌, ◌++◌, count_by, is_some, length, sum, OnOk};
 ghost use Rattle.typed_tree.specs.Size.{one_if};
-ghost use Rattle.typed_code.specs.Statement.{cases_code, labels_code};
+ghost use Rattle.code_listing.specs.Statement.{cases_code, labels_code};
 ghost use Rattle.code_size.specs.Rows.{case_count_of, group_sizes_of, labels_of_groups};
 
 use crate::size::group_size;
 use bytecode::Instr;
 use gen_expr::Emitter;
-use sim_outside::NoMemory;
+use texts::NoMemory;
 use typed_tree::{TGroup, Typed};
 
 /// Appends the cases of a group whose statements are at a place.

@@ -4,17 +4,17 @@ ghost use Rattle.std.specs.Prelude.{◌≡◌, ◌↔◌, ◌<◌, ◌≤◌, �
 ghost use Rattle.capl_tree.specs.Weight.{saturated, weight};
 ghost use Rattle.typed_tree.specs.Size.{size};
 ghost use Rattle.typed_tree.specs.Sound.{IsSound};
-ghost use Rattle.typed_code.specs.Program.{IsCodeOf};
-ghost use Rattle.code_runs.specs.Ending.{DoesWhatItMeans};
+ghost use Rattle.code_listing.specs.Program.{IsCodeOf};
+ghost use Rattle.code_meaning.specs.Ending.{DoesWhatItMeans};
 ghost use Rattle.gen_stmt.specs.Cells.{cell_count};
 
 use crate::program::make_code;
 use bytecode::{Verified, verify};
 use capl_tree::{Program, weight_of};
-use code_rules::laws::code_is_verified;
-use code_runs::laws::code_means_its_tree;
-use sim_outside::NoMemory;
+use code_meaning::laws::code_means_its_tree;
+use code_verified::laws::code_is_verified;
 use std::alloc::Global;
+use texts::NoMemory;
 use typed_tree::Typed;
 
 /// Why a program is not compiled.

@@ -1,6 +1,6 @@
 //! The code of statements and of whole programs: the compiler, from typed trees to verified code.
 //!
-//! [`make_code`] makes exactly the code of typed_code's definition, with its tables. [`compile`] hands it
+//! [`make_code`] makes exactly the code of code_listing's definition, with its tables. [`compile`] hands it
 //! over verified, or refuses a program that is too large: [`cells_of`] and [`weight_of`] tell.
 //! Targets are made of sizes, which are counted before the code is there, so nothing is filled in
 //! afterwards. Lists are gone through by loops; only nesting takes calls within calls.
@@ -16,5 +16,3 @@ mod exits;
 mod program;
 mod size;
 mod statement;
-#[cfg(test)]
-mod tests;

@@ -2,7 +2,7 @@
 
 ghost use Rattle.std.specs.Prelude.{◌≡◌, ◌+◌, ◌<◌, ◌^◌, [], ◌∷◌, ◌++◌, length, map, IfOk, OnOk};
 ghost use Rattle.typed_tree.specs.Size.{procedure_size, size, tail_size};
-ghost use Rattle.typed_code.specs.Program.{IsCodeOf, function_table, handler_table, procedure_code, procedures_code, tail_code};
+ghost use Rattle.code_listing.specs.Program.{IsCodeOf, function_table, handler_table, procedure_code, procedures_code, tail_code};
 ghost use Rattle.gen_stmt.specs.Inside.Procedures.{entry_of, of_function, of_handler};
 ghost use Rattle.code_size.specs.Rows.{functions_size, handlers_size};
 
@@ -13,8 +13,8 @@ use bytecode::{Code, Fun, Handler, Instr};
 use code_size::last_goes_on;
 use gen_expr::Emitter;
 use items::Items;
-use sim_outside::NoMemory;
 use std::alloc::Global;
+use texts::NoMemory;
 use typed_tree::{TFun, THandler, TStmt, Typed};
 use write_format::Format;
 

@@ -3,9 +3,9 @@
 ghost use Rattle.std.specs.Prelude.{◌≡◌, ℕ, ◌+◌, ◌<◌, ◌^◌, ◌&&◌, ◌++◌, length, nat_lt, sum, sum_by, OnOk};
 ghost use Rattle.typed_tree.specs.Shape.{goes_on};
 ghost use Rattle.typed_tree.specs.Size.{for_test_size, jump_size, one_if, returned_size, stmt_size};
-ghost use Rattle.typed_code.specs.Listing.{Listing, instr_if, jump_code};
-ghost use Rattle.typed_code.specs.Program.{body_code};
-ghost use Rattle.typed_code.specs.Statement.{for_test_code, return_code, stmt_code};
+ghost use Rattle.code_listing.specs.Listing.{Listing, instr_if, jump_code};
+ghost use Rattle.code_listing.specs.Program.{body_code};
+ghost use Rattle.code_listing.specs.Statement.{for_test_code, return_code, stmt_code};
 ghost use Rattle.gen_stmt.specs.Inside.Exits.{exits_of};
 ghost use Rattle.gen_stmt.specs.Inside.Rows.{arms_code_of, groups_code_of, part_code_of, switch_code_of};
 ghost use Rattle.code_size.specs.Rows.{arms_size_of, group_sizes_of, kept_if, part_size_of, switch_size_of};
@@ -17,7 +17,7 @@ use bytecode::Instr;
 use code_size::{goes_on, kept_len, leaves_number};
 use gen_expr::{Emitter, Exit, emit, emit_dropped, emit_test, emit_values, test_size};
 use items::Boxed;
-use sim_outside::NoMemory;
+use texts::NoMemory;
 use typed_tree::{TArm, TExpr, TGroup, TStmt, Typed};
 
 /// Appends a jump over so many instructions, and none where there is nothing to jump over.

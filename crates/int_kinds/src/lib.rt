@@ -18,5 +18,3 @@ mod bitwise;
 mod kinds;
 pub mod laws;
 mod operators;
-#[cfg(test)]
-mod tests;

@@ -17,6 +17,4 @@ mod line;
 mod numbers;
 mod reading;
 mod stamp;
-#[cfg(test)]
-mod tests;
 mod writing;

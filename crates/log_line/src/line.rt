@@ -4,7 +4,7 @@ ghost use Rattle.std.specs.Prelude.{◌≡◌};
 ghost use Rattle.log_line.specs.declared.line.LineRefusal.TheVariants.{NoMemory};
 
 use can_frame::Frame;
-use sim_outside::{NoMemory, Text};
+use texts::{NoMemory, Text};
 
 /// A frame in a log: when it ended, on which interface, and the frame.
 #[derive(Debug, Drop)]

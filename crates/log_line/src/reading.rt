@@ -12,8 +12,8 @@ use crate::fields::{next_field, without_return};
 use crate::frame_text::{FrameField, frame_field};
 use crate::line::{Entry, EntryView, Line, LineRefusal, LineView};
 use crate::stamp::stamp_of;
-use sim_outside::Text;
 use std::alloc::Global;
+use texts::Text;
 
 /// What the line says; it is given without its LF. Answers NotALine exactly where the line has no
 /// reading. Takes time linear in the line, and memory for the name of the interface.

@@ -5,8 +5,8 @@ ghost use Rattle.std.specs.List.{flat_map};
 ghost use Rattle.log_line.specs.Written.{stamp_text, byte_text, ident_text, data_text, log_line};
 
 use can_frame::{Frame, Ident};
-use sim_outside::{NoMemory, Text};
 use std::alloc::Global;
+use texts::{NoMemory, Text};
 
 /// The line of a frame that ended at this second and microsecond on this interface, with its LF. The
 /// seconds have ten digits, or more where they need them. Takes time and memory linear in the name of

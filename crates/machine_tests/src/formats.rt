@@ -3,9 +3,9 @@
 ghost use Rattle.std.specs.Prelude.{◌≡◌, ◌↔◌, ◌≤◌, ◌≤ℤ◌, All, IsTrue, length, pos};
 
 use int_kinds::Kind;
-use sim_outside::{NoMemory, Text};
 use std::alloc::Global;
 use std::test::Fail;
+use texts::{NoMemory, Text};
 use write_format::{ArgKind, Format, FormatRefusal, laws, render};
 
 /// What C's `printf` makes of a number: a format, the kind of its argument, the number and the text.

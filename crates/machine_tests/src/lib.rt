@@ -21,4 +21,6 @@ mod sizes;
 #[cfg(test)]
 mod sound;
 #[cfg(test)]
+mod trees;
+#[cfg(test)]
 mod verifier;

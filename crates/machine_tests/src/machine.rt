@@ -7,10 +7,10 @@ use super::codes::{code, is_short};
 use bytecode::{Instr, Verified, VerifyRefusal, verify};
 use can_frame::{Frame, Ident};
 use int_kinds::{BinOp, Kind};
-use sim_outside::NoMemory;
 use stack_vm::{Memory, Meter, MeterRow, laws, run};
 use std::alloc::Global;
 use std::test::Fail;
+use texts::NoMemory;
 use vm_host::{Event, Host, Outcome, RecordFault, TrapKind};
 
 /// A host with two timers at 1250 microseconds that keeps what it takes.

@@ -1,8 +1,8 @@
 // Calls of the laws on runs of code, at a host of a measurement that has ended.
 
 use can_frame::Frame;
-use code_runs::laws;
-use sim_outside::NoMemory;
+use code_meaning::laws;
+use texts::NoMemory;
 use vm_host::{Host, RecordFault};
 
 /// A host of one timer, after the end of the measurement, which keeps nothing.

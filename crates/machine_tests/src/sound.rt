@@ -3,10 +3,10 @@
 use int_kinds::Kind;
 use items::Items;
 use message_cells::MESSAGE_KINDS;
-use sim_outside::NoMemory;
 use sound_check::is_sound;
 use std::alloc::Global;
 use std::test::Fail;
+use texts::NoMemory;
 use typed_tree::{Place, TExpr, THandler, TStmt, Typed};
 use vm_host::Event;
 

@@ -11,5 +11,3 @@ pub use selectors::Selectors;
 pub mod laws;
 mod selector;
 mod selectors;
-#[cfg(test)]
-mod tests;

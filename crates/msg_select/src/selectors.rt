@@ -9,9 +9,9 @@ ghost use Rattle.msg_select.specs.Inside.Selectors.{IsByRank};
 use crate::selector::MessageSelector;
 use can_frame::{Frame, sel_key};
 use lane_scan::first_in_ranges;
-use sim_outside::NoMemory;
 use std::alloc::Global;
 use std::marker::Model;
+use texts::NoMemory;
 
 /// The selectors of a node's message procedures. Contracts see the list of them, by rank.
 #[derive(Drop)]

@@ -15,7 +15,7 @@ use Rattle.msg_select.specs.declared.selector.MessageSelector.{MessageSelector}
 use Rattle.msg_select.specs.Selection.{Holds, IsChosen}
 use Rattle.msg_select.specs.Selection.{AreApart as AreApartHere}
 use Rattle.msg_select.proofs.ChoiceLemmas.{chosen_in_order, none_in_order, only_choice}
-use Rattle.rounds.specs.Procedures.{else_other, first_where, holds, is_message, message_procedure}
+use Rattle.node_rounds.specs.Procedures.{else_other, first_where, holds, is_message, message_procedure}
 use Rattle.node_run.specs.Code.{events_of}
 use Rattle.node_run.specs.Inside.Tables.{IsChoice, message_selectors, selector_for}
 

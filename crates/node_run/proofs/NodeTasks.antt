@@ -1,7 +1,7 @@
 -- The run of a handler by a node is its next task.
 use Rattle.std.proofs.Common.{◌≡◌, ◌-◌, ◌≤◌, arith, ℕ, ◌+◌, Bool, true, false, List, [], ◌∷◌, ◌++◌, inl, inr, ◌⊎◌, Option, None, Some, refl, ap, sym, subst, ◌∙◌, slice_get}
 use Rattle.std.specs.Prelude.{ℤ, IsErrAnd, IsErrOf, IsSome, Result, Ok, Err}
-use Rattle.sim_outside.specs.Fault.{HasRisen}
+use Rattle.texts.specs.Fault.{HasRisen}
 use Rattle.vm_host.specs.declared.host.RecordFault.{RecordFault}
 use Rattle.vm_host.specs.declared.host.RecordFault.TheVariants.{Sink, NoMemory}
 use Rattle.node_run.specs.declared.node.TaskEnd.{TaskEnd}
@@ -15,9 +15,9 @@ use Rattle.vm_host.specs.Effect.{Effect, Line, Send, Stop, Set, Cancel}
 use Rattle.vm_host.specs.declared.outcome.Outcome.{Outcome}
 use Rattle.vm_host.specs.declared.outcome.Outcome.TheVariants.{Done as Ended, Trapped, Cut}
 use Rattle.vm_host.specs.declared.outcome.TrapKind.TheVariants.{ZeroDivisor, Index}
-use Rattle.vm_host.specs.declared.record.Noted.{Noted}
-use Rattle.vm_host.specs.declared.record.Noted.TheVariants as entry
-use Rattle.vm_host.specs.Record.{RecordMeaning, RefusesEntry}
+use Rattle.run_records.specs.declared.record.Noted.{Noted}
+use Rattle.run_records.specs.declared.record.Noted.TheVariants as entry
+use Rattle.run_records.specs.Record.{RecordMeaning, RefusesEntry}
 use Rattle.timer_queue.specs.Timers.{Timers, active_timers}
 use Rattle.bytecode.specs.declared.code.Code.{Code}
 use Rattle.bytecode.specs.declared.code.Fun.{Fun}
@@ -30,15 +30,15 @@ use Rattle.bytecode.proofs.RunLemmas.{one_end}
 use Rattle.stack_vm.specs.declared.meter.MeterRow.{MeterRow}
 use Rattle.stack_vm.specs.Memory.{MemoryState}
 use Rattle.stack_vm.specs.Meter.{AddsRun}
-use Rattle.rounds.specs.declared.occurrence.Occurrence.{Occurrence}
-use Rattle.rounds.specs.declared.occurrence.Trigger.{Trigger}
+use Rattle.node_rounds.specs.declared.occurrence.Occurrence.{Occurrence}
+use Rattle.node_rounds.specs.declared.occurrence.Trigger.{Trigger}
 use Rattle.std.specs.List.{All}
-use Rattle.rounds.specs.Effects.{IsTimerEffect, halt_lines, halts, lines_of}
-use Rattle.rounds.specs.Effects.{timers_after as effects_on}
-use Rattle.rounds.specs.Entries.{TakesEntries, line_entries}
-use Rattle.rounds.specs.Reaction.{Done, DoesProcedure, NodeState, RunEnd, is_closed, timers_at_begin, with_procedure, without_procedure}
-use Rattle.rounds.specs.Round.{Doing, DoesNext, Rest, Task, next_first, next_of, next_trigger, task_of}
-use Rattle.rounds.proofs.MovingTimers.{count_at_begin}
+use Rattle.node_rounds.specs.Effects.{IsTimerEffect, halt_lines, halts, lines_of}
+use Rattle.node_rounds.specs.Effects.{timers_after as effects_on}
+use Rattle.node_rounds.specs.Entries.{TakesEntries, line_entries}
+use Rattle.node_rounds.specs.Reaction.{Done, DoesProcedure, NodeState, RunEnd, is_closed, timers_at_begin, with_procedure, without_procedure}
+use Rattle.node_rounds.specs.Round.{Doing, DoesNext, Rest, Task, next_first, next_of, next_trigger, task_of}
+use Rattle.node_rounds.proofs.MovingTimers.{count_at_begin}
 use Rattle.node_run.specs.Code.{CodeMemory, EndsByCode, by_code, cells_with_this, code_reaction}
 use Rattle.node_run.specs.Inside.Agenda.{IsNextTaken, next_in}
 use Rattle.node_run.specs.Inside.Handler.{BeginsHere, RefusesHandler, RunsHandler}

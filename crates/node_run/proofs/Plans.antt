@@ -5,14 +5,14 @@ use Rattle.std.proofs.lemmas.List.Elements.{All-nil, All-cons, All-map, All-tail
 use Rattle.can_frame.specs.Arbitration.{selection_key}
 use Rattle.vm_host.specs.declared.event.Event.{Event}
 use Rattle.bytecode.specs.declared.code.Handler.{Handler}
-use Rattle.rounds.specs.declared.occurrence.Occurrence.{Occurrence}
-use Rattle.rounds.specs.declared.occurrence.Occurrence.TheVariants as happens
-use Rattle.rounds.specs.declared.occurrence.Trigger.{Trigger}
-use Rattle.rounds.specs.declared.round.Round.{Round}
-use Rattle.rounds.specs.declared.round.Round.TheVariants.{PreStart, Start, Moment, Stop}
-use Rattle.rounds.specs.declared.round.Seen.{Seen}
-use Rattle.rounds.specs.Procedures.{else_other, first_where, is_any_key, is_key, is_message, is_pre_start, is_start, is_stop, is_timer, numbers_where, procedures_for}
-use Rattle.rounds.specs.Round.{Rest, at_begin, frame_triggers, key_triggers, rest_of, triggers}
+use Rattle.node_rounds.specs.declared.occurrence.Occurrence.{Occurrence}
+use Rattle.node_rounds.specs.declared.occurrence.Occurrence.TheVariants as happens
+use Rattle.node_rounds.specs.declared.occurrence.Trigger.{Trigger}
+use Rattle.node_rounds.specs.declared.round.Round.{Round}
+use Rattle.node_rounds.specs.declared.round.Round.TheVariants.{PreStart, Start, Moment, Stop}
+use Rattle.node_rounds.specs.declared.round.Seen.{Seen}
+use Rattle.node_rounds.specs.Procedures.{else_other, first_where, is_any_key, is_key, is_message, is_pre_start, is_start, is_stop, is_timer, numbers_where, procedures_for}
+use Rattle.node_rounds.specs.Round.{Rest, at_begin, frame_triggers, key_triggers, rest_of, triggers}
 use Rattle.node_run.specs.Code.{code_reaction, events_of}
 use Rattle.node_run.specs.Node.{NodeInRound}
 use Rattle.node_run.specs.Inside.Agenda.{IsNoTimer, IsPlan, IsPlanned, triggers_of}

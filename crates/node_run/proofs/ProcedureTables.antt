@@ -11,7 +11,7 @@ use Rattle.vm_host.specs.declared.event.Event.TheVariants as event
 use Rattle.vm_host.specs.Event.{timer_of}
 use Rattle.bytecode.specs.declared.code.Handler.{Handler}
 use Rattle.bytecode.specs.Tables.{all_timers}
-use Rattle.rounds.specs.Procedures.{else_other, first_where, is_timer}
+use Rattle.node_rounds.specs.Procedures.{else_other, first_where, is_timer}
 use Rattle.node_run.specs.declared.tables.Subject.{Subject}
 use Rattle.node_run.specs.declared.tables.Subject.TheVariants.{Timers, Keys}
 use Rattle.node_run.specs.Code.{events_of}

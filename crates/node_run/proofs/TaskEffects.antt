@@ -3,8 +3,8 @@ use Rattle.std.proofs.Common.{◌≡◌, ℕ, Bool, true, false, ◌||◌, List,
 use Rattle.std.proofs.lemmas.List.Elements.{All-nil, All-cons}
 use Rattle.can_frame.specs.Frame.{FrameFields}
 use Rattle.vm_host.specs.Effect.{Effect, Line, Send, Stop, Set, Cancel}
-use Rattle.vm_host.specs.Record.{RecordMeaning}
-use Rattle.rounds.specs.Effects.{IsTimerEffect, timers_after_one}
+use Rattle.run_records.specs.Record.{RecordMeaning}
+use Rattle.node_rounds.specs.Effects.{IsTimerEffect, timers_after_one}
 use Rattle.node_run.specs.Inside.Host.{ComeTo, Parts, PartsTake}
 
 -- parts took effects in order

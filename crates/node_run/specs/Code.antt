@@ -6,9 +6,9 @@ use Rattle.bytecode.specs.declared.code.Handler.{Handler}
 use Rattle.bytecode.specs.Machine.{Machine}
 use Rattle.bytecode.specs.Runs.{EndsIn, IsStartOf}
 use Rattle.stack_vm.specs.Frame.{message_of}
-use Rattle.rounds.specs.declared.occurrence.Occurrence.{Occurrence}
-use Rattle.rounds.specs.declared.occurrence.Occurrence.TheVariants.{Frame, Key}
-use Rattle.rounds.specs.Reaction.{NodeState, Reacts, RunEnd, Runner, is_closed, reaction_of}
+use Rattle.node_rounds.specs.declared.occurrence.Occurrence.{Occurrence}
+use Rattle.node_rounds.specs.declared.occurrence.Occurrence.TheVariants.{Frame, Key}
+use Rattle.node_rounds.specs.Reaction.{NodeState, Reacts, RunEnd, Runner, is_closed, reaction_of}
 
 -- the memory of a node that runs code: the code, its cells, and how many turns each task has
 pub record CodeMemory : Type 0 where

@@ -1,17 +1,17 @@
 -- A node as contracts see it, and what its calls make of it.
 use Rattle.std.specs.Prelude.{◌≡◌, ◌⊎◌, ℕ, ◌+◌, ◌<◌, Bool, false, List, length, pos, replicate, MatchOption}
 use Rattle.can_frame.specs.Frame.{FrameFields}
-use Rattle.vm_host.specs.declared.record.Noted.TheVariants as entry
-use Rattle.vm_host.specs.Record.{RecordMeaning, RefusesEntry}
+use Rattle.run_records.specs.declared.record.Noted.TheVariants as entry
+use Rattle.run_records.specs.Record.{RecordMeaning, RefusesEntry}
 use Rattle.timer_queue.specs.Timers.{inactive}
 use Rattle.bytecode.specs.declared.code.Code.{Code}
 use Rattle.bytecode.specs.Laws.{BeginsWith}
 use Rattle.stack_vm.specs.declared.meter.MeterRow.{MeterRow}
 use Rattle.stack_vm.specs.Memory.{with_starts}
 use Rattle.stack_vm.specs.Meter.{AddsRun}
-use Rattle.rounds.specs.Entries.{TakesEntries, after_requests, line_entries}
-use Rattle.rounds.specs.Reaction.{NodeState}
-use Rattle.rounds.specs.Round.{Doing, DoesNext, Task, nothing_left}
+use Rattle.node_rounds.specs.Entries.{TakesEntries, after_requests, line_entries}
+use Rattle.node_rounds.specs.Reaction.{NodeState}
+use Rattle.node_rounds.specs.Round.{Doing, DoesNext, Task, nothing_left}
 use Rattle.node_run.specs.Code.{CodeMemory, code_reaction}
 
 -- a node: the first of its rows in a meter, the moment, and how it stands in the round

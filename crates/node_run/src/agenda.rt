@@ -4,17 +4,17 @@ ghost use Rattle.std.specs.Prelude.{◌≡◌, ◌++◌, ◌^◌, ◌<◌, [], l
 ghost use Rattle.node_run.specs.Code.{events_of};
 ghost use Rattle.node_run.specs.Inside.Agenda.{triggers_of};
 ghost use Rattle.node_run.specs.Inside.Wanted.{is_wanted};
-ghost use Rattle.rounds.specs.Procedures.{numbers_where, procedures_for};
-ghost use Rattle.rounds.specs.Round.{frame_triggers, key_triggers, nothing_left, rest_of, triggers};
+ghost use Rattle.node_rounds.specs.Procedures.{numbers_where, procedures_for};
+ghost use Rattle.node_rounds.specs.Round.{frame_triggers, key_triggers, nothing_left, rest_of, triggers};
 
 use crate::procedures::Procedures;
 use crate::wanted::{Wanted, is_wanted};
 use bytecode::Handler;
-use rounds::{Occurrence, Round, Seen, Trigger};
-use sim_outside::NoMemory;
+use node_rounds::{Occurrence, Round, Seen, Trigger};
 use std::alloc::Global;
 use std::collections::VecDeque;
 use std::marker::Model;
+use texts::NoMemory;
 
 /// What is left to do in a round. Contracts see it as a `Rest`.
 #[derive(Drop)]
@@ -25,7 +25,7 @@ pub(crate) struct Agenda {
 }
 
 impl Model for Agenda {
-    ghost use Rattle.rounds.specs.Round.{Rest};
+    ghost use Rattle.node_rounds.specs.Round.{Rest};
 
     ghost Value = { Rest };
 

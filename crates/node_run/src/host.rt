@@ -4,9 +4,10 @@ ghost use Rattle.std.specs.Prelude.{◌≡◌, ◌<◌, ◌≤◌, ◌^◌, fals
 
 use can_bus::Bus;
 use can_frame::Frame;
-use sim_outside::NoMemory;
+use run_records::Record;
+use texts::NoMemory;
 use timer_queue::TimerQueue;
-use vm_host::{Host, Record, RecordFault};
+use vm_host::{Host, RecordFault};
 
 /// The host of one task of a node: it borrows the bus, the record and the node's timers.
 #[derive(Drop)]

@@ -7,7 +7,7 @@
 #![tactic(auto)]
 
 pub use node::{Node, TaskEnd, TaskFault};
-pub use rounds::{Round, Seen};
+pub use node_rounds::{Round, Seen};
 
 mod agenda;
 mod host;

@@ -2,12 +2,12 @@
 
 ghost use Rattle.std.specs.Prelude.{◌≡◌, ◌<◌, ◌≤◌, ◌^◌, ◌↔◌, ◌⊎◌, [], false, IsTrue, IsSome, IsNone, is_some, IfOk, IfSome, OnOk, OnErr, IsErrOf, length, option_to_list};
 ghost use Rattle.std.specs.Option.{option_copied};
-ghost use Rattle.vm_host.specs.Record.{RecordFaultsRise};
+ghost use Rattle.run_records.specs.Record.{RecordFaultsRise};
 ghost use Rattle.timer_queue.specs.Timers.{first_due};
 ghost use Rattle.stack_vm.specs.Memory.{StaysMemory};
-ghost use Rattle.rounds.specs.Effects.{halt_lines};
-ghost use Rattle.rounds.specs.Reaction.{is_closed, next_due};
-ghost use Rattle.rounds.specs.Round.{IsDone, at_begin, next_of};
+ghost use Rattle.node_rounds.specs.Effects.{halt_lines};
+ghost use Rattle.node_rounds.specs.Reaction.{is_closed, next_due};
+ghost use Rattle.node_rounds.specs.Round.{IsDone, at_begin, next_of};
 ghost use Rattle.node_run.specs.Code.{cells_with_this};
 ghost use Rattle.node_run.specs.Inside.Agenda.{IsNextTaken, IsPlan};
 
@@ -16,13 +16,14 @@ use crate::procedures::Procedures;
 use crate::task::run_handler;
 use bytecode::Verified;
 use can_bus::Bus;
-use rounds::{Occurrence, Round, Seen, Trigger};
-use sim_outside::NoMemory;
+use node_rounds::{Occurrence, Round, Seen, Trigger};
+use run_records::Record;
 use stack_vm::{Memory, Meter};
 use std::alloc::Global;
 use std::marker::Model;
+use texts::NoMemory;
 use timer_queue::TimerQueue;
-use vm_host::{Outcome, Record, RecordFault, TrapKind};
+use vm_host::{Outcome, RecordFault, TrapKind};
 
 /// How a task ended.
 #[derive(Clone, Copy, Debug, PartialEq, Eq)]

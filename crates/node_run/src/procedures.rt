@@ -4,16 +4,16 @@ ghost use Rattle.std.specs.Prelude.{◌≡◌, ◌<◌, ◌^◌, IfOk, length};
 ghost use Rattle.can_frame.specs.Arbitration.{selection_key};
 ghost use Rattle.bytecode.specs.Verified.{IsVerified};
 ghost use Rattle.node_run.specs.Code.{events_of};
-ghost use Rattle.rounds.specs.Procedures.{first_where, is_timer, key_procedure, message_procedure};
+ghost use Rattle.node_rounds.specs.Procedures.{first_where, is_timer, key_procedure, message_procedure};
 
 use crate::tables::{Subject, messages_of, table_of};
 use crate::wanted::{Wanted, first_handler};
 use bytecode::{Handler, Verified};
 use can_frame::Frame;
 use msg_select::Selectors;
-use sim_outside::NoMemory;
 use std::alloc::Global;
 use std::marker::Model;
+use texts::NoMemory;
 
 /// How many keys there are.
 const KEYS: usize = 256;

@@ -4,12 +4,12 @@ ghost use Rattle.std.specs.Prelude.{◌≡◌, ◌≢◌, ◌++◌, ◌<◌, ◌
 ghost use Rattle.std.specs.List.Sorted.{IsPermutation};
 ghost use Rattle.node_run.specs.Code.{events_of};
 ghost use Rattle.node_run.specs.Inside.Tables.{IsTable, message_selectors, place_of, selector_for};
-ghost use Rattle.rounds.specs.Procedures.{else_other};
+ghost use Rattle.node_rounds.specs.Procedures.{else_other};
 
 use bytecode::Handler;
 use msg_select::{MessageSelector, Selectors};
-use sim_outside::NoMemory;
 use std::alloc::Global;
+use texts::NoMemory;
 use vm_host::{Event, Selector};
 
 /// What the places of a table stand for.

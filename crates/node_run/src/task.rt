@@ -2,7 +2,7 @@
 
 ghost use Rattle.std.specs.Prelude.{◌≡◌, ◌<◌, ◌≤◌, ◌^◌, ℕ, Bool, false, length, IfOk, OnErr, IsErrOf};
 ghost use Rattle.bytecode.specs.declared.code.Code.{Code};
-ghost use Rattle.vm_host.specs.Record.{RecordFaultsRise};
+ghost use Rattle.run_records.specs.Record.{RecordFaultsRise};
 ghost use Rattle.stack_vm.specs.Memory.{IsMemoryOf};
 ghost use Rattle.node_run.specs.Inside.Handler.{RefusesHandler, RunsHandler};
 ghost use Rattle.node_run.specs.Inside.Host.{parts};
@@ -10,9 +10,10 @@ ghost use Rattle.node_run.specs.Inside.Host.{parts};
 use crate::host::NodeHost;
 use bytecode::Verified;
 use can_bus::Bus;
+use run_records::Record;
 use stack_vm::{Memory, Meter, run};
 use timer_queue::TimerQueue;
-use vm_host::{Outcome, Record, RecordFault};
+use vm_host::{Outcome, RecordFault};
 
 /// Runs a handler on a host, whose references stay.
 fn run_on<'a, B: Bus, R: Record>(

@@ -3,7 +3,7 @@
 ghost use Rattle.std.specs.Prelude.{◌≡◌, ◌<◌, ◌^◌, length};
 ghost use Rattle.node_run.specs.Code.{events_of};
 ghost use Rattle.node_run.specs.Inside.Wanted.{is_wanted};
-ghost use Rattle.rounds.specs.Procedures.{first_where};
+ghost use Rattle.node_rounds.specs.Procedures.{first_where};
 
 use bytecode::Handler;
 use vm_host::Event;

@@ -12,5 +12,3 @@ pub use replay::{Replay, ReplayRefusal, Request};
 mod log;
 mod progress;
 mod replay;
-#[cfg(test)]
-mod tests;

@@ -12,8 +12,8 @@ use frame_bits::stuffed_len;
 use items::Items;
 use log_line::{EntryView, LineView};
 use scenario::Epoch;
-use sim_outside::NoMemory;
 use std::alloc::Global;
+use texts::NoMemory;
 
 const MICROS_PER_SECOND: u128 = 1_000_000;
 

@@ -5,7 +5,7 @@ ghost use Rattle.replay_node.specs.declared.replay.ReplayRefusal.TheVariants.{No
 
 use can_frame::Frame;
 use items::Items;
-use sim_outside::NoMemory;
+use texts::NoMemory;
 
 /// A frame, and the moment at which it is asked for.
 #[derive(Clone, Copy, Debug, PartialEq, Eq)]

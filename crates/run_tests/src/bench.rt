@@ -8,13 +8,14 @@ ghost use Rattle.sim_core.specs.Outcome.{IsNew};
 use arbitration::PlainBus;
 use bytecode::Verified;
 use node_run::{Node, Round, Seen};
+use run_records::MemRecord;
 use scenario::KeyItem;
 use sim_inputs::{Inputs, read_inputs};
-use sim_outside::{MemFiles, Text};
+use sim_outside::MemFiles;
 use stack_vm::Meter;
 use std::alloc::Global;
 use std::test::Fail;
-use vm_host::MemRecord;
+use texts::Text;
 
 /// The last moment of a run of a test.
 const LATEST: u64 = 86_400_000_000;

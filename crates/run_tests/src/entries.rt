@@ -1,8 +1,8 @@
 // The entries that a run must leave in a record.
 
 use can_frame::Ident;
+use run_records::Noted;
 use std::process::Abort;
-use vm_host::Noted;
 
 /// An entry of node 0, with its moment.
 #[derive(Clone, Copy, Debug)]

@@ -1,5 +1,5 @@
-//! Tests of runs: public calls of check_types, node_run, sim_core, sim_inputs and sim_run over sources in
-//! memory, and calls of the laws on code and runs of sources.
+//! Tests of runs: public calls of node_run and sim_core over sources in memory, and calls of the laws on code
+//! and runs of sources.
 //!
 //! They stand here, above those crates, so that each of those is proved without them; and a source takes
 //! all the crates from the lexer to the verifier, on which node_run and sim_core do not stand. A scenario
@@ -10,13 +10,7 @@
 #[cfg(test)]
 mod bench;
 #[cfg(test)]
-mod checks;
-#[cfg(test)]
-mod commands;
-#[cfg(test)]
 mod entries;
-#[cfg(test)]
-mod inputs;
 #[cfg(test)]
 mod laws;
 #[cfg(test)]
@@ -24,6 +18,6 @@ mod runs;
 #[cfg(test)]
 mod tasks;
 #[cfg(test)]
-mod texts;
-#[cfg(test)]
 mod timers;
+#[cfg(test)]
+mod written;

@@ -2,11 +2,11 @@
 
 use crate::bench::Start;
 use crate::entries::{Entry, check_entries};
+use run_records::MemRecord;
 use sim_core::run_until;
 use stack_vm::Meter;
 use std::alloc::Global;
 use std::test::Fail;
-use vm_host::MemRecord;
 
 /// What a run of this source leaves, and how often its procedures ran, by a scenario with these items.
 pub(crate) fn ran(alloc: Global, items: &str, source: &str) -> Result<(MemRecord, Meter), Fail> {

@@ -1,9 +1,9 @@
 // Many timers that are due at one moment.
 
 use crate::runs::ran;
+use run_records::Noted;
 use std::alloc::Global;
 use std::test::Fail;
-use vm_host::Noted;
 
 /// How many timers there are.
 const TIMERS: usize = 1000;

@@ -11,9 +11,9 @@ ghost use Rattle.scenario.specs.Inside.Draft.{said_by, is_said, rule_of_value, r
 use crate::item::Item;
 use crate::scenario::{Epoch, KeyItem, NodeItem, Scenario};
 use crate::value::{is_file_name, is_interface, is_node_name};
-use sim_outside::{NoMemory, Text};
 use std::alloc::Global;
 use std::marker::Model;
+use texts::{NoMemory, Text};
 
 /// How many nodes a scenario has at most.
 const NODES: usize = 64;

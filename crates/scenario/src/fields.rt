@@ -4,8 +4,8 @@ ghost use Rattle.std.specs.Prelude.{◌≡◌, ◌==◌, not, filter, length, ma
 ghost use Rattle.std.specs.List.{slice_split};
 ghost use Rattle.scenario.specs.Item.{is_blank, fields_of};
 
-use sim_outside::NoMemory;
 use std::alloc::Global;
+use texts::NoMemory;
 
 /// The fields between the blanks of a line, or none where the line begins or ends with a blank. Takes
 /// time linear in the line, and memory linear in the fields.

@@ -6,8 +6,8 @@ ghost use Rattle.scenario.specs.Item.{item_of_one, item_of_two, item_of_picks, i
 use crate::scenario::{Epoch, KeyItem, NodeItem};
 use crate::value::{bit_of, epoch_of, key_of, moment_of, picks_of, turns_of};
 use items::Items;
-use sim_outside::{NoMemory, Text};
 use std::alloc::Global;
+use texts::{NoMemory, Text};
 
 /// What a line says. A value is None where it is none that its item may have.
 #[derive(Debug, Drop)]

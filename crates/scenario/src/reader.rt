@@ -12,8 +12,8 @@ use crate::item::item_of;
 use crate::line::next_line;
 use crate::refusal::ScenarioRefusal;
 use crate::scenario::Scenario;
-use sim_outside::{NoMemory, Rule};
 use std::alloc::Global;
+use texts::{NoMemory, Rule};
 
 /// The group of the rules of scenarios.
 const GROUP: u8 = b'S';

@@ -1,6 +1,6 @@
 // Why a text gives no scenario.
 
-use sim_outside::{NoMemory, Rule};
+use texts::{NoMemory, Rule};
 
 /// Why a text gives no scenario.
 #[derive(Debug, PartialEq, Eq, Drop)]

@@ -1,6 +1,6 @@
 // What a scenario says.
 
-use sim_outside::Text;
+use texts::Text;
 
 /// What a scenario says.
 #[derive(Debug, Drop)]

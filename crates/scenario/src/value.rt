@@ -7,9 +7,9 @@ ghost use Rattle.scenario.specs.Value.{number_of, bit_of, moment_of, turns_of, e
 use crate::scenario::{Epoch, KeyItem};
 use capl_lexer::is_name;
 use items::Items;
-use sim_outside::NoMemory;
 use std::alloc::Global;
 use text_parts::decimal_number;
+use texts::NoMemory;
 
 /// The bit rates, in bits a second.
 const BIT_RATES: [u64; 15] = [

@@ -12,5 +12,3 @@ pub use layout::{Layout, usable};
 
 mod codec;
 mod layout;
-#[cfg(test)]
-mod tests;

@@ -2,17 +2,17 @@
 use Rattle.std.proofs.Common.{◌≡◌, ℕ, inr, Bool, List, [], ◌∷◌, ◌++◌, Option, refl, ap, sym, subst, ◌∙◌}
 use Rattle.can_frame.specs.Frame.{FrameFields}
 use Rattle.can_bus.specs.declared.bus.Ended.{Ended}
-use Rattle.vm_host.specs.declared.record.Noted.{Noted}
-use Rattle.vm_host.specs.Record.{RecordMeaning, RefusesEntry}
+use Rattle.run_records.specs.declared.record.Noted.{Noted}
+use Rattle.run_records.specs.Record.{RecordMeaning, RefusesEntry}
 use Rattle.bytecode.specs.Laws.{BeginsWith}
 use Rattle.stack_vm.specs.declared.meter.MeterRow.{MeterRow}
 use Rattle.scenario.specs.declared.scenario.KeyItem.{KeyItem}
-use Rattle.rounds.specs.declared.round.Round.{Round}
-use Rattle.rounds.specs.declared.round.Round.TheVariants.{Moment}
-use Rattle.rounds.specs.declared.round.Seen.{Seen}
-use Rattle.rounds.specs.Entries.{TakesEntries}
-use Rattle.rounds.specs.Reaction.{NodeState}
-use Rattle.rounds.specs.Round.{IsDone, IsPart, Task, at_begin}
+use Rattle.node_rounds.specs.declared.round.Round.{Round}
+use Rattle.node_rounds.specs.declared.round.Round.TheVariants.{Moment}
+use Rattle.node_rounds.specs.declared.round.Seen.{Seen}
+use Rattle.node_rounds.specs.Entries.{TakesEntries}
+use Rattle.node_rounds.specs.Reaction.{NodeState}
+use Rattle.node_rounds.specs.Round.{IsDone, IsPart, Task, at_begin}
 use Rattle.node_run.specs.Code.{CodeMemory, code_reaction}
 use Rattle.node_run.specs.Node.{NodeInRound}
 use Rattle.sim_core.specs.Bus.{BusMeaning, after_tasks}

@@ -10,13 +10,13 @@ use Rattle.can_bus.specs.Laws.Follows.{request}
 use Rattle.scenario.specs.declared.scenario.KeyItem.{KeyItem}
 use Rattle.timer_queue.specs.declared.setting.Setting.{Setting}
 use Rattle.timer_queue.specs.Timers.{IsTimers, first_due, least_due}
-use Rattle.rounds.specs.declared.occurrence.Occurrence.{Occurrence}
-use Rattle.rounds.specs.declared.occurrence.Trigger.{Trigger}
-use Rattle.rounds.specs.declared.round.Round.{Round}
-use Rattle.rounds.specs.declared.round.Seen.{Seen}
-use Rattle.rounds.specs.Entries.{after_requests}
-use Rattle.rounds.specs.Reaction.{NodeState, next_due}
-use Rattle.rounds.specs.Round.{Doing, IsDone, IsPart, Rest, Task, at_begin, due_trigger, next_first, next_last, next_timer, next_trigger, timer_trigger}
+use Rattle.node_rounds.specs.declared.occurrence.Occurrence.{Occurrence}
+use Rattle.node_rounds.specs.declared.occurrence.Trigger.{Trigger}
+use Rattle.node_rounds.specs.declared.round.Round.{Round}
+use Rattle.node_rounds.specs.declared.round.Seen.{Seen}
+use Rattle.node_rounds.specs.Entries.{after_requests}
+use Rattle.node_rounds.specs.Reaction.{NodeState, next_due}
+use Rattle.node_rounds.specs.Round.{Doing, IsDone, IsPart, Rest, Task, at_begin, due_trigger, next_first, next_last, next_timer, next_trigger, timer_trigger}
 use Rattle.node_run.specs.Code.{CodeMemory, code_reaction}
 use Rattle.sim_core.specs.Bus.{after_tasks}
 use Rattle.sim_core.specs.Moments.{keys_after, least, next_key}

@@ -3,7 +3,7 @@ use Rattle.std.proofs.Common.{◌≡◌, ◌≢◌, ℕ, ◌+◌, ◌-◌, ◌^�
 use Rattle.std.proofs.lemmas.Bool.Decides.{eqb_tells}
 use Rattle.stack_vm.specs.declared.meter.MeterRow.{MeterRow}
 use Rattle.stack_vm.specs.Meter.{AddsRun, row_after}
-use Rattle.rounds.specs.Round.{Task}
+use Rattle.node_rounds.specs.Round.{Task}
 use Rattle.node_run.specs.Node.{IsMetered}
 use Rattle.sim_core.specs.Counts.{AddsTasks, is_procedure, is_run_of, row_with}
 use Rattle.sim_core.specs.Faults.{AddsAtMost}

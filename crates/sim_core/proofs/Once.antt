@@ -11,13 +11,13 @@ use Rattle.bytecode.specs.declared.code.Handler.{Handler}
 use Rattle.bytecode.specs.Machine.{Machine}
 use Rattle.bytecode.specs.Runs.{EndsIn}
 use Rattle.bytecode.proofs.RunLemmas.{one_end}
-use Rattle.rounds.specs.declared.occurrence.Occurrence.{Occurrence}
-use Rattle.rounds.specs.declared.occurrence.Trigger.{Trigger}
-use Rattle.rounds.specs.declared.round.Round.{Round}
-use Rattle.rounds.specs.declared.round.Round.TheVariants as rounds
-use Rattle.rounds.specs.declared.round.Seen.{Seen}
-use Rattle.rounds.specs.Reaction.{Done, DoesProcedure, NodeState, Reacts, RunEnd, is_closed, with_procedure, without_procedure}
-use Rattle.rounds.specs.Round.{Doing, DoesNext, IsDone, IsPart, PartOf, Rest, Task, at_begin, task_of}
+use Rattle.node_rounds.specs.declared.occurrence.Occurrence.{Occurrence}
+use Rattle.node_rounds.specs.declared.occurrence.Trigger.{Trigger}
+use Rattle.node_rounds.specs.declared.round.Round.{Round}
+use Rattle.node_rounds.specs.declared.round.Round.TheVariants as rounds
+use Rattle.node_rounds.specs.declared.round.Seen.{Seen}
+use Rattle.node_rounds.specs.Reaction.{Done, DoesProcedure, NodeState, Reacts, RunEnd, is_closed, with_procedure, without_procedure}
+use Rattle.node_rounds.specs.Round.{Doing, DoesNext, IsDone, IsPart, PartOf, Rest, Task, at_begin, task_of}
 use Rattle.node_run.specs.Code.{CodeMemory, EndsByCode, by_code, code_reaction}
 use Rattle.sim_core.specs.Bus.{BusMeaning, after_all_tasks}
 use Rattle.sim_core.specs.Moments.{keys_at}

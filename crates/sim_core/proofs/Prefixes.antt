@@ -2,13 +2,13 @@
 use Rattle.std.proofs.Common.{◌≡◌, ℕ, inl, inr, ◌⊎◌, List, [], ◌∷◌, ◌++◌, refl, ap, sym, subst, ◌∙◌}
 use Rattle.std.specs.Prelude.{IsSome}
 use Rattle.std.proofs.lemmas.List.{append_assoc}
-use Rattle.vm_host.specs.declared.record.Noted.{Noted}
-use Rattle.vm_host.specs.declared.record.Noted.TheVariants as entry
-use Rattle.vm_host.specs.Record.{RecordMeaning, RefusesEntry}
+use Rattle.run_records.specs.declared.record.Noted.{Noted}
+use Rattle.run_records.specs.declared.record.Noted.TheVariants as entry
+use Rattle.run_records.specs.Record.{RecordMeaning, RefusesEntry}
 use Rattle.bytecode.specs.Laws.{BeginsWith}
-use Rattle.rounds.specs.Entries.{TakesEntries, line_entries}
-use Rattle.rounds.specs.Reaction.{NodeState}
-use Rattle.rounds.specs.Round.{Doing, DoesNext, IsDone, Task, next_of}
+use Rattle.node_rounds.specs.Entries.{TakesEntries, line_entries}
+use Rattle.node_rounds.specs.Reaction.{NodeState}
+use Rattle.node_rounds.specs.Round.{Doing, DoesNext, IsDone, Task, next_of}
 use Rattle.node_run.specs.Code.{CodeMemory, code_reaction}
 use Rattle.sim_core.specs.Entries.{task_entries}
 use Rattle.sim_core.specs.Faults.{IsLine, TakesFirst}

@@ -2,8 +2,8 @@
 use Rattle.std.proofs.Common.{◌≡◌, ℕ, ◌<◌, ◌≤◌, Bool, true, false, cond, List, [], ◌∷◌, ◌++◌, Option, None, Some, IfSome, arith, refl, ap, sym, subst, ◌∙◌}
 use Rattle.std.specs.Prelude.{◌||◌}
 use Rattle.std.specs.List.{All, list_any}
-use Rattle.vm_host.specs.declared.record.Noted.{Noted}
-use Rattle.vm_host.specs.Record.{RecordMeaning}
+use Rattle.run_records.specs.declared.record.Noted.{Noted}
+use Rattle.run_records.specs.Record.{RecordMeaning}
 use Rattle.bytecode.specs.Laws.{BeginsWith}
 use Rattle.stack_vm.specs.declared.meter.MeterRow.{MeterRow}
 use Rattle.can_frame.specs.Frame.{FrameFields}
@@ -14,17 +14,17 @@ use Rattle.scenario.specs.declared.scenario.KeyItem.{KeyItem}
 use Rattle.timer_queue.specs.Timers.{IsTimers, Timers}
 use Rattle.std.proofs.lemmas.List.Elements.{All-nil}
 use Rattle.timer_queue.specs.declared.setting.Setting.{Setting}
-use Rattle.rounds.specs.declared.round.Round.TheVariants.{PreStart, Start, Moment, Stop}
-use Rattle.rounds.specs.Entries.{TakesEntries}
-use Rattle.rounds.specs.Reaction.{NodeState}
-use Rattle.rounds.specs.Round.{IsPart, Task}
+use Rattle.node_rounds.specs.declared.round.Round.TheVariants.{PreStart, Start, Moment, Stop}
+use Rattle.node_rounds.specs.Entries.{TakesEntries}
+use Rattle.node_rounds.specs.Reaction.{NodeState}
+use Rattle.node_rounds.specs.Round.{IsPart, Task}
 use Rattle.node_run.specs.Code.{CodeMemory, code_reaction}
 use Rattle.node_run.specs.Node.{NodeInRound}
 use Rattle.sim_core.specs.Bus.{BusMeaning, after_tasks}
 use Rattle.sim_core.specs.Counts.{AddsTasks, tasks_of}
 use Rattle.sim_core.specs.Entries.{frame_entries, run_entries, task_entries}
 use Rattle.sim_core.specs.Faults.{AddsAtMost, BeginRuns, TakesFirst}
-use Rattle.rounds.specs.Reaction.{next_due}
+use Rattle.node_rounds.specs.Reaction.{next_due}
 use Rattle.sim_core.specs.Moments.{keys_after, keys_at, least, next_key, next_of_all}
 use Rattle.sim_core.specs.Outcome.{HasRun, IsNew, IsRunRefused}
 use Rattle.sim_core.specs.Run.{AreParts, EndsAt, IsBegun, IsRun, Passed, RunState, ask_stop, next_moment, quiet_round, seen_by}

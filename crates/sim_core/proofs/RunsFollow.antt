@@ -6,12 +6,12 @@ use Rattle.can_bus.specs.declared.bus.Ended.{Ended}
 use Rattle.scenario.specs.declared.scenario.KeyItem.{KeyItem}
 use Rattle.replay_node.specs.declared.replay.Request.{Request}
 use Rattle.timer_queue.specs.Timers.{Timers, least_due}
-use Rattle.rounds.specs.declared.round.Round.{Round}
-use Rattle.rounds.specs.Entries.{after_requests}
-use Rattle.rounds.specs.Follows.{Follows}
-use Rattle.rounds.specs.Reaction.{Reacts, next_due}
-use Rattle.rounds.specs.Round.{Task}
-use Rattle.rounds.proofs.FollowLemmas.{parts_follow}
+use Rattle.node_rounds.specs.declared.round.Round.{Round}
+use Rattle.node_rounds.specs.Entries.{after_requests}
+use Rattle.node_rounds.specs.Follows.{Follows}
+use Rattle.node_rounds.specs.Reaction.{Reacts, next_due}
+use Rattle.node_rounds.specs.Round.{Task}
+use Rattle.node_rounds.proofs.FollowLemmas.{parts_follow}
 use Rattle.sim_core.specs.Bus.{BusMeaning}
 use Rattle.sim_core.specs.Moments.{least, next_key, next_request, next_timer, requests_at}
 use Rattle.sim_core.specs.Run.{AreInstants, AreParts, EndsAt, IsBegun, IsInstant, IsRun, Passed, RunState, after_instant, next_moment, seen_by}

@@ -3,14 +3,14 @@ use Rattle.std.proofs.Common.{◌≡◌, ℕ, inl, inr, ◌⊎◌, List, [], ◌
 use Rattle.std.specs.Option.{option_map, unwrap_or}
 use Rattle.std.proofs.lemmas.List.{append-nil, append_assoc, take-append-drop}
 use Rattle.sim_outside.specs.Sink.{GrowsBy, GrowsByPrefix}
-use Rattle.vm_host.specs.declared.record.Noted.{Noted}
-use Rattle.vm_host.specs.declared.record.Noted.TheVariants as entry
-use Rattle.vm_host.specs.Record.{RecordMeaning}
+use Rattle.run_records.specs.declared.record.Noted.{Noted}
+use Rattle.run_records.specs.declared.record.Noted.TheVariants as entry
+use Rattle.run_records.specs.Record.{RecordMeaning}
 use Rattle.bytecode.specs.Laws.{BeginsWith}
 use Rattle.stack_vm.specs.declared.meter.MeterRow.{MeterRow}
 use Rattle.scenario.specs.declared.scenario.KeyItem.{KeyItem}
-use Rattle.rounds.specs.Entries.{TakesEntries}
-use Rattle.rounds.specs.Reaction.{NodeState}
+use Rattle.node_rounds.specs.Entries.{TakesEntries}
+use Rattle.node_rounds.specs.Reaction.{NodeState}
 use Rattle.node_run.specs.Code.{CodeMemory, code_reaction}
 use Rattle.sim_core.specs.Bus.{BusMeaning}
 use Rattle.sim_core.specs.Entries.{run_entries}

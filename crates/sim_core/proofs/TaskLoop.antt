@@ -1,19 +1,19 @@
 -- The tasks of a round, one after another.
 use Rattle.std.proofs.Common.{◌≡◌, ℕ, ◌<◌, ◌≤◌, inl, inr, ◌⊎◌, Bool, true, false, List, [], ◌∷◌, ◌++◌, arith, length, refl, ap, sym, subst, ◌∙◌}
 use Rattle.std.specs.Prelude.{IsSome, ◌||◌, Result, Ok, Err, OnErr}
-use Rattle.sim_outside.specs.Fault.{HasRisen}
+use Rattle.texts.specs.Fault.{HasRisen}
 use Rattle.std.specs.List.{list_any}
 use Rattle.std.proofs.lemmas.List.{append-nil, append_assoc}
 use Rattle.std.proofs.lemmas.List.Folds.{list_any-append}
 use Rattle.can_frame.specs.Frame.{FrameFields}
-use Rattle.vm_host.specs.declared.record.Noted.{Noted}
-use Rattle.vm_host.specs.declared.record.Noted.TheVariants as entry
-use Rattle.vm_host.specs.Record.{RecordMeaning, RefusesEntry}
+use Rattle.run_records.specs.declared.record.Noted.{Noted}
+use Rattle.run_records.specs.declared.record.Noted.TheVariants as entry
+use Rattle.run_records.specs.Record.{RecordMeaning, RefusesEntry}
 use Rattle.stack_vm.specs.declared.meter.MeterRow.{MeterRow}
-use Rattle.rounds.specs.Entries.{TakesEntries, after_requests, line_entries}
+use Rattle.node_rounds.specs.Entries.{TakesEntries, after_requests, line_entries}
 use Rattle.timer_queue.specs.Timers.{IsTimers}
-use Rattle.rounds.specs.Reaction.{NoneOverdue}
-use Rattle.rounds.specs.Round.{DoesNext, Task, next_of}
+use Rattle.node_rounds.specs.Reaction.{NoneOverdue}
+use Rattle.node_rounds.specs.Round.{DoesNext, Task, next_of}
 use Rattle.node_run.specs.Code.{code_reaction}
 use Rattle.node_run.specs.Node.{DoesTask, HasRows, IsMetered, IsTaskRefused, NodeInRound}
 use Rattle.sim_core.specs.Bus.{after_tasks}

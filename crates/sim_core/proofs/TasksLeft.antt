@@ -12,12 +12,12 @@ use Rattle.std.proofs.lemmas.List.Folds.{Any-from_list_any, list_any-from_Any}
 use Rattle.timer_queue.specs.declared.setting.Setting.{Setting}
 use Rattle.timer_queue.specs.Timers.{IsTimers, Timers, first_due}
 use Rattle.timer_queue.proofs.TimersLemmas.{fired_known}
-use Rattle.rounds.specs.declared.occurrence.Occurrence.{Occurrence}
-use Rattle.rounds.specs.declared.occurrence.Occurrence.TheVariants as happens
-use Rattle.rounds.specs.declared.occurrence.Trigger.{Trigger}
-use Rattle.rounds.specs.Reaction.{AreSetLater, NodeState, NoneOverdue}
-use Rattle.rounds.specs.Round.{Doing, DoesNext, Rest, Task, due_trigger, next_first, next_last, next_timer, next_trigger, timer_trigger}
-use Rattle.rounds.proofs.MovingTimers.{reaction_moves_timers}
+use Rattle.node_rounds.specs.declared.occurrence.Occurrence.{Occurrence}
+use Rattle.node_rounds.specs.declared.occurrence.Occurrence.TheVariants as happens
+use Rattle.node_rounds.specs.declared.occurrence.Trigger.{Trigger}
+use Rattle.node_rounds.specs.Reaction.{AreSetLater, NodeState, NoneOverdue}
+use Rattle.node_rounds.specs.Round.{Doing, DoesNext, Rest, Task, due_trigger, next_first, next_last, next_timer, next_trigger, timer_trigger}
+use Rattle.node_rounds.proofs.MovingTimers.{reaction_moves_timers}
 use Rattle.node_run.specs.Code.{CodeMemory, by_code, code_reaction}
 use Rattle.sim_core.specs.Inside.Tasks.{Leads, is_due_in, tasks_left}
 

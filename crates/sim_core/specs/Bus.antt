@@ -4,8 +4,8 @@ use Rattle.can_frame.specs.Frame.{FrameFields}
 use Rattle.can_bus.specs.declared.bus.Ended.{Ended}
 use Rattle.can_bus.specs.Bus.{BusState}
 use Rattle.can_bus.specs.Bus as channel
-use Rattle.rounds.specs.Entries.{after_requests}
-use Rattle.rounds.specs.Round.{Task}
+use Rattle.node_rounds.specs.Entries.{after_requests}
+use Rattle.node_rounds.specs.Round.{Task}
 
 -- what the calls of a bus mean: the bus after a request of a node, the next moment at which something is
 -- due, the frame that ends at a moment, the bus without it, and the bus after arbitration at a moment

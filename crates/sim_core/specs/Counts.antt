@@ -5,7 +5,7 @@ use Rattle.std.specs.Option.{unwrap_or}
 use Rattle.std.specs.Prelude.{map}
 use Rattle.stack_vm.specs.declared.meter.MeterRow.{MeterRow}
 use Rattle.stack_vm.specs.Meter.{row_after}
-use Rattle.rounds.specs.Round.{Task}
+use Rattle.node_rounds.specs.Round.{Task}
 use Rattle.sim_core.specs.Run.{Passed}
 
 -- whether the procedure that ran, if one did, is that of a number

@@ -2,10 +2,10 @@
 use Rattle.std.specs.Prelude.{ℕ, ◌+◌, List, [], ◌∷◌, ◌++◌, Option, None, Some}
 use Rattle.std.specs.List.{flat_map}
 use Rattle.can_bus.specs.declared.bus.Ended.{Ended}
-use Rattle.vm_host.specs.declared.record.Noted.{Noted}
-use Rattle.vm_host.specs.declared.record.Noted.TheVariants as entry
-use Rattle.rounds.specs.Entries.{line_entries}
-use Rattle.rounds.specs.Round.{Task}
+use Rattle.run_records.specs.declared.record.Noted.{Noted}
+use Rattle.run_records.specs.declared.record.Noted.TheVariants as entry
+use Rattle.node_rounds.specs.Entries.{line_entries}
+use Rattle.node_rounds.specs.Round.{Task}
 use Rattle.sim_core.specs.Run.{Passed}
 
 -- the entry of the frame that ended at a moment, where one did

@@ -1,15 +1,15 @@
 -- What a run leaves that was ended by a fault.
 use Rattle.std.specs.Prelude.{◌≡◌, ◌⊎◌, ℕ, ◌+◌, ◌-◌, ◌^◌, ◌<◌, ◌≤◌, List, [], ◌∷◌, ◌++◌, length, Some, slice_get, ⊤}
-use Rattle.vm_host.specs.declared.record.Noted.{Noted}
-use Rattle.vm_host.specs.declared.record.Noted.TheVariants as entry
-use Rattle.vm_host.specs.Record.{RecordMeaning, RefusesEntry}
+use Rattle.run_records.specs.declared.record.Noted.{Noted}
+use Rattle.run_records.specs.declared.record.Noted.TheVariants as entry
+use Rattle.run_records.specs.Record.{RecordMeaning, RefusesEntry}
 use Rattle.bytecode.specs.Laws.{BeginsWith}
 use Rattle.stack_vm.specs.declared.meter.MeterRow.{MeterRow}
 use Rattle.scenario.specs.declared.scenario.KeyItem.{KeyItem}
 use Rattle.replay_node.specs.declared.replay.Request.{Request}
-use Rattle.rounds.specs.Entries.{TakesEntries}
-use Rattle.rounds.specs.Reaction.{Reacts}
-use Rattle.rounds.specs.Round.{Task}
+use Rattle.node_rounds.specs.Entries.{TakesEntries}
+use Rattle.node_rounds.specs.Reaction.{Reacts}
+use Rattle.node_rounds.specs.Round.{Task}
 use Rattle.sim_core.specs.Bus.{BusMeaning}
 use Rattle.sim_core.specs.Counts.{row_with, tasks_of}
 use Rattle.sim_core.specs.Entries.{run_entries}

@@ -4,7 +4,7 @@ use Rattle.std.specs.Prelude.{ℕ, nat_le, if◌then◌else◌, List, [], ◌∷
 use Rattle.can_frame.specs.Frame.{FrameFields}
 use Rattle.scenario.specs.declared.scenario.KeyItem.{KeyItem}
 use Rattle.replay_node.specs.declared.replay.Request.{Request}
-use Rattle.rounds.specs.Reaction.{Reacts, next_due}
+use Rattle.node_rounds.specs.Reaction.{Reacts, next_due}
 use Rattle.sim_core.specs.Bus.{BusMeaning}
 
 -- the lesser of two moments, where there are any

@@ -1,10 +1,10 @@
 -- What the run of a node by its code comes to.
 use Rattle.std.specs.Prelude.{◌≡◌, ℕ, List, [], ◌∷◌}
-use Rattle.vm_host.specs.Record.{RecordMeaning}
+use Rattle.run_records.specs.Record.{RecordMeaning}
 use Rattle.stack_vm.specs.declared.meter.MeterRow.{MeterRow}
 use Rattle.scenario.specs.declared.scenario.KeyItem.{KeyItem}
-use Rattle.rounds.specs.Entries.{TakesEntries}
-use Rattle.rounds.specs.Reaction.{NodeState}
+use Rattle.node_rounds.specs.Entries.{TakesEntries}
+use Rattle.node_rounds.specs.Reaction.{NodeState}
 use Rattle.node_run.specs.Code.{CodeMemory, code_reaction}
 use Rattle.node_run.specs.Node.{NodeInRound, loaded}
 use Rattle.sim_core.specs.Bus.{BusMeaning}

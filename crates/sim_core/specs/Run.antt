@@ -7,12 +7,12 @@ use Rattle.std.specs.Option.{option_map}
 use Rattle.can_bus.specs.declared.bus.Ended.{Ended}
 use Rattle.scenario.specs.declared.scenario.KeyItem.{KeyItem}
 use Rattle.replay_node.specs.declared.replay.Request.{Request}
-use Rattle.rounds.specs.declared.round.Round.{Round}
-use Rattle.rounds.specs.declared.round.Round.TheVariants as round
-use Rattle.rounds.specs.declared.round.Seen.{Seen}
-use Rattle.rounds.specs.Entries.{after_requests}
-use Rattle.rounds.specs.Reaction.{Reacts}
-use Rattle.rounds.specs.Round.{IsPart, Task}
+use Rattle.node_rounds.specs.declared.round.Round.{Round}
+use Rattle.node_rounds.specs.declared.round.Round.TheVariants as round
+use Rattle.node_rounds.specs.declared.round.Seen.{Seen}
+use Rattle.node_rounds.specs.Entries.{after_requests}
+use Rattle.node_rounds.specs.Reaction.{Reacts}
+use Rattle.node_rounds.specs.Round.{IsPart, Task}
 use Rattle.sim_core.specs.Bus.{BusMeaning, after_all_tasks}
 use Rattle.sim_core.specs.Moments.{keys_after, keys_at, next_of_all, requests_after, requests_at}
 

@@ -2,13 +2,13 @@
 use Rattle.std.specs.Prelude.{◌≡◌, ◌⊎◌, ℕ, ◌+◌, ◌/◌, ◌%◌, List, [], ◌∷◌, ◌++◌, Option, None, Some}
 use Rattle.std.specs.Option.{unwrap_or}
 use Rattle.sim_outside.specs.Sink.{GrowsBy, GrowsByPrefix}
-use Rattle.vm_host.specs.declared.record.Noted.{Noted}
-use Rattle.vm_host.specs.declared.record.Noted.TheVariants as entry
+use Rattle.run_records.specs.declared.record.Noted.{Noted}
+use Rattle.run_records.specs.declared.record.Noted.TheVariants as entry
 use Rattle.log_line.specs.Written.{log_line}
 use Rattle.sim_text.specs.Window.{window_line}
 use Rattle.stack_vm.specs.declared.meter.MeterRow.{MeterRow}
 use Rattle.scenario.specs.declared.scenario.KeyItem.{KeyItem}
-use Rattle.rounds.specs.Reaction.{NodeState}
+use Rattle.node_rounds.specs.Reaction.{NodeState}
 use Rattle.node_run.specs.Code.{CodeMemory, code_reaction}
 use Rattle.sim_core.specs.Bus.{BusMeaning}
 use Rattle.sim_core.specs.Counts.{AddsTasks, tasks_of}

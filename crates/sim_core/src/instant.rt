@@ -2,10 +2,10 @@
 
 ghost use Rattle.std.specs.Prelude.{◌≡◌, ◌<◌, ◌≤◌, ◌^◌, [], ◌∷◌, false, length, IfOk, OnOk, OnErr, IsErrOf};
 ghost use Rattle.timer_queue.specs.Timers.{IsTimers};
-ghost use Rattle.vm_host.specs.declared.record.Noted.{Noted};
-ghost use Rattle.vm_host.specs.Record.{RecordFaultsRise, RefusesEntry};
-ghost use Rattle.rounds.specs.Entries.{TakesEntries};
-ghost use Rattle.rounds.specs.Round.{IsDone};
+ghost use Rattle.run_records.specs.declared.record.Noted.{Noted};
+ghost use Rattle.run_records.specs.Record.{RecordFaultsRise, RefusesEntry};
+ghost use Rattle.node_rounds.specs.Entries.{TakesEntries};
+ghost use Rattle.node_rounds.specs.Round.{IsDone};
 ghost use Rattle.node_run.specs.Code.{code_reaction};
 ghost use Rattle.node_run.specs.Node.{HasRows};
 ghost use Rattle.sim_core.specs.Bus.{bus_by};
@@ -17,10 +17,11 @@ use crate::keys::keys_at;
 use crate::tasks::do_tasks;
 use can_bus::{Bus, Ended};
 use node_run::{Node, Round, Seen, TaskFault};
+use run_records::Record;
 use scenario::KeyItem;
 use stack_vm::Meter;
 use std::alloc::Global;
-use vm_host::{Record, RecordFault};
+use vm_host::RecordFault;
 
 /// Does the part of node 0 in a round, and answers whether a task asked to stop.
 pub(crate) fn do_round<B: Bus, R: Record>(

@@ -4,8 +4,8 @@ ghost use Rattle.std.specs.Prelude.{◌≡◌, IfOk};
 ghost use Rattle.sim_core.specs.Moments.{keys_after, keys_at, next_key};
 
 use scenario::KeyItem;
-use sim_outside::NoMemory;
 use std::alloc::Global;
+use texts::NoMemory;
 
 /// The keys up to a moment, in order. Takes time and memory linear in them.
 pub(crate) fn keys_at(alloc: Global, keys: &[KeyItem], now: u64) -> Result<Vec<u8>, NoMemory>

@@ -4,13 +4,13 @@ ghost use Rattle.std.specs.Prelude.{ℕ, List};
 ghost use Rattle.std.specs.List.{AllZip};
 ghost use Rattle.scenario.specs.declared.scenario.KeyItem.{KeyItem};
 ghost use Rattle.replay_node.specs.declared.replay.Request.{Request};
-ghost use Rattle.rounds.specs.Follows.{NodesAlike};
-ghost use Rattle.rounds.specs.Reaction.{NodeState, reaction_of};
+ghost use Rattle.node_rounds.specs.Follows.{NodesAlike};
+ghost use Rattle.node_rounds.specs.Reaction.{NodeState, reaction_of};
 ghost use Rattle.sim_core.specs.Bus.{bus_by};
 ghost use Rattle.sim_core.specs.Run.{IsRun, Passed};
 
 use can_bus::Bus;
-use rounds::laws::RunnerPair;
+use node_rounds::laws::RunnerPair;
 
 /// Nodes that are alike, one by one, have equal rounds on a bus, and are alike after them.
 pub fn equal_runs<P: RunnerPair, B: Bus>()

@@ -1,7 +1,7 @@
 // The log of a run.
 
 ghost use Rattle.std.specs.Prelude.{◌≡◌, ℕ, ◌<◌, ◌≤◌, ◌^◌, None, Some, OnOk, OnErr, IsErrOf};
-ghost use Rattle.sim_outside.specs.Fault.{HasRisen};
+ghost use Rattle.texts.specs.Fault.{HasRisen};
 ghost use Rattle.node_run.specs.Node.{HasRows};
 ghost use Rattle.sim_core.specs.Bus.{bus_by};
 ghost use Rattle.sim_core.specs.Outcome.{IsNew};
@@ -13,11 +13,12 @@ use can_bus::Bus;
 use can_frame::Frame;
 use log_line::write_line;
 use node_run::{Node, TaskFault};
+use run_records::Record;
 use scenario::KeyItem;
 use sim_outside::Sink;
 use stack_vm::Meter;
 use std::alloc::Global;
-use vm_host::{Record, RecordFault};
+use vm_host::RecordFault;
 
 /// How many microseconds a second has.
 const MICROS_PER_SECOND: u64 = 1_000_000;

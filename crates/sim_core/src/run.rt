@@ -2,8 +2,8 @@
 
 ghost use Rattle.std.specs.Prelude.{◌≡◌, ℕ, ◌<◌, ◌≤◌, ◌^◌, [], ◌∷◌, Some, None, false, if◌then◌else◌, length, IfOk, IfSome, OnOk, OnErr, IsErrOf};
 ghost use Rattle.timer_queue.specs.Timers.{IsTimers};
-ghost use Rattle.vm_host.specs.Record.{RecordFaultsRise};
-ghost use Rattle.rounds.specs.Round.{IsDone};
+ghost use Rattle.run_records.specs.Record.{RecordFaultsRise};
+ghost use Rattle.node_rounds.specs.Round.{IsDone};
 ghost use Rattle.node_run.specs.Code.{code_reaction};
 ghost use Rattle.node_run.specs.Node.{HasRows};
 ghost use Rattle.sim_core.specs.Bus.{bus_by};
@@ -16,10 +16,10 @@ use crate::instant::{do_instant, do_round};
 use crate::keys::{keys_after, keys_at, next_key};
 use can_bus::Bus;
 use node_run::{Node, Round, TaskFault};
+use run_records::Record;
 use scenario::KeyItem;
 use stack_vm::Meter;
 use std::alloc::Global;
-use vm_host::Record;
 
 /// The lesser of two moments, where there are any.
 fn least(a: Option<u64>, b: Option<u64>) -> Option<u64>

@@ -2,17 +2,17 @@
 
 ghost use Rattle.std.specs.Prelude.{◌≡◌, ◌<◌, ◌≤◌, false, length, IfOk, OnOk, OnErr, IsErrOf};
 ghost use Rattle.timer_queue.specs.Timers.{IsTimers};
-ghost use Rattle.vm_host.specs.Record.{RecordFaultsRise};
-ghost use Rattle.rounds.specs.Reaction.{NoneOverdue};
-ghost use Rattle.rounds.specs.Round.{IsDone};
+ghost use Rattle.run_records.specs.Record.{RecordFaultsRise};
+ghost use Rattle.node_rounds.specs.Reaction.{NoneOverdue};
+ghost use Rattle.node_rounds.specs.Round.{IsDone};
 ghost use Rattle.node_run.specs.Code.{code_reaction};
 ghost use Rattle.node_run.specs.Node.{HasRows};
 ghost use Rattle.sim_core.specs.Inside.Tasks.{HasDone, IsPartRefused};
 
 use can_bus::Bus;
 use node_run::{Node, TaskFault};
+use run_records::Record;
 use stack_vm::Meter;
-use vm_host::Record;
 
 /// Does all tasks of the round that node 0 began, and answers whether one asked to stop.
 ///

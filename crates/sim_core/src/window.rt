@@ -1,7 +1,7 @@
 // The window of a run.
 
 ghost use Rattle.std.specs.Prelude.{◌≡◌, ℕ, ◌<◌, ◌≤◌, ◌^◌, None, Some, OnOk, OnErr, IsErrOf};
-ghost use Rattle.sim_outside.specs.Fault.{HasRisen};
+ghost use Rattle.texts.specs.Fault.{HasRisen};
 ghost use Rattle.node_run.specs.Node.{HasRows};
 ghost use Rattle.sim_core.specs.Bus.{bus_by};
 ghost use Rattle.sim_core.specs.Outcome.{IsNew};
@@ -12,12 +12,13 @@ use crate::run::run_until;
 use can_bus::Bus;
 use can_frame::Frame;
 use node_run::{Node, TaskFault};
+use run_records::Record;
 use scenario::KeyItem;
 use sim_outside::Sink;
 use sim_text::window_line;
 use stack_vm::Meter;
 use std::alloc::Global;
-use vm_host::{Record, RecordFault};
+use vm_host::RecordFault;
 
 /// A record that writes each line to a sink as a line of a window, under the name of the node, and
 /// passes over frames. Each line is one piece, and is handed over as it happens.

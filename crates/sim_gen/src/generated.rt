@@ -4,8 +4,8 @@ ghost use Rattle.std.specs.Prelude.{◌≡◌, ◌≤◌, ◌++◌, IfOk, OnOk, 
 ghost use Rattle.sim_gen.specs.Generated.{node_line, scenario_text, source, generated};
 
 use items::Items;
-use sim_outside::{NoMemory, Text};
 use std::alloc::Global;
+use texts::{NoMemory, Text};
 
 /// The greatest number of nodes that a scenario may have.
 pub const MAX_COUNT: u32 = 64;

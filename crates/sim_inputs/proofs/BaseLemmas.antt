@@ -5,9 +5,10 @@ use Rattle.sim_outside.specs.Folder.{beside}
 use Rattle.capl_include.specs.Expansion.{Contents}
 use Rattle.dbc_reader.specs.declared.message.DbcMessage.{DbcMessage}
 use Rattle.sim_inputs.specs.Database.{BaseAt, DatabaseAt, IsBaseBlame, IsDatabaseBlame}
-use Rattle.sim_inputs.specs.Inside.Agreement.{Agrees, messages_in}
-use Rattle.sim_inputs.specs.declared.refusal.InputRefusal.{InputRefusal}
-use Rattle.sim_inputs.proofs.Passing.{passed_on}
+use Rattle.input_refusals.specs.Agreement.{Agrees}
+use Rattle.sim_inputs.specs.Inside.Messages.{messages_in}
+use Rattle.input_refusals.specs.declared.refusal.InputRefusal.{InputRefusal}
+use Rattle.input_refusals.proofs.Passing.{passed_on}
 
 -- a refusal of the database is one of the scenario's
 pub base_refused : (contents : Contents) (name joined file : List ℕ) (database : Option (List ℕ)) (refusal : InputRefusal) (result : Result (Option (List DbcMessage)) InputRefusal) →

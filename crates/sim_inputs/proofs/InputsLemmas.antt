@@ -4,7 +4,7 @@ use Rattle.std.specs.Prelude.{◌⊎◌, IsErrAnd, IsErrOf, IsOk}
 use Rattle.std.specs.Borrow.{Bor}
 use Rattle.std.specs.Option.{option_copied}
 use Rattle.sim_outside.specs.Folder.{beside}
-use Rattle.sim_outside.specs.declared.blame.Blame.{Blame}
+use Rattle.texts.specs.declared.blame.Blame.{Blame}
 use Rattle.bytecode.specs.declared.code.Code.{Code}
 use Rattle.capl_include.specs.Expansion.{Contents}
 use Rattle.capl_include.specs.declared.expanded.SourceFile.{SourceFile}
@@ -13,15 +13,17 @@ use Rattle.check_names.specs.Names.{messages_of}
 use Rattle.dbc_reader.specs.declared.message.DbcMessage.{DbcMessage}
 use Rattle.scenario.specs.declared.scenario.NodeItem.{NodeItem}
 use Rattle.scenario.specs.declared.scenario.Scenario.{Scenario}
-use Rattle.sim_inputs.specs.Accepted.{AreAccepted, IsFirstBlame, IsSourceBlame}
+use Rattle.sim_inputs.specs.Accepted.{AreAccepted, IsFirstBlame}
+use Rattle.source_compiler.specs.Source.{IsSourceBlame}
 use Rattle.sim_inputs.specs.Answer.{AreInputsOf, IsAnswer}
 use Rattle.sim_inputs.specs.Database.{BaseAt}
-use Rattle.sim_inputs.specs.Inside.Agreement.{Agrees, messages_in}
-use Rattle.sim_inputs.specs.Inside.Compiled.{IsCompiledSource}
+use Rattle.input_refusals.specs.Agreement.{Agrees}
+use Rattle.sim_inputs.specs.Inside.Messages.{messages_in}
+use Rattle.source_compiler.specs.Compiled.{IsCompiledSource}
 use Rattle.sim_inputs.specs.Scenario.{ScenarioAt}
 use Rattle.sim_inputs.specs.declared.inputs.Inputs.{Inputs}
-use Rattle.sim_inputs.specs.declared.refusal.InputRefusal.{InputRefusal}
-use Rattle.sim_inputs.specs.declared.refusal.InputRefusal.TheVariants.{Blamed, Failed, NoMemory}
+use Rattle.input_refusals.specs.declared.refusal.InputRefusal.{InputRefusal}
+use Rattle.input_refusals.specs.declared.refusal.InputRefusal.TheVariants.{Blamed, Failed, NoMemory}
 use Rattle.sim_inputs.proofs.OneReading.{not_both}
 
 answer_of : (contents : Contents) (name : List ℕ) {B : Type 0} (IsSo : B → Type 0) (IsBlame : Blame → Type 0) (refusal : InputRefusal) →

@@ -4,7 +4,7 @@ use Rattle.std.specs.Prelude.{◌⊎◌}
 use Rattle.std.specs.List.{flat_map}
 use Rattle.std.specs.Str.Lines.{lines}
 use Rattle.sim_outside.specs.Folder.{beside}
-use Rattle.sim_outside.specs.declared.blame.Blame.{Blame}
+use Rattle.texts.specs.declared.blame.Blame.{Blame}
 use Rattle.scenario.specs.Item.{items_of}
 use Rattle.scenario.specs.Scenario.{IsScenario, key_in}
 use Rattle.scenario.specs.declared.scenario.NodeItem.{NodeItem}
@@ -17,15 +17,16 @@ use Rattle.capl_include.specs.Expansion.{Contents, Expansion, Outcome, Went, Sto
 use Rattle.capl_include.specs.declared.expanded.SourceFile.{SourceFile}
 use Rattle.capl_meaning.specs.Offences.{offences_of}
 use Rattle.capl_meaning.specs.Size.{cells_of_program}
-use Rattle.sim_inputs.specs.Accepted.{AreAccepted, IsFirstBlame, IsLaterBlame, IsProgramBlame, IsSource, IsSourceBlame}
-use Rattle.sim_inputs.specs.Blame.{without_column}
+use Rattle.sim_inputs.specs.Accepted.{AreAccepted, IsFirstBlame, IsLaterBlame}
+use Rattle.source_compiler.specs.Source.{IsProgramBlame, IsSource, IsSourceBlame}
+use Rattle.input_refusals.specs.Blame.{without_column}
 use Rattle.sim_inputs.specs.Database.{BaseAt, IsBaseBlame}
 use Rattle.sim_inputs.specs.Law.{SayTheSame}
-use Rattle.sim_inputs.specs.Program.{AreTreesOf, FilesAt, IsFilesBlame, IsOffenceBlame, IsSizeBlame, most}
+use Rattle.source_compiler.specs.Program.{AreTreesOf, FilesAt, IsFilesBlame, IsOffenceBlame, IsSizeBlame, most}
 use Rattle.sim_inputs.specs.Scenario.{ScenarioAt, scenario_limit}
-use Rattle.sim_inputs.proofs.FileLemmas.{one_parse_blame, one_program, one_screen_blame, parsed_or_blame, screened_or_blame}
+use Rattle.source_compiler.proofs.FileLemmas.{one_parse_blame, one_program, one_screen_blame, parsed_or_blame, screened_or_blame}
 use Rattle.sim_inputs.proofs.KeyLemmas.{one_order}
-use Rattle.sim_inputs.proofs.OffenceLemmas.{offence_or_none, one_offence_blame}
+use Rattle.source_compiler.proofs.OffenceLemmas.{offence_or_none, one_offence_blame}
 use Rattle.sim_inputs.proofs.TextLemmas.{base_or_blame, one_base, one_base_blame, one_scenario_blame, one_text, scenario_or_blame}
 
 -- ---- the scenario

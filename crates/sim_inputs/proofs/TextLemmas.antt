@@ -2,7 +2,7 @@
 use Rattle.std.proofs.Common.{◌≡◌, ◌≢◌, ◌<◌, ◌+◌, ℕ, List, [], ◌∷◌, length, Option, Some, None, inl, inr, refl, sym, ap, subst, ◌∙◌, arith, rules}
 use Rattle.std.proofs.lemmas.Bool.{cases_order}
 use Rattle.std.specs.Prelude.{◌⊎◌, IsSome}
-use Rattle.sim_outside.specs.declared.blame.Blame.{Blame}
+use Rattle.texts.specs.declared.blame.Blame.{Blame}
 use Rattle.capl_include.specs.Expansion.{Contents}
 use Rattle.dbc_reader.specs.Database.{IsDatabase}
 use Rattle.dbc_reader.specs.declared.message.DbcMessage.{DbcMessage}
@@ -14,7 +14,8 @@ use Rattle.scenario.specs.Scenario.{IsScenario}
 use Rattle.scenario.specs.declared.scenario.NodeItem.{NodeItem}
 use Rattle.scenario.specs.declared.scenario.Scenario.{Scenario}
 use Rattle.std.specs.Str.Lines.{lines}
-use Rattle.sim_inputs.specs.Blame.{Holds, IsFileBlame, line_blame, statement_rule, twice_rule}
+use Rattle.sim_inputs.specs.Blame.{Holds, IsFileBlame, statement_rule, twice_rule}
+use Rattle.input_refusals.specs.Blame.{line_blame}
 use Rattle.sim_inputs.specs.Database.{BaseAt, IsBaseBlame, IsDatabaseBlame, IsStatementBlame, database_limit}
 use Rattle.sim_inputs.specs.Scenario.{HasOneNode, IsLineBlame, IsNotYet, IsNotYetBlame, IsScenarioBlame, ScenarioAt, scenario_limit}
 

@@ -8,11 +8,11 @@ use Rattle.capl_tree.specs.declared.file.Program.{Program}
 use Rattle.capl_include.specs.Expansion.{Contents}
 use Rattle.capl_include.specs.declared.expanded.SourceFile.{SourceFile}
 use Rattle.sim_inputs.specs.Accepted.{AreAccepted, IsFirstBlame}
-use Rattle.sim_inputs.specs.Code.{IsCodeFor}
+use Rattle.source_compiler.specs.Code.{IsCodeFor}
 use Rattle.sim_inputs.specs.Scenario.{HasOneNode}
 use Rattle.sim_inputs.specs.declared.inputs.Inputs.{Inputs}
-use Rattle.sim_inputs.specs.declared.refusal.InputRefusal.{InputRefusal}
-use Rattle.sim_inputs.specs.declared.refusal.InputRefusal.TheVariants.{Blamed, Failed, NoMemory}
+use Rattle.input_refusals.specs.declared.refusal.InputRefusal.{InputRefusal}
+use Rattle.input_refusals.specs.declared.refusal.InputRefusal.TheVariants.{Blamed, Failed, NoMemory}
 
 -- the inputs are accepted, and have the scenario and code for the program
 pub record AreInputsOf (contents : Contents) (name : List ℕ) (inputs : Inputs) : Type 0 where

@@ -1,7 +1,7 @@
 -- The rules that inputs may break, and which part of a file is to blame. They are this project's own.
 use Rattle.std.specs.Prelude.{◌≡◌, ◌<◌, ◌≤◌, ◌⊎◌, ℕ, List, length, Some, None}
-use Rattle.sim_outside.specs.declared.blame.Blame.{Blame}
-use Rattle.sim_outside.specs.declared.blame.Rule.{Rule}
+use Rattle.texts.specs.declared.blame.Blame.{Blame}
+use Rattle.texts.specs.declared.blame.Rule.{Rule}
 use Rattle.capl_include.specs.Blame.{file_blame, too_long_rule}
 use Rattle.capl_include.specs.Expansion.{Contents}
 
@@ -20,14 +20,6 @@ statement_rule = record { group = 68; number = 1 }
 -- D02: an identifier or a name of a database stands for the second time
 abbrev pub twice_rule : Rule
 twice_rule = record { group = 68; number = 2 }
-
--- a line of a file is to blame
-abbrev pub line_blame : List ℕ → ℕ → Rule → Blame
-line_blame name line rule = record { file = name; line = Some line; column = None; rule = rule }
-
--- the blame, which shows no column
-abbrev pub without_column : Blame → Blame
-without_column blame = record blame { column = None }
 
 -- the file of a name is held, with at most so many bytes
 abbrev pub Holds : Contents → ℕ → List ℕ → List ℕ → Type 0

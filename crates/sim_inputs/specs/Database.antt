@@ -1,12 +1,13 @@
 -- The messages of the database that a scenario names, and what is to blame where there are none.
 use Rattle.std.specs.Prelude.{◌≡◌, ◌^◌, ◌⊎◌, ℕ, List, [], Option, Some, None}
 use Rattle.sim_outside.specs.Folder.{beside}
-use Rattle.sim_outside.specs.declared.blame.Blame.{Blame}
+use Rattle.texts.specs.declared.blame.Blame.{Blame}
 use Rattle.dbc_reader.specs.Database.{IsDatabase, IsRefusal}
 use Rattle.dbc_reader.specs.declared.message.DbcMessage.{DbcMessage}
 use Rattle.dbc_reader.specs.declared.refusal.DbcRefusal.TheVariants as refusal
 use Rattle.capl_include.specs.Expansion.{Contents}
-use Rattle.sim_inputs.specs.Blame.{Holds, IsFileBlame, line_blame, statement_rule, twice_rule}
+use Rattle.sim_inputs.specs.Blame.{Holds, IsFileBlame, statement_rule, twice_rule}
+use Rattle.input_refusals.specs.Blame.{line_blame}
 
 -- how many bytes a database may have
 abbrev pub database_limit : ℕ

@@ -1,3 +1,2 @@
 -- What private functions mean. No public clause speaks of it.
-pub mod Agreement
-pub mod Compiled
+pub mod Messages

@@ -2,9 +2,7 @@
 pub mod Accepted
 pub mod Answer
 pub mod Blame
-pub mod Code
 pub mod Database
 pub mod Inside
 pub mod Law
-pub mod Program
 pub mod Scenario

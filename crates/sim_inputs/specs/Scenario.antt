@@ -1,14 +1,15 @@
 -- The scenario of a name, and what is to blame where there is none that is taken.
 use Rattle.std.specs.Prelude.{◌≡◌, ◌<◌, ◌^◌, ◌⊎◌, ℕ, List, [], ◌∷◌, length, None, IsSome}
-use Rattle.sim_outside.specs.declared.blame.Blame.{Blame}
-use Rattle.sim_outside.specs.declared.blame.Rule.{Rule}
+use Rattle.texts.specs.declared.blame.Blame.{Blame}
+use Rattle.texts.specs.declared.blame.Rule.{Rule}
 use Rattle.scenario.specs.Scenario.{IsScenario, IsRefusal}
 use Rattle.scenario.specs.declared.refusal.ScenarioRefusal.TheVariants.{Broken}
 use Rattle.scenario.specs.declared.scenario.NodeItem.{NodeItem}
 use Rattle.scenario.specs.declared.scenario.Scenario.{Scenario}
 use Rattle.capl_include.specs.Blame.{file_blame}
 use Rattle.capl_include.specs.Expansion.{Contents}
-use Rattle.sim_inputs.specs.Blame.{Holds, IsFileBlame, line_blame, not_yet_rule}
+use Rattle.sim_inputs.specs.Blame.{Holds, IsFileBlame, not_yet_rule}
+use Rattle.input_refusals.specs.Blame.{line_blame}
 
 -- how many bytes a scenario may have
 abbrev pub scenario_limit : ℕ

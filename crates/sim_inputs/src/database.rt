@@ -2,16 +2,18 @@
 
 ghost use Rattle.std.specs.Prelude.{◌≡◌, ◌<◌, ◌≤◌, ◌^◌, length, IfSome, IsErrOf};
 ghost use Rattle.dbc_reader.specs.Database.{IsDatabase};
-ghost use Rattle.sim_outside.specs.Fault.{HasRisen};
+ghost use Rattle.texts.specs.Fault.{HasRisen};
 ghost use Rattle.sim_inputs.specs.Database.{BaseAt, DatabaseAt, IsBaseBlame, IsDatabaseBlame, IsStatementBlame};
-ghost use Rattle.sim_inputs.specs.Inside.Agreement.{Agrees, Judges, messages_in};
+ghost use Rattle.input_refusals.specs.Agreement.{Agrees, Judges};
+ghost use Rattle.sim_inputs.specs.Inside.Messages.{messages_in};
 
-use crate::blames::{STATEMENT, TWICE, blamed_line};
 use crate::files::read_text;
-use crate::refusal::InputRefusal;
+use crate::rules::{STATEMENT, TWICE};
 use dbc_reader::{Database, DbcRefusal, read};
-use sim_outside::{Files, Text, beside};
+use input_refusals::{InputRefusal, blamed_line};
+use sim_outside::{Files, beside};
 use std::alloc::Global;
+use texts::Text;
 
 /// The most bytes of a database.
 const DATABASE_LIMIT: usize = 1 << 24;

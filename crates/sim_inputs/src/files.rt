@@ -1,14 +1,15 @@
 // Reading one file.
 
 ghost use Rattle.std.specs.Prelude.{◌≡◌, ◌≤◌, IfOk, IfSome, IsErrOf, vec_len};
-ghost use Rattle.sim_outside.specs.Fault.{HasRisen};
+ghost use Rattle.texts.specs.Fault.{HasRisen};
 ghost use Rattle.sim_inputs.specs.Blame.{Holds, IsFileBlame};
-ghost use Rattle.sim_inputs.specs.Inside.Agreement.{Agrees};
+ghost use Rattle.input_refusals.specs.Agreement.{Agrees};
 
-use crate::blames::{MISSING, TOO_LONG, blamed_file};
-use crate::refusal::InputRefusal;
-use sim_outside::{FileRefusal, Files, Text};
+use crate::rules::{MISSING, TOO_LONG};
+use input_refusals::{InputRefusal, blamed_file};
+use sim_outside::{FileRefusal, Files};
 use std::alloc::Global;
+use texts::Text;
 
 /// The bytes of the file of this name, which may have so many.
 pub(crate) fn read_text<F: Files>(

@@ -6,19 +6,20 @@ ghost use Rattle.capl_include.specs.declared.expanded.SourceFile.{SourceFile};
 ghost use Rattle.capl_tree.specs.declared.file.Program.{Program};
 ghost use Rattle.dbc_reader.specs.declared.message.DbcMessage.{DbcMessage};
 ghost use Rattle.scenario.specs.declared.scenario.Scenario.{Scenario};
-ghost use Rattle.sim_outside.specs.Fault.{HasRisen};
+ghost use Rattle.texts.specs.Fault.{HasRisen};
 ghost use Rattle.sim_inputs.specs.Accepted.{AreAccepted};
 ghost use Rattle.sim_inputs.specs.Answer.{IsAnswer, IsTaken};
 ghost use Rattle.scenario.specs.Within.{IsWithin};
 
 use crate::database::read_base;
-use crate::refusal::InputRefusal;
 use crate::scenario_file::read_scenario;
-use crate::source::read_source;
 use bytecode::Verified;
+use input_refusals::InputRefusal;
 use scenario::Scenario;
-use sim_outside::{Files, Text, beside};
+use sim_outside::{Files, beside};
+use source_compiler::read_source;
 use std::alloc::Global;
+use texts::Text;
 
 /// What a simulation runs on.
 #[derive(Debug, Drop)]

@@ -1,7 +1,7 @@
 //! Laws of the inputs of a name. Each call does nothing: its contract is the law.
 
 ghost use Rattle.std.specs.Prelude.{◌≡◌, ℕ, List};
-ghost use Rattle.sim_outside.specs.declared.blame.Blame.{Blame as Blamed};
+ghost use Rattle.texts.specs.declared.blame.Blame.{Blame as Blamed};
 ghost use Rattle.scenario.specs.declared.scenario.Scenario.{Scenario};
 ghost use Rattle.dbc_reader.specs.declared.message.DbcMessage.{DbcMessage};
 ghost use Rattle.capl_tree.specs.declared.file.Program.{Program};

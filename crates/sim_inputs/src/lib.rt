@@ -9,14 +9,10 @@
 #![tactic(auto)]
 
 pub use inputs::{Inputs, read_inputs};
-pub use refusal::InputRefusal;
 
-mod blames;
 mod database;
 mod files;
 mod inputs;
 pub mod laws;
-mod program;
-mod refusal;
+mod rules;
 mod scenario_file;
-mod source;

@@ -4,17 +4,18 @@ ghost use Rattle.std.specs.Prelude.{◌≡◌, ◌<◌, ◌≤◌, ◌^◌, ◌�
 ghost use Rattle.scenario.specs.Scenario.{IsScenario};
 ghost use Rattle.scenario.specs.Within.{IsWithin};
 ghost use Rattle.scenario.specs.declared.scenario.NodeItem.{NodeItem};
-ghost use Rattle.sim_outside.specs.Fault.{HasRisen};
+ghost use Rattle.texts.specs.Fault.{HasRisen};
 ghost use Rattle.sim_inputs.specs.Answer.{IsTaken};
-ghost use Rattle.sim_inputs.specs.Inside.Agreement.{Agrees, Judges};
+ghost use Rattle.input_refusals.specs.Agreement.{Agrees, Judges};
 ghost use Rattle.sim_inputs.specs.Scenario.{HasOneNode, IsLineBlame, IsNotYet, IsNotYetBlame, IsScenarioBlame, ScenarioAt};
 
-use crate::blames::{NOT_YET, blamed_file, blamed_line};
 use crate::files::read_text;
-use crate::refusal::InputRefusal;
+use crate::rules::NOT_YET;
+use input_refusals::{InputRefusal, blamed_file, blamed_line};
 use scenario::{Scenario, ScenarioRefusal, read};
-use sim_outside::{Files, Text};
+use sim_outside::Files;
 use std::alloc::Global;
+use texts::Text;
 
 /// The most bytes of a scenario.
 const SCENARIO_LIMIT: usize = 1 << 20;

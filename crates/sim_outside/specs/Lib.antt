@@ -1,5 +1,4 @@
 -- The definitions of this crate.
-pub mod Fault
 pub mod Files
 pub mod Folder
 pub mod MemFiles

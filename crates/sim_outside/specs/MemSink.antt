@@ -1,7 +1,7 @@
 -- A sink that is kept in memory.
 use Rattle.std.specs.Prelude.{◌≡◌, ℕ, List, ◌==◌, ◌++◌, take, Option, IsSomeAnd}
 use Rattle.std.specs.Map.{lookup}
-use Rattle.sim_outside.specs.Fault.{raised}
+use Rattle.texts.specs.Fault.{raised}
 
 -- the bytes written, the calls that fail and how much each keeps, the next call's number, and how many failed
 pub record SinkInMemory : Type 0 where

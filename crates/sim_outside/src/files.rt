@@ -1,11 +1,11 @@
 // Files that can be read.
 
 ghost use Rattle.std.specs.Prelude.{◌≡◌, ℕ, ◌≤◌, Option, List, IfOk, IfSome, IsErrOf, vec_len};
-ghost use Rattle.sim_outside.specs.Fault.{HasRisen, raised};
+ghost use Rattle.texts.specs.Fault.{HasRisen, raised};
 ghost use Rattle.sim_outside.specs.Files.{AgreesWith};
 
-use crate::text::Text;
 use std::alloc::Global;
+use texts::Text;
 use thiserror::Error;
 
 /// Why a file was not read.

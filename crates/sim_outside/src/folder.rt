@@ -3,10 +3,9 @@
 ghost use Rattle.std.specs.Prelude.{◌≡◌, IfOk};
 ghost use Rattle.sim_outside.specs.Folder.{beside, folder_of};
 
-use crate::memory::NoMemory;
-use crate::text::Text;
 use memchr::memrchr;
 use std::alloc::Global;
+use texts::{NoMemory, Text};
 
 /// The name under which a file is sought that the file `naming` names: `name`, put after `naming` up to
 /// and with its last `/`, unless it begins with `/`. Takes time and memory linear in both.

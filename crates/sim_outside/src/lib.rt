@@ -1,5 +1,4 @@
-//! What the program meets of the outside: names and lines as texts, rules and where they are broken,
-//! files to read, a sink to write to, and want of memory.
+//! What the program meets of the outside: files to read, and a sink to write to.
 //!
 //! Who reads takes a [`Files`], and who writes a [`Sink`]. Each has two meanings that its calls are
 //! stated by: the bytes that it holds or was given, where it tells them, and a count of faults that
@@ -11,30 +10,22 @@
 //! given: where these tell their bytes, so do the answers.
 #![tactic(auto)]
 
-pub use blame::{Blame, Rule};
 pub use files::{FileRefusal, Files};
 pub use folder::beside;
 pub use mem_files::MemFiles;
 pub use mem_sink::MemSink;
-pub use memory::NoMemory;
 pub use reader::read_to_limit;
 pub use real_files::RealFiles;
 pub use real_sink::RealSink;
 pub use sink::{Sink, SinkRefusal};
-pub use text::Text;
 pub use writer::write_whole;
 
-mod blame;
 mod files;
 mod folder;
 mod mem_files;
 mod mem_sink;
-mod memory;
 mod reader;
 mod real_files;
 mod real_sink;
 mod sink;
-#[cfg(test)]
-mod tests;
-mod text;
 mod writer;

@@ -2,14 +2,14 @@
 
 ghost use Rattle.std.specs.Prelude.{◌≡◌, ◌+◌, ◌-◌, ◌^◌, ℕ, ◌↔◌, ◌≤◌, min, map, List, Contains, IfOk, IfSome, IsErrOf, vec_len, if◌then◌else◌};
 ghost use Rattle.std.specs.Option.{option_map};
-ghost use Rattle.sim_outside.specs.Fault.{HasRisen, raised};
+ghost use Rattle.texts.specs.Fault.{HasRisen, raised};
 ghost use Rattle.sim_outside.specs.Files.{AgreesWith};
 ghost use Rattle.sim_outside.specs.MemFiles.{held_in};
 
 use crate::files::{FileRefusal, Files};
-use crate::text::Text;
 use std::alloc::Global;
 use std::marker::Model;
+use texts::Text;
 
 /// Files in memory. They tell what they hold.
 #[derive(Debug, Drop)]

@@ -2,7 +2,7 @@
 
 ghost use Rattle.std.specs.Prelude.{◌≡◌, ◌≤◌, ◌==◌, [], ◌++◌, Some, OnOk, OnErr, IsErrOf, IsOkUnless};
 ghost use Rattle.std.specs.Map.{lookup};
-ghost use Rattle.sim_outside.specs.Fault.{HasRisen, raised};
+ghost use Rattle.texts.specs.Fault.{HasRisen, raised};
 ghost use Rattle.sim_outside.specs.Sink.{Writes};
 ghost use Rattle.sim_outside.specs.MemSink.{kept_at, KeepsAtFault};
 

@@ -4,12 +4,12 @@ ghost use Rattle.std.specs.Prelude.{◌≡◌, ◌≤◌, IfOk, vec_len};
 
 use crate::files::{FileRefusal, Files};
 use crate::reader::read_to_limit;
-use crate::text::Text;
 use std::alloc::Global;
 use std::fs::File;
 use std::io::ErrorKind;
 use std::marker::Model;
 use std::{rt, str};
+use texts::Text;
 
 /// The files of the system, read through the runtime. They tell nothing of what they hold.
 #[derive(Drop)]

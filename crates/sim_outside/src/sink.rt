@@ -1,10 +1,10 @@
 // A sink that can be written to.
 
 ghost use Rattle.std.specs.Prelude.{◌≡◌, ℕ, ◌≤◌, Option, List, IsErrOf};
-ghost use Rattle.sim_outside.specs.Fault.{HasRisen};
+ghost use Rattle.texts.specs.Fault.{HasRisen};
 ghost use Rattle.sim_outside.specs.Sink.{Writes};
 
-use crate::memory::NoMemory;
+use texts::NoMemory;
 use thiserror::Error;
 
 /// Why a piece was not written whole.

@@ -3,7 +3,7 @@ use Rattle.std.proofs.Common.{◌≡◌, ℕ, List, [], ◌∷◌, Option, Resul
 use Rattle.std.specs.Prelude.{◌⊎◌, IsErr}
 use Rattle.std.proofs.lemmas.List.Elements.{All-cons, All-nil}
 use Rattle.sim_outside.specs.Sink.{GrowsBy, GrowsByPrefix, Writes}
-use Rattle.sim_outside.specs.declared.blame.Blame.{Blame}
+use Rattle.texts.specs.declared.blame.Blame.{Blame}
 use Rattle.sim_outside.specs.declared.sink.SinkRefusal.{SinkRefusal}
 use Rattle.sim_outside.specs.declared.sink.SinkRefusal.TheVariants.{Failed, NoMemory}
 use Rattle.can_bus.specs.Bus.{BitTakesTime, new_bus}
@@ -19,24 +19,24 @@ use Rattle.dbc_reader.specs.declared.message.DbcMessage.{DbcMessage}
 use Rattle.capl_include.specs.Expansion.{Contents}
 use Rattle.capl_include.specs.declared.expanded.SourceFile.{SourceFile}
 use Rattle.capl_tree.specs.declared.file.Program.{Program}
-use Rattle.rounds.specs.Reaction.{NodeState}
+use Rattle.node_rounds.specs.Reaction.{NodeState}
 use Rattle.sim_core.specs.Bus.{one_channel}
 use Rattle.sim_core.specs.Entries.{run_entries}
 use Rattle.sim_core.specs.Run.{IsRun, Passed}
 use Rattle.sim_inputs.proofs.OneReading.{not_both, one_accepted, one_blame}
 use Rattle.sim_inputs.specs.Accepted.{AreAccepted, IsFirstBlame}
-use Rattle.sim_inputs.specs.Code.{IsCodeFor}
+use Rattle.source_compiler.specs.Code.{IsCodeFor}
 use Rattle.sim_inputs.specs.Answer.{AreInputsOf}
 use Rattle.sim_inputs.specs.Law.{SayTheSame}
 use Rattle.sim_inputs.specs.declared.inputs.Inputs.{Inputs}
-use Rattle.vm_host.specs.declared.record.Noted.{Noted}
+use Rattle.run_records.specs.declared.record.Noted.{Noted}
 use Rattle.sim_text.specs.Blame.{blame_line}
-use Rattle.source_code.proofs.Tasks.{source_once}
-use Rattle.source_code.specs.Source.{SourceMemory, by_source_reaction}
+use Rattle.source_laws.proofs.Tasks.{source_once}
+use Rattle.source_laws.specs.Source.{SourceMemory, by_source_reaction}
 use Rattle.capl_meaning.specs.Offences.{offences_of}
-use Rattle.source_runs.proofs.EachRun.{first_good, run_there}
-use Rattle.source_runs.proofs.OneRun.{run_once}
-use Rattle.source_runs.specs.Sources.{first_source_nodes}
+use Rattle.run_laws.proofs.EachRun.{first_good, run_there}
+use Rattle.run_laws.proofs.OneRun.{run_once}
+use Rattle.run_laws.specs.Sources.{first_source_nodes}
 use Rattle.sim_run.proofs.CommandLemmas.{one_command}
 use Rattle.sim_run.proofs.RunLemmas.{nothing_due}
 use Rattle.sim_run.specs.Answer.{IsAnswer, IsBegun, IsDone, IsRefused, printed}

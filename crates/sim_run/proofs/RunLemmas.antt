@@ -10,12 +10,12 @@ use Rattle.std.proofs.lemmas.List.{ext_get_or, get_or-replicate, length-replicat
 use Rattle.std.proofs.lemmas.List.FromFn.{get_or-map-range_with_len, length-map-range_with_len}
 use Rattle.std.proofs.lemmas.List.Sums.{sum_by-cons}
 use Rattle.std.proofs.lemmas.Option.{get_or_from_slice_get, slice_get-get_or}
-use Rattle.vm_host.specs.declared.record.Noted.{Noted}
-use Rattle.vm_host.specs.Record.{RecordMeaning, TakesEntry}
+use Rattle.run_records.specs.declared.record.Noted.{Noted}
+use Rattle.run_records.specs.Record.{RecordMeaning, TakesEntry}
 use Rattle.stack_vm.specs.declared.meter.MeterRow.{MeterRow}
 use Rattle.stack_vm.specs.Meter.{row_after}
-use Rattle.rounds.specs.Entries.{TakesEntries}
-use Rattle.rounds.specs.Round.{Task}
+use Rattle.node_rounds.specs.Entries.{TakesEntries}
+use Rattle.node_rounds.specs.Round.{Task}
 use Rattle.sim_core.specs.Counts.{AddsTasks, is_run_of, row_of, row_with, rows_of}
 
 -- a record that appends what it takes has what it took

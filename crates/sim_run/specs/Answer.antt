@@ -1,9 +1,9 @@
 -- The whole answer to the words, over what the files hold.
 use Rattle.std.specs.Prelude.{◌≡◌, ◌⊎◌, ℕ, List, [], Option}
 use Rattle.sim_outside.specs.Sink.{GrowsByPrefix}
-use Rattle.sim_outside.specs.declared.blame.Blame.{Blame}
+use Rattle.texts.specs.declared.blame.Blame.{Blame}
 use Rattle.stack_vm.specs.declared.meter.MeterRow.{MeterRow}
-use Rattle.vm_host.specs.declared.record.Noted.{Noted}
+use Rattle.run_records.specs.declared.record.Noted.{Noted}
 use Rattle.scenario.specs.declared.scenario.Scenario.{Scenario}
 use Rattle.dbc_reader.specs.declared.message.DbcMessage.{DbcMessage}
 use Rattle.capl_tree.specs.declared.file.Program.{Program}

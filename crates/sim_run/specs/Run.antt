@@ -5,13 +5,13 @@ use Rattle.stack_vm.specs.declared.meter.MeterRow.{MeterRow}
 use Rattle.scenario.specs.declared.scenario.Scenario.{Scenario}
 use Rattle.dbc_reader.specs.declared.message.DbcMessage.{DbcMessage}
 use Rattle.capl_tree.specs.declared.file.Program.{Program}
-use Rattle.capl_meaning.specs.Reaction.{handlers_in}
-use Rattle.rounds.specs.Reaction.{NodeState}
+use Rattle.capl_meaning.specs.Procedure.{handlers_in}
+use Rattle.node_rounds.specs.Reaction.{NodeState}
 use Rattle.sim_core.specs.Bus.{one_channel}
 use Rattle.sim_core.specs.Counts.{rows_of, tasks_of}
 use Rattle.sim_core.specs.Run.{IsRun, Passed}
-use Rattle.source_code.specs.Source.{SourceMemory, by_source_reaction}
-use Rattle.source_runs.specs.Sources.{first_source_nodes}
+use Rattle.source_laws.specs.Source.{SourceMemory, by_source_reaction}
+use Rattle.run_laws.specs.Sources.{first_source_nodes}
 
 -- These are the rounds of the run of a scenario whose one node has this program, with these messages of a
 -- database: on a bus with the scenario's bits, with its keys, up to its end moment.

@@ -1,8 +1,8 @@
 -- The window of a run: the lines that its node wrote, in order (CAPL manual, write).
 use Rattle.std.specs.Prelude.{ℕ, List, [], ◌∷◌}
 use Rattle.std.specs.List.{flat_map}
-use Rattle.vm_host.specs.declared.record.Noted.{Noted}
-use Rattle.vm_host.specs.declared.record.Noted.TheVariants as entry
+use Rattle.run_records.specs.declared.record.Noted.{Noted}
+use Rattle.run_records.specs.declared.record.Noted.TheVariants as entry
 use Rattle.scenario.specs.declared.scenario.NodeItem.{NodeItem}
 use Rattle.sim_text.specs.Window.{window_line}
 

@@ -1,7 +1,7 @@
 // The top call.
 
 ghost use Rattle.std.specs.Prelude.{◌≡◌, ◌↔◌, ◌⊎◌, List, [], ℕ, Some, IsErrOf, map, string_bytes};
-ghost use Rattle.sim_outside.specs.Fault.{HasRisen};
+ghost use Rattle.texts.specs.Fault.{HasRisen};
 ghost use Rattle.sim_outside.specs.Sink.{GrowsBy, Writes};
 ghost use Rattle.capl_include.specs.Expansion.{Contents};
 ghost use Rattle.scenario.specs.Within.{IsWithin};
@@ -19,12 +19,14 @@ use crate::log::{first_second, write_log};
 use crate::run::run_node;
 use crate::status::Status;
 use crate::window::write_window;
+use input_refusals::InputRefusal;
+use run_records::Noted;
 use scenario::Scenario;
-use sim_inputs::{InputRefusal, Inputs, read_inputs};
-use sim_outside::{Files, Sink, SinkRefusal, Text};
+use sim_inputs::{Inputs, read_inputs};
+use sim_outside::{Files, Sink, SinkRefusal};
 use stack_vm::Meter;
 use std::alloc::Global;
-use vm_host::Noted;
+use texts::Text;
 
 /// Runs the command that the words are, over these files, and writes the answer.
 ///

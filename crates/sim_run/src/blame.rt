@@ -1,13 +1,14 @@
 // The writing of a blame.
 
 ghost use Rattle.std.specs.Prelude.{IsErrOf};
-ghost use Rattle.sim_outside.specs.Fault.{HasRisen};
+ghost use Rattle.texts.specs.Fault.{HasRisen};
 ghost use Rattle.sim_outside.specs.Sink.{Writes};
 ghost use Rattle.sim_text.specs.Blame.{blame_line};
 
-use sim_outside::{Blame, Sink, SinkRefusal};
+use sim_outside::{Sink, SinkRefusal};
 use sim_text::blame_line;
 use std::alloc::Global;
+use texts::Blame;
 
 /// Writes the line of a blame.
 pub(crate) fn write_blame<S: Sink>(

@@ -1,16 +1,16 @@
 // The log: the frames that left the wire.
 
 ghost use Rattle.std.specs.Prelude.{◌≡◌, ◌≤◌, IsErrOf};
-ghost use Rattle.sim_outside.specs.Fault.{HasRisen};
+ghost use Rattle.texts.specs.Fault.{HasRisen};
 ghost use Rattle.sim_outside.specs.Sink.{Writes};
 ghost use Rattle.scenario.specs.Within.{IsEpochWithin};
 ghost use Rattle.sim_run.specs.Log.{first_second, log_entry, log_of};
 
 use log_line::write_line;
+use run_records::Noted;
 use scenario::Epoch;
 use sim_outside::{Sink, SinkRefusal};
 use std::alloc::Global;
-use vm_host::Noted;
 
 const MICROS_PER_SECOND: u64 = 1_000_000;
 

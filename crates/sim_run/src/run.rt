@@ -6,20 +6,20 @@ ghost use Rattle.capl_include.specs.declared.expanded.SourceFile.{SourceFile};
 ghost use Rattle.capl_tree.specs.declared.file.Program.{Program};
 ghost use Rattle.dbc_reader.specs.declared.message.DbcMessage.{DbcMessage};
 ghost use Rattle.scenario.specs.Within.{IsWithin};
-ghost use Rattle.sim_inputs.specs.Code.{IsCodeFor};
+ghost use Rattle.source_compiler.specs.Code.{IsCodeFor};
 ghost use Rattle.sim_run.specs.Inside.Ran.{HasRunFor};
 
 use bus_heap::HeapBus;
 use bytecode::Verified;
 use node_run::Node;
+use run_laws::laws::{runs_of_code_are_runs_of_sources, sources_have_one_run};
+use run_records::MemRecord;
 use scenario::Scenario;
 use sim_core::run_until;
-use sim_outside::NoMemory;
-use source_code::laws::compiled_procedures_end_as_in_the_source;
-use source_runs::laws::{runs_of_code_are_runs_of_sources, sources_have_one_run};
+use source_laws::laws::compiled_procedures_end_as_in_the_source;
 use stack_vm::Meter;
 use std::alloc::Global;
-use vm_host::MemRecord;
+use texts::NoMemory;
 
 /// Runs the node of a scenario, which has this code, and gives what happened in order: the lines that it
 /// wrote and the frames that left the wire. The meter gets a row for each of its event procedures.

@@ -1,14 +1,14 @@
 // The window: the lines that the node wrote.
 
 ghost use Rattle.std.specs.Prelude.{◌≤◌, IsErrOf};
-ghost use Rattle.sim_outside.specs.Fault.{HasRisen};
+ghost use Rattle.texts.specs.Fault.{HasRisen};
 ghost use Rattle.sim_outside.specs.Sink.{Writes};
 ghost use Rattle.sim_run.specs.Window.{window_entry, window_of};
 
+use run_records::Noted;
 use sim_outside::{Sink, SinkRefusal};
 use sim_text::window_line;
 use std::alloc::Global;
-use vm_host::Noted;
 
 /// Writes the lines of the entries that are of the window, under the node's name. Takes time and memory
 /// linear in their texts.

@@ -1,7 +1,7 @@
 -- The line that says which rule an input breaks, and where. Its form is this project's own.
 use Rattle.std.specs.Prelude.{ℕ, List, [], ◌∷◌, ◌++◌, Option, Some, None, codes, decimal}
-use Rattle.sim_outside.specs.declared.blame.Blame.{Blame}
-use Rattle.sim_outside.specs.declared.blame.Rule.{Rule}
+use Rattle.texts.specs.declared.blame.Blame.{Blame}
+use Rattle.texts.specs.declared.blame.Rule.{Rule}
 use Rattle.text_parts.specs.Digits.{zero_filled}
 
 -- `:` and the number of a line or a column, where there is one

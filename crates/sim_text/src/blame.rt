@@ -4,8 +4,8 @@ ghost use Rattle.std.specs.Prelude.{◌≡◌, ◌++◌, IfOk, OnOk};
 ghost use Rattle.sim_text.specs.Blame.{blame_line, place_text, rule_text};
 
 use crate::number::append_number;
-use sim_outside::{Blame, NoMemory, Rule, Text};
 use std::alloc::Global;
+use texts::{Blame, NoMemory, Rule, Text};
 
 /// The line of a blame: `refused FILE RULE` and its line end, with `:` and the number of the line, and
 /// the same of the column, behind FILE where the blame has them. Takes time and memory linear in the

@@ -3,7 +3,7 @@
 ghost use Rattle.std.specs.Prelude.{◌≡◌, ◌++◌, OnOk, decimal};
 
 use itoa::Buffer;
-use sim_outside::NoMemory;
+use texts::NoMemory;
 
 /// Appends the decimal digits of a number.
 pub(crate) fn append_number(line: &mut Vec<u8>, number: u64) -> Result<(), NoMemory>

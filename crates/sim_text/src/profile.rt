@@ -4,9 +4,9 @@ ghost use Rattle.std.specs.Prelude.{◌≡◌, ◌++◌, IfOk, OnOk, decimal, co
 ghost use Rattle.sim_text.specs.Profile.{event_word, profile_line};
 
 use crate::number::append_number;
-use sim_outside::{NoMemory, Text};
 use stack_vm::MeterRow;
 use std::alloc::Global;
+use texts::{NoMemory, Text};
 use vm_host::Event;
 
 /// The line of an event procedure: `p NODE FILE:LINE EVENT RUNS TURNS` and its line end. LINE is that of

@@ -4,8 +4,8 @@ ghost use Rattle.std.specs.Prelude.{◌≡◌, IfOk};
 ghost use Rattle.sim_text.specs.Summary.{summary_line};
 
 use crate::number::append_number;
-use sim_outside::{NoMemory, Text};
 use std::alloc::Global;
+use texts::{NoMemory, Text};
 
 /// The line of the run of a generated scenario of so many nodes: `gen N frames F lines L turns T` and
 /// its line end, with the number of the log's lines, of the window's lines, and of the turns that all

@@ -5,8 +5,8 @@ ghost use Rattle.std.specs.List.{flat_map};
 ghost use Rattle.sim_text.specs.Window.{moment_text, shown_byte, window_line};
 
 use crate::number::append_number;
-use sim_outside::{NoMemory, Text};
 use std::alloc::Global;
+use texts::{NoMemory, Text};
 
 const MICROS_PER_SECOND: u64 = 1_000_000;
 

@@ -17,8 +17,8 @@ use crate::expression::{are_sound_exprs, is_sound_alone, is_sound_expr};
 use int_kinds::is_number;
 use items::Boxed;
 use message_cells::is_message;
-use sim_outside::NoMemory;
 use std::alloc::Global;
+use texts::NoMemory;
 use typed_tree::{TArm, TExpr, TGroup, TStmt, Typed};
 
 /// How many items a list may have.

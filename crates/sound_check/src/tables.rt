@@ -6,8 +6,8 @@ ghost use Rattle.sound_check.specs.Tables.{HaveFewSelectors, KeepsTables, idle, 
 
 use bytecode::{Code, Fun, Handler, Instr, VerifyRefusal, verify};
 use items::Items;
-use sim_outside::NoMemory;
 use std::alloc::Global;
+use texts::NoMemory;
 use typed_tree::{THandler, Typed};
 use write_format::Format;
 

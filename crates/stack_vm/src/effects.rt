@@ -17,7 +17,7 @@ use crate::frame::frame;
 use crate::state::State;
 use bytecode::Code;
 use int_kinds::{Kind, truth, wrap};
-use sim_outside::{NoMemory, Text};
+use texts::{NoMemory, Text};
 use vm_host::{Host, RecordFault};
 use write_format::{Format, render};
 

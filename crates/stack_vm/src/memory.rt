@@ -10,9 +10,9 @@ use crate::room::numbers_room;
 use crate::state::State;
 use bytecode::Verified;
 use can_frame::Frame;
-use sim_outside::NoMemory;
 use std::alloc::Global;
 use std::marker::Model;
+use texts::NoMemory;
 
 /// The cells of a node, and the room for the numbers and calls of its runs.
 ///

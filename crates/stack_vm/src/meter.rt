@@ -3,9 +3,9 @@
 ghost use Rattle.std.specs.Prelude.{◌≡◌, ◌<◌, ◌++◌, [], length, replicate, slice_get, IfOk, OnErr, OnOk};
 ghost use Rattle.stack_vm.specs.Meter.{AddsRun};
 
-use sim_outside::NoMemory;
 use std::alloc::Global;
 use std::marker::Model;
+use texts::NoMemory;
 
 /// What the runs of one handler have taken. A sum above 2^64 - 1 stands as 2^64 - 1.
 #[derive(Clone, Copy, Debug, PartialEq, Eq)]

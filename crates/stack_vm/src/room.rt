@@ -5,7 +5,7 @@ ghost use Rattle.bytecode.specs.Verified.{IsVerified};
 ghost use Rattle.stack_vm.specs.Room.{greatest, numbers_room, room_of};
 
 use bytecode::{Code, Fun};
-use sim_outside::NoMemory;
+use texts::NoMemory;
 
 /// How many numbers the runs of this code may have on the stack. A number above what memory can
 /// hold is no memory. Takes time linear in the code.

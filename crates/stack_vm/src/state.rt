@@ -1,9 +1,9 @@
 // The part of the machine's state that a run holds by itself.
 
-use sim_outside::NoMemory;
 use std::alloc::Global;
 use std::marker::Model;
 use std::mem;
+use texts::NoMemory;
 use vm_host::Outcome;
 
 /// A place of the code, the numbers on the stack, where open calls return to, the cells and the

@@ -13,5 +13,3 @@ mod minima;
 mod queue;
 mod setting;
 mod slots;
-#[cfg(test)]
-mod tests;

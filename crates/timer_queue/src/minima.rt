@@ -3,9 +3,9 @@
 ghost use Rattle.std.specs.Prelude.{◌≡◌, ◌+◌, ◌-◌, ◌*◌, ◌^◌, ◌<◌, ◌≤◌, length, drop, replicate, slice_index, slice_set, All, IfOk, IfSome, IfNone};
 ghost use Rattle.timer_queue.specs.Inside.Minima.{IsTree, IsLesserOfTwo, IsFirstBelow, IsFirstUpTo, IsLeast};
 
-use sim_outside::NoMemory;
 use std::alloc::Global;
 use std::marker::Model;
+use texts::NoMemory;
 
 /// The moment in a place that has none.
 pub(crate) const NEVER: u64 = u64::MAX;

@@ -7,9 +7,9 @@ ghost use Rattle.timer_queue.specs.Inside.Slots.{settings_in, IsPacked};
 
 use crate::setting::Setting;
 use crate::slots::Slots;
-use sim_outside::NoMemory;
 use std::alloc::Global;
 use std::marker::Model;
+use texts::NoMemory;
 
 /// The timers of a node. Contracts see them as `Timers`: the settings of the active ones in order.
 #[derive(Drop)]

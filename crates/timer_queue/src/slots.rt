@@ -6,9 +6,9 @@ ghost use Rattle.timer_queue.specs.Inside.Slots.{settings_in, slot_at, HasNone, 
 
 use crate::minima::{Minima, NEVER};
 use crate::setting::Setting;
-use sim_outside::NoMemory;
 use std::alloc::Global;
 use std::marker::Model;
+use texts::NoMemory;
 
 /// Slots, each empty or with a setting of a timer that no other slot has. Contracts see the list.
 ///

@@ -3,11 +3,11 @@ use Rattle.std.proofs.Common.{◌≡◌, ℕ, ◌+◌, true, false, List, [], �
 use Rattle.std.specs.Prelude.{filter, map, slice_get}
 use Rattle.std.specs.List.{AllZip}
 use Rattle.std.specs.Option.{option_map_or}
-use Rattle.sim_outside.specs.declared.text.Text.{Text}
+use Rattle.texts.specs.declared.text.Text.{Text}
 use Rattle.write_format.specs.declared.piece.Piece.{Piece}
 use Rattle.write_format.specs.Format.{FormatText}
-use Rattle.worlds.specs.World.{World}
-use Rattle.worlds.specs.Control.{GoesOn}
+use Rattle.control_flow.specs.World.{World}
+use Rattle.control_flow.specs.Control.{GoesOn}
 use Rattle.capl_tree.specs.declared.expr.Expr.{Expr, items-the_row-Expr, items_hidden-the_row-Expr-1}
 use Rattle.capl_tree.specs.declared.expr.Expr.TheVariants as expr
 use Rattle.capl_tree.specs.Forms as tree
@@ -25,11 +25,11 @@ use Rattle.capl_meaning.specs.Expression.{timer_in}
 use Rattle.capl_meaning.specs.Expression as source
 use Rattle.capl_meaning.specs.Statement as source_statement
 use Rattle.capl_meaning.specs.Statement.{calls_alone, drops}
-use Rattle.typed_meaning.specs.Laid.{laid_run, message_slot}
-use Rattle.typed_meaning.specs.Agreement.{AloneDoesAs, Beside, GivesAs, source_setting}
-use Rattle.typed_meaning.proofs.Calls.{source_row}
-use Rattle.typed_meaning.proofs.Effects.{cancel_as, copy_as, eval_as, halt_as, no_cancel_as, no_send_as, no_set_as, no_set_cyclic_as, no_write_as, paren_alone_as, send_as, set_as, set_cyclic_as, write_as}
-use Rattle.typed_meaning.proofs.Runs.{map_same}
+use Rattle.typed_laws.specs.Laid.{laid_run, message_slot}
+use Rattle.typed_laws.specs.Agreement.{AloneDoesAs, Beside, GivesAs, source_setting}
+use Rattle.typed_laws.proofs.Calls.{source_row}
+use Rattle.typed_laws.proofs.Effects.{cancel_as, copy_as, eval_as, halt_as, no_cancel_as, no_send_as, no_set_as, no_set_cyclic_as, no_write_as, paren_alone_as, send_as, set_as, set_cyclic_as, write_as}
+use Rattle.typed_laws.proofs.Runs.{map_same}
 use Rattle.typed_source.specs.Expression.{expression_of}
 use Rattle.typed_source.specs.Program.{HasEach}
 use Rattle.typed_source.specs.Statement.{StandFrom, alone_of, argument_of, format_of, formats_of_alone, formats_of_call, formats_written, of_assignment, of_call_alone, pieces_written, setting, writing}

@@ -7,8 +7,8 @@ use Rattle.std.specs.Option.{option_and_then, option_map_or}
 use Rattle.int_kinds.specs.declared.operators.BinOp.{BinOp}
 use Rattle.int_kinds.specs.declared.operators.BinOp.TheVariants as op
 use Rattle.int_kinds.specs.declared.operators.UnOp.TheVariants as prefix
-use Rattle.sim_outside.specs.declared.text.Text.{Text}
-use Rattle.worlds.specs.World.{World, Gives, and_then}
+use Rattle.texts.specs.declared.text.Text.{Text}
+use Rattle.control_flow.specs.World.{World, Gives, and_then}
 use Rattle.capl_tree.specs.declared.expr.Expr.{Expr, Row_of-Expr, end_of-Expr, more_of-Expr, items-the_row-Expr}
 use Rattle.capl_tree.specs.declared.expr.Expr.TheVariants as expr
 use Rattle.capl_tree.specs.declared.expr.Field.{Field}
@@ -31,13 +31,13 @@ use Rattle.capl_meaning.specs.Constant.{elements_of, operands_kind}
 use Rattle.capl_meaning.specs.Store.{timer_number}
 use Rattle.capl_meaning.specs.Expression.{activity, builtin_value, call_value, calling, spot_of_form, spot_of_member, spot_of_name, timer_in, value_of, value_of_this, values_of}
 use Rattle.capl_meaning.specs.Expression as source
-use Rattle.typed_meaning.specs.Laid.{laid, laid_run, message_slot}
-use Rattle.typed_meaning.specs.Agreement.{AssignsAs, Beside, GivesAs, StandsAs, source_setting, typed_setting}
-use Rattle.typed_meaning.proofs.Calls.{calling_same, values_same}
-use Rattle.typed_meaning.proofs.Expressions.{binary_as, both_as, cast_as, character_as, choice_as, either_as, element_as, key_as, member_as, name_as, no_element_as, no_member_as, number_as, other_name_as, paren_as, prefix_as, step_as, step_behind_as, step_behind_nowhere_as, step_nowhere_as, store_as, store_nowhere_as, text_as, this_as, unknown_name_as, update_as, update_nowhere_as}
-use Rattle.typed_meaning.proofs.Places.{assignable, bytes_place, element_place, field_place, no_element_place, no_member_place, no_message_place, no_number_place, no_place, not_assignable, number_place, paren_place, signal_place}
-use Rattle.typed_meaning.proofs.Places as places
-use Rattle.typed_meaning.proofs.Runs.{then_same}
+use Rattle.typed_laws.specs.Laid.{laid, laid_run, message_slot}
+use Rattle.typed_laws.specs.Agreement.{AssignsAs, Beside, GivesAs, StandsAs, source_setting, typed_setting}
+use Rattle.typed_laws.proofs.Calls.{calling_same, values_same}
+use Rattle.typed_laws.proofs.Expressions.{binary_as, both_as, cast_as, character_as, choice_as, either_as, element_as, key_as, member_as, name_as, no_element_as, no_member_as, number_as, other_name_as, paren_as, prefix_as, step_as, step_behind_as, step_behind_nowhere_as, step_nowhere_as, store_as, store_nowhere_as, text_as, this_as, unknown_name_as, update_as, update_nowhere_as}
+use Rattle.typed_laws.proofs.Places.{assignable, bytes_place, element_place, field_place, no_element_place, no_member_place, no_message_place, no_number_place, no_place, not_assignable, number_place, paren_place, signal_place}
+use Rattle.typed_laws.proofs.Places as places
+use Rattle.typed_laws.proofs.Runs.{then_same}
 use Rattle.typed_source.specs.Expression.{assigned, expression_of, loaded, of_builtin, of_call, of_name, of_this, operation, place_in, place_of, place_of_element, place_of_field, place_of_form, place_of_member, place_of_name, place_of_part, row_of, stepping, storing, updating}
 use Rattle.typed_source.specs.Program.{HasEach}
 use Rattle.typed_source.proofs.Orders.{at_place, has_place}

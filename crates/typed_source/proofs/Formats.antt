@@ -2,7 +2,7 @@
 use Rattle.std.proofs.Common.{◌≡◌, ℕ, suc, ◌+◌, List, [], ◌∷◌, ◌++◌, length, ap, ◌∙◌, arith}
 use Rattle.std.specs.Prelude.{slice_get}
 use Rattle.write_format.specs.Format.{FormatText}
-use Rattle.typed_meaning.proofs.Statements.{stand_before}
+use Rattle.typed_laws.proofs.Statements.{stand_before}
 use Rattle.typed_source.specs.Statement.{StandFrom}
 
 -- the first of two parts

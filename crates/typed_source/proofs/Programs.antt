@@ -16,8 +16,8 @@ use Rattle.capl_meaning.specs.Names.{Function, Names, Scope, inside_function, na
 use Rattle.capl_meaning.specs.Calls.{function_numbered}
 use Rattle.capl_meaning.specs.Initial.{first_store}
 use Rattle.capl_meaning.specs.Procedure.{Handler, handlers_of}
-use Rattle.typed_meaning.specs.Agreement.{DoesAs, HandlerDoesAs, ProgramDoesAs, parameter_slots}
-use Rattle.typed_meaning.proofs.Declared.{handlers_named}
+use Rattle.typed_laws.specs.Agreement.{DoesAs, HandlerDoesAs, ProgramDoesAs, parameter_slots}
+use Rattle.typed_laws.proofs.Declared.{handlers_named}
 use Rattle.typed_source.specs.Statement.{StandFrom, formats_of}
 use Rattle.typed_source.specs.Program.{HasEach, HasNoOther, body_of, formats_of_body, formats_of_function, formats_of_functions, formats_of_handlers, function_of, functions_of, typed_handlers, typed_program}
 use Rattle.typed_source.proofs.Formats.{first_part, second_part}

@@ -13,7 +13,7 @@ use Rattle.int_kinds.specs.declared.operators.UnOp.TheVariants as prefix
 use Rattle.write_format.specs.declared.code.Code.{Code}
 use Rattle.write_format.specs.declared.piece.Piece.{Piece}
 use Rattle.write_format.specs.Reading.{codes_of, pieces_of}
-use Rattle.sim_outside.specs.declared.text.Text.{Text}
+use Rattle.texts.specs.declared.text.Text.{Text}
 use Rattle.capl_tree.specs.declared.expr.Expr.{Expr}
 use Rattle.capl_tree.specs.declared.expr.Expr.TheVariants as expr
 use Rattle.capl_tree.specs.declared.expr.Field.{Field}
@@ -29,7 +29,7 @@ use Rattle.capl_meaning.specs.Format.{first_text, format_codes, show_all, shows,
 use Rattle.capl_meaning.specs.Message.{Held, Member, IsField, IsSignal, IsUnusable, IsUnknown, array_by, array_in, is_number_place, is_open_number, member_named, message_in, signals_of}
 use Rattle.capl_meaning.specs.Sort.{is_number, number_from, sort_given, sort_of, sort_of_assignment, sort_of_binary, sort_of_builtin, sort_of_call, sort_of_choice, sort_of_direction, sort_of_element, sort_of_form, sort_of_member, sort_of_name, sort_of_number, sort_of_part, sort_of_prefix, sort_of_step, sort_of_this, sorts_of}
 use Rattle.capl_meaning.specs.Statement.{fitting_pieces}
-use Rattle.typed_meaning.specs.Agreement.{IsArgument}
+use Rattle.typed_laws.specs.Agreement.{IsArgument}
 use Rattle.typed_source.specs.Statement.{argument_by, argument_of, text_argument}
 
 -- ---- sorts that are neither a text nor an array

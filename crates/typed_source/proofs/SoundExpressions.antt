@@ -19,7 +19,7 @@ use Rattle.int_kinds.specs.Kind.{IsNumber, join, width}
 use Rattle.signal_codec.specs.declared.layout.Layout.{Layout}
 use Rattle.signal_codec.specs.Signal.{IsUsable, bit_numbers}
 use Rattle.message_cells.specs.Message.{IsMessage}
-use Rattle.sim_outside.specs.declared.text.Text.{Text}
+use Rattle.texts.specs.declared.text.Text.{Text}
 use Rattle.dbc_reader.specs.declared.signals.DbcSignal.{DbcSignal}
 use Rattle.capl_tree.specs.declared.expr.Expr.{Expr, Row_of-Expr, end_of-Expr, more_of-Expr, items-the_row-Expr}
 use Rattle.capl_tree.specs.declared.expr.Expr.TheVariants as expr
@@ -47,9 +47,9 @@ use Rattle.capl_meaning.specs.Sort.{is_number, is_recursive, kind_in, number_fro
 use Rattle.capl_meaning.specs.Constant.{array_length, constant_at, elements_of, length_by, number_value, scope_of}
 use Rattle.capl_meaning.specs.Store.{key_of, timer_number}
 use Rattle.capl_meaning.specs.Expression.{timer_in}
-use Rattle.typed_meaning.specs.Laid.{HasForm, IsHeld, message_slot, slot}
-use Rattle.typed_meaning.proofs.Places.{array_named, means_among, message_named}
-use Rattle.typed_meaning.proofs.Timers.{timer_named}
+use Rattle.typed_laws.specs.Laid.{HasForm, IsHeld, message_slot, slot}
+use Rattle.typed_laws.proofs.Places.{array_named, means_among, message_named}
+use Rattle.typed_laws.proofs.Timers.{timer_named}
 use Rattle.typed_source.specs.Expression.{assigned, expression_of, loaded, of_builtin, of_call, of_name, of_this, operation, place_in, place_of, place_of_element, place_of_form, place_of_member, place_of_name, place_of_part, row_of, stepping, storing, updating}
 use Rattle.typed_source.specs.Sound.{CanBeMade, CanFieldBeMade, CanRowBeMade, HasTables, IsOfNumber, IsSmall}
 use Rattle.typed_source.proofs.Shown.{Names as Named_as, names}

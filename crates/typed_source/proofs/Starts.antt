@@ -7,8 +7,8 @@ use Rattle.capl_meaning.specs.Variable.{Form, Number, Array, Message, Timer, Mis
 use Rattle.capl_meaning.specs.Names.{Names}
 use Rattle.capl_meaning.specs.Constant.{elements_of}
 use Rattle.capl_meaning.specs.Store.{Store, cells_by, cells_of, event_kinds, key_of, kinds_by, laid_kinds, lay}
-use Rattle.typed_meaning.specs.Starts.{started}
-use Rattle.typed_meaning.proofs.Lists.{replicate_long, row_long, set_middle}
+use Rattle.typed_laws.specs.Starts.{started}
+use Rattle.typed_laws.proofs.Lists.{replicate_long, row_long, set_middle}
 use Rattle.typed_source.specs.Program.{starts_from}
 
 -- ---- starts behind cells that are done

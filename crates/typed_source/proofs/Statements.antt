@@ -8,8 +8,8 @@ use Rattle.std.specs.Option.{option_map}
 use Rattle.int_kinds.specs.declared.kinds.Kind.{Kind}
 use Rattle.int_kinds.specs.Kind.{wrap}
 use Rattle.write_format.specs.Format.{FormatText}
-use Rattle.worlds.specs.World.{World, Run, Gives, Fails, and_then, run_map}
-use Rattle.worlds.specs.Control.{Does, End, leaving_switch}
+use Rattle.control_flow.specs.World.{World, Run, Gives, Fails, and_then, run_map}
+use Rattle.control_flow.specs.Control.{Does, End, leaving_switch}
 use Rattle.capl_tree.specs.declared.expr.Expr.{Expr}
 use Rattle.capl_tree.specs.declared.statement.Stmt.{Stmt, Row_of-Stmt, end_of-Stmt, more_of-Stmt}
 use Rattle.capl_tree.specs.declared.statement.Stmt.TheBlock.{Row_of-Arm, end_of-Arm, more_of-Arm, Row_of-Group, end_of-Group, more_of-Group, Held-Stmt-If-1}
@@ -24,10 +24,10 @@ use Rattle.capl_meaning.specs.Names.{Scope}
 use Rattle.capl_meaning.specs.Constant.{prefix_kind}
 use Rattle.capl_meaning.specs.Expression as source
 use Rattle.capl_meaning.specs.Statement as source_statement
-use Rattle.typed_meaning.specs.Laid.{laid, mapped}
-use Rattle.typed_meaning.specs.Agreement.{Beside, DoesAs, SameEnd, SameNumber, StandIn, source_setting, typed_setting}
-use Rattle.typed_meaning.proofs.Runs.{deciding_same, do_same, followed_same, for_same, leaving_same, then_same, while_same}
-use Rattle.typed_meaning.proofs.Statements.{return_as, return_other_as, return_value_as}
+use Rattle.typed_laws.specs.Laid.{laid, mapped}
+use Rattle.typed_laws.specs.Agreement.{Beside, DoesAs, SameEnd, SameNumber, StandIn, source_setting, typed_setting}
+use Rattle.typed_laws.proofs.Runs.{deciding_same, do_same, followed_same, for_same, leaving_same, then_same, while_same}
+use Rattle.typed_laws.proofs.Statements.{return_as, return_other_as, return_value_as}
 use Rattle.typed_source.specs.Expression.{expression_of}
 use Rattle.typed_source.specs.Program.{HasEach}
 use Rattle.typed_source.specs.Statement.{StandFrom, arms_of, else_of, formats_of, formats_of_arms, formats_of_else, formats_of_groups, formats_of_part, formats_of_row, groups_of, part_of, returned, statement_of, statements_of}

@@ -16,10 +16,10 @@ use Rattle.capl_meaning.specs.Variable.{Form, Number, Array, Message, MessageTyp
 use Rattle.capl_meaning.specs.Names.{Names}
 use Rattle.capl_meaning.specs.Constant.{elements_of}
 use Rattle.capl_meaning.specs.Store.{event_kinds, key_of, kinds_by, laid_kinds, timer_number, timer_units}
-use Rattle.typed_meaning.specs.Laid.{AreDistinct, HasForm, IsAmong, cells_by_form, cells_before, slot}
-use Rattle.typed_meaning.proofs.Lists.{at_middle, replicate_at, replicate_long, take_middle}
-use Rattle.typed_meaning.proofs.Parts.{parted}
-use Rattle.typed_meaning.proofs.Timers.{unit_found}
+use Rattle.typed_laws.specs.Laid.{AreDistinct, HasForm, IsAmong, cells_by_form, cells_before, slot}
+use Rattle.typed_laws.proofs.Lists.{at_middle, replicate_at, replicate_long, take_middle}
+use Rattle.typed_laws.proofs.Parts.{parted}
+use Rattle.typed_laws.proofs.Timers.{unit_found}
 use Rattle.typed_source.specs.Sound.{HasTables, HaveElements, HaveUnits}
 
 -- a unit is not 0

@@ -13,7 +13,7 @@ use Rattle.capl_tree.specs.declared.file.Program.{Program}
 use Rattle.capl_tree.specs.declared.procedure.Param.{Param}
 use Rattle.capl_meaning.specs.Variable.{Form, Timer, Part, Globals, Procedure, Variable, declarations_in, form_of, parameters_of, parts_of, variable_of_parameter, variables_of_declaration, variables_of_part}
 use Rattle.capl_meaning.specs.Names.{names_of}
-use Rattle.typed_meaning.specs.Laid.{IsAmong}
+use Rattle.typed_laws.specs.Laid.{IsAmong}
 use Rattle.typed_source.specs.Sound.{HaveUnits}
 
 -- the unit of a form is one, if it has one

@@ -30,7 +30,7 @@ use Rattle.capl_meaning.specs.Sort.{kind_in, sort_of}
 use Rattle.capl_meaning.specs.Constant.{branches_kind, elements_of, number_value, operands_kind, prefix_kind}
 use Rattle.capl_meaning.specs.Store.{key_of, timer_number}
 use Rattle.capl_meaning.specs.Expression.{step_operator, timer_in}
-use Rattle.typed_meaning.specs.Laid.{message_slot, slot}
+use Rattle.typed_laws.specs.Laid.{message_slot, slot}
 
 -- ---- places
 

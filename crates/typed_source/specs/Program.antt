@@ -14,7 +14,7 @@ use Rattle.capl_meaning.specs.Calls.{called_by_number, function_numbered}
 use Rattle.capl_meaning.specs.Store.{event_kinds, laid_kinds, lay, timer_units}
 use Rattle.capl_meaning.specs.Initial.{first_store}
 use Rattle.capl_meaning.specs.Procedure.{Handler, handlers_of}
-use Rattle.typed_meaning.specs.Agreement.{parameter_slots}
+use Rattle.typed_laws.specs.Agreement.{parameter_slots}
 use Rattle.typed_source.specs.Statement.{formats_of, statement_of}
 
 -- ---- the order of functions

@@ -21,7 +21,7 @@ use Rattle.capl_meaning.specs.Variable.{Number, Array, Message, MessageType, Tim
 use Rattle.capl_meaning.specs.Names.{Function, Names, OfProgram, Scope, callee}
 use Rattle.capl_meaning.specs.Constant.{elements_of}
 use Rattle.capl_meaning.specs.Store.{key_of, timer_number}
-use Rattle.typed_meaning.specs.Laid.{HasForm, slot}
+use Rattle.typed_laws.specs.Laid.{HasForm, slot}
 use Rattle.typed_source.specs.Expression.{place_in}
 
 -- an expression of this sort is a number

@@ -31,7 +31,7 @@ use Rattle.capl_meaning.specs.Constant.{elements_of, prefix_kind}
 use Rattle.capl_meaning.specs.Store.{key_of, timer_number}
 use Rattle.capl_meaning.specs.Expression.{timer_in}
 use Rattle.capl_meaning.specs.Statement.{fitting_pieces, label_of}
-use Rattle.typed_meaning.specs.Laid.{message_slot, slot}
+use Rattle.typed_laws.specs.Laid.{message_slot, slot}
 use Rattle.typed_source.specs.Expression.{expression_of}
 
 -- ---- formats

@@ -2,11 +2,11 @@
 use mathlib.Core.Former.{Count}
 use Rattle.std.specs.Prelude.{ℕ, zero, suc, ◌≤◌, List, [], ◌∷◌, Option, Some, None}
 use Rattle.std.proofs.Common.{ap, arith, refl}
-use Rattle.worlds.specs.World.{run_map}
-use Rattle.worlds.specs.Control.{Calls, Does, Returns}
-use Rattle.worlds.specs.Turns.{AddsNoTurns, Agree}
-use Rattle.worlds.proofs.Turns.{nothing_adds_none}
-use Rattle.worlds.proofs.Fuel.{agree_below, same_calls, same_deciding, same_followed_by, same_in_order, same_loop, same_round, same_then}
+use Rattle.control_flow.specs.World.{run_map}
+use Rattle.control_flow.specs.Control.{Calls, Does, Returns}
+use Rattle.control_flow.specs.Turns.{AddsNoTurns, Agree}
+use Rattle.control_flow.proofs.Turns.{nothing_adds_none}
+use Rattle.control_flow.proofs.Fuel.{agree_below, same_calls, same_deciding, same_followed_by, same_in_order, same_loop, same_round, same_then}
 use Rattle.typed_tree.specs.declared.expression.Place.{Place}
 use Rattle.typed_tree.specs.declared.expression.Place.TheVariants.{Cell, Signal}
 use Rattle.typed_tree.specs.declared.expression.Place.TheVariants as place

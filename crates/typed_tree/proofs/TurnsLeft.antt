@@ -11,10 +11,10 @@ use Rattle.vm_host.specs.declared.outcome.Outcome.TheVariants.{Trapped}
 use Rattle.vm_host.specs.declared.outcome.TrapKind.TheVariants.{Index}
 use Rattle.vm_host.specs.Effect as effect
 use Rattle.write_format.specs.Format.{FormatText, rendered}
-use Rattle.worlds.specs.World.{World, Gives, Fails, after_effect}
-use Rattle.worlds.specs.Control.{Calls, Does}
-use Rattle.worlds.specs.Turns.{AddsNoTurns, LeavesAtMost}
-use Rattle.worlds.proofs.Turns.{at_most_deciding, at_most_leaving, at_most_map, at_most_then, calls_add_none, followed_by_adds_none, in_order_adds_none, loop_adds_none, nothing_adds_none, round_adds_none}
+use Rattle.control_flow.specs.World.{World, Gives, Fails, after_effect}
+use Rattle.control_flow.specs.Control.{Calls, Does}
+use Rattle.control_flow.specs.Turns.{AddsNoTurns, LeavesAtMost}
+use Rattle.control_flow.proofs.Turns.{at_most_deciding, at_most_leaving, at_most_map, at_most_then, calls_add_none, followed_by_adds_none, in_order_adds_none, loop_adds_none, nothing_adds_none, round_adds_none}
 use Rattle.typed_tree.specs.declared.expression.Place.{Place}
 use Rattle.typed_tree.specs.declared.expression.Place.TheVariants.{Cell, Signal}
 use Rattle.typed_tree.specs.declared.expression.Place.TheVariants as place

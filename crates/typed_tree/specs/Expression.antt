@@ -14,8 +14,8 @@ use Rattle.int_kinds.specs.Arithmetic.{inverted, negated, truth, value}
 use Rattle.vm_host.specs.declared.outcome.Outcome.TheVariants.{Trapped}
 use Rattle.vm_host.specs.declared.outcome.TrapKind.TheVariants.{Index, ZeroDivisor}
 use Rattle.message_cells.specs.Message.{size}
-use Rattle.worlds.specs.World.{World, Run, Gives, Fails, and_then, run_map}
-use Rattle.worlds.specs.Control.{Calls, Computes, deciding}
+use Rattle.control_flow.specs.World.{World, Run, Gives, Fails, and_then, run_map}
+use Rattle.control_flow.specs.Control.{Calls, Computes, deciding}
 use Rattle.typed_tree.specs.declared.expression.Place.{Place}
 use Rattle.typed_tree.specs.declared.expression.Place.TheVariants.{Cell, Set, Signal}
 use Rattle.typed_tree.specs.declared.expression.TExpr.{TExpr, Row_of-TExpr, end_of-TExpr, more_of-TExpr}

@@ -6,7 +6,7 @@ use Rattle.int_kinds.specs.declared.kinds.Kind.TheVariants.{Long}
 use Rattle.int_kinds.specs.Kind.{wrap}
 use Rattle.signal_codec.specs.declared.layout.Layout.{Layout}
 use Rattle.signal_codec.specs.Signal.{payload_with, signal_value}
-use Rattle.worlds.specs.World.{World}
+use Rattle.control_flow.specs.World.{World}
 use Rattle.message_cells.specs.Message.{bytes_of, message_of, number_at, payload_of, with_bytes, write_rules, written_can}
 
 -- the numbers in the cells, and which timers are active

@@ -5,8 +5,8 @@ use Rattle.std.specs.Option.{option_map_or}
 use Rattle.vm_host.specs.Effect.{Effect}
 use Rattle.vm_host.specs.declared.outcome.Outcome.{Outcome}
 use Rattle.vm_host.specs.declared.outcome.Outcome.TheVariants.{Done}
-use Rattle.worlds.specs.World.{Run, Gives, Fails}
-use Rattle.worlds.specs.Control.{Calls, Does, End, calls_by, in_order}
+use Rattle.control_flow.specs.World.{Run, Gives, Fails}
+use Rattle.control_flow.specs.Control.{Calls, Does, End, calls_by, in_order}
 use Rattle.typed_tree.specs.declared.program.THandler.{THandler}
 use Rattle.typed_tree.specs.declared.program.Typed.{Typed}
 use Rattle.typed_tree.specs.declared.statement.TStmt.{TStmt}

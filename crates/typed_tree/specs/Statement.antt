@@ -7,8 +7,8 @@ use Rattle.write_format.specs.Format.{FormatText, rendered}
 use Rattle.vm_host.specs.Duration.{micros}
 use Rattle.vm_host.specs.Effect as effect
 use Rattle.message_cells.specs.Message.{frame_of, message_of, with_message}
-use Rattle.worlds.specs.World.{World, Run, Gives, and_then, run_map, after_effect}
-use Rattle.worlds.specs.Control.{Calls, Computes, Does, GoesOn, Breaks, Continues, Returns, deciding, for_loop, do_loop, followed_by, leaving_switch, nothing, while_loop}
+use Rattle.control_flow.specs.World.{World, Run, Gives, and_then, run_map, after_effect}
+use Rattle.control_flow.specs.Control.{Calls, Computes, Does, GoesOn, Breaks, Continues, Returns, deciding, for_loop, do_loop, followed_by, leaving_switch, nothing, while_loop}
 use Rattle.typed_tree.specs.declared.expression.TExpr.{TExpr}
 use Rattle.typed_tree.specs.declared.statement.TStmt.{TStmt, Row_of-TStmt, end_of-TStmt, more_of-TStmt}
 use Rattle.typed_tree.specs.declared.statement.TStmt.TheVariants.{Empty, Block', If', Switch', Break, Continue, Return, Eval, Write, Send, Copy, Halt, Set, Cancel}

@@ -1,8 +1,8 @@
 //! Laws of the meaning of typed trees. Each call does nothing: its contract is the law.
 
 ghost use Rattle.std.specs.Prelude.{◌≡◌, ℕ, ◌≤◌};
-ghost use Rattle.worlds.specs.World.{World};
-ghost use Rattle.worlds.specs.Turns.{LeavesAtMost};
+ghost use Rattle.control_flow.specs.World.{World};
+ghost use Rattle.control_flow.specs.Turns.{LeavesAtMost};
 ghost use Rattle.typed_tree.specs.declared.statement.TStmt.{TStmt};
 ghost use Rattle.typed_tree.specs.Expression.{Setting};
 ghost use Rattle.typed_tree.specs.Memory.{Memory};

@@ -21,5 +21,3 @@ mod expression;
 pub mod laws;
 mod program;
 mod statement;
-#[cfg(test)]
-mod tests;

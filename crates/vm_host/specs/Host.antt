@@ -1,6 +1,6 @@
 -- What a host is to a run of code: a state that takes effects.
 use Rattle.std.specs.Prelude.{◌≡◌, ℕ, ◌≤◌, Bool, false, IsTrue, List, length}
-use Rattle.sim_outside.specs.Fault.{HasRisen}
+use Rattle.texts.specs.Fault.{HasRisen}
 use Rattle.vm_host.specs.Effect.{Effect}
 
 -- what the states of a host mean

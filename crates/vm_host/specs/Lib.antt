@@ -2,5 +2,4 @@
 pub mod Effect
 pub mod Event
 pub mod Host
-pub mod Record
 pub mod Duration

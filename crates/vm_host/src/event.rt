@@ -3,7 +3,7 @@
 ghost use Rattle.std.specs.Prelude.{◌≡◌, IfOk};
 
 use items::Items;
-use sim_outside::NoMemory;
+use texts::NoMemory;
 
 /// Which frames a message procedure is for: those whose identifier's selection key is from `low` to
 /// `high`.

@@ -6,7 +6,7 @@ ghost use Rattle.vm_host.specs.Effect as effect;
 ghost use Rattle.vm_host.specs.Host.{FaultsRise, HostMeaning, HostStays, TakesUnlessClosed};
 
 use can_frame::Frame;
-use sim_outside::NoMemory;
+use texts::NoMemory;
 
 /// Why a line was not recorded.
 #[derive(Clone, Copy, Debug, PartialEq, Eq)]

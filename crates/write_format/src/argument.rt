@@ -1,7 +1,7 @@
 // What is known of an argument of `write` before the program runs.
 
 use int_kinds::Kind;
-use sim_outside::Text;
+use texts::Text;
 
 /// What is known of an argument of `write` before the program runs.
 #[derive(Debug, Drop)]

@@ -12,9 +12,9 @@ use crate::part::{Part, is_short_part, numbers_in, part_len, parts_of};
 use crate::reading::look_over;
 use crate::refusal::FormatRefusal;
 use int_kinds::Kind;
-use sim_outside::NoMemory;
 use std::alloc::Global;
 use std::marker::Model;
+use texts::NoMemory;
 
 /// No list of code is as long as this.
 pub(crate) const LIMIT: usize = 0x1_0000_0000;

@@ -11,8 +11,8 @@ use crate::field::{append_filled, append_number};
 use crate::format::Format;
 use crate::part::{Part, numbers_in};
 use int_kinds::{Kind, residue};
-use sim_outside::{NoMemory, Text};
 use std::alloc::{AllocError, Global};
+use texts::{NoMemory, Text};
 
 /// The line of a format with these numbers, in the order of its arguments, where its arrays of
 /// characters stand in these cells. Takes time linear in the format, its arrays and the line, and

@@ -1,6 +1,6 @@
 -- How an expansion goes on without a file for the second time.
 use Rattle.std.specs.Prelude.{◌≡◌, ℕ, ◌+◌, true, false, List, ◌++◌, All, length}
-use Rattle.sim_outside.specs.Fault.{raised_by}
+use Rattle.texts.specs.Fault.{raised_by}
 use Rattle.capl_include.specs.Answer.{HaveDifferentNames}
 use Rattle.capl_include.specs.Expansion.{Expansion, has_met}
 use Rattle.capl_include.specs.declared.expanded.SourceFile.{SourceFile}

@@ -1,6 +1,6 @@
 -- Refusals by a blame.
 use Rattle.std.specs.Prelude.{◌≡◌, ⊤}
-use Rattle.sim_outside.specs.declared.blame.Blame.{Blame}
+use Rattle.texts.specs.declared.blame.Blame.{Blame}
 use Rattle.capl_include.specs.declared.refusal.ExpandRefusal.{ExpandRefusal}
 use Rattle.capl_include.specs.declared.refusal.ExpandRefusal.TheVariants.{Blamed, Failed, NoMemory}
 

@@ -1,7 +1,7 @@
 -- What statements said so far, as the code keeps it.
 use Rattle.std.specs.Prelude.{◌≡◌, Some, None, map, Result, Ok, Err}
 use Rattle.dbc_reader.specs.Database.{Said, after_statement, repeated}
-use Rattle.dbc_reader.specs.declared.statement.Statement.{Statement}
+use Rattle.dbc_statements.specs.declared.statement.Statement.{Statement}
 use Rattle.dbc_reader.specs.declared.builder.Builder.{Builder}
 use Rattle.dbc_reader.specs.declared.refusal.NotAdded.{NotAdded}
 use Rattle.dbc_reader.specs.declared.refusal.NotAdded.TheVariants as not_added

@@ -1,6 +1,6 @@
 -- Where `break` and `continue` lead, as code has it.
 use Rattle.gen_stmt.specs.declared.exits.Exits.{Exits}
-use Rattle.typed_code.specs.Statement as defined
+use Rattle.code_listing.specs.Statement as defined
 
 -- the exits, as the definition of the code has them
 abbrev pub exits_of : Exits → defined.Exits

@@ -4,7 +4,7 @@ use Rattle.bytecode.specs.declared.code.Fun.{Fun}
 use Rattle.typed_tree.specs.declared.program.TFun.{TFun}
 use Rattle.typed_tree.specs.declared.program.THandler.{THandler}
 use Rattle.typed_tree.specs.declared.program.Typed.{Typed}
-use Rattle.typed_code.specs.Program.{Procedure, place_behind}
+use Rattle.code_listing.specs.Program.{Procedure, place_behind}
 
 -- a function as a procedure
 abbrev pub of_function : TFun → Procedure

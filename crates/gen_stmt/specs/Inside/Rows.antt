@@ -7,11 +7,11 @@ use Rattle.typed_tree.specs.declared.statement.TStmt.{TStmt}
 use Rattle.typed_tree.specs.declared.program.Typed.{Typed}
 use Rattle.typed_tree.specs.Shape.{goes_on}
 use Rattle.typed_tree.specs.Size.{jump_size, stmt_size, test_size}
-use Rattle.typed_code.specs.Exit.{Forward}
-use Rattle.typed_code.specs.Expression.{test_code}
-use Rattle.typed_code.specs.Listing.{Listing, jump_code}
-use Rattle.typed_code.specs.Program.{body_code}
-use Rattle.typed_code.specs.Statement.{Exits, cases_code, stmt_code}
+use Rattle.code_listing.specs.Exit.{Forward}
+use Rattle.code_listing.specs.Expression.{test_code}
+use Rattle.code_listing.specs.Listing.{Listing, jump_code}
+use Rattle.code_listing.specs.Program.{body_code}
+use Rattle.code_listing.specs.Statement.{Exits, cases_code, stmt_code}
 use Rattle.code_size.specs.Rows.{arms_size_of, before_default, case_count_of, group_sizes_of, is_nil, kept_if, labels_of_groups}
 
 -- the code of a part that may be missing

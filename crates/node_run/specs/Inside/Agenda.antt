@@ -3,12 +3,12 @@ use Rattle.std.specs.Prelude.{◌≡◌, ℕ, ◌<◌, List, Option, Some, None,
 use Rattle.std.specs.Option.{option_map}
 use Rattle.timer_queue.specs.Timers.{Timers}
 use Rattle.bytecode.specs.declared.code.Handler.{Handler}
-use Rattle.rounds.specs.declared.occurrence.Occurrence.{Occurrence}
-use Rattle.rounds.specs.declared.occurrence.Occurrence.TheVariants.{Timer}
-use Rattle.rounds.specs.declared.occurrence.Trigger.{Trigger}
-use Rattle.rounds.specs.Procedures.{procedures_for}
-use Rattle.rounds.specs.Reaction.{due_timer, timers_at_begin}
-use Rattle.rounds.specs.Round.{Rest, next_first, timer_trigger}
+use Rattle.node_rounds.specs.declared.occurrence.Occurrence.{Occurrence}
+use Rattle.node_rounds.specs.declared.occurrence.Occurrence.TheVariants.{Timer}
+use Rattle.node_rounds.specs.declared.occurrence.Trigger.{Trigger}
+use Rattle.node_rounds.specs.Procedures.{procedures_for}
+use Rattle.node_rounds.specs.Reaction.{due_timer, timers_at_begin}
+use Rattle.node_rounds.specs.Round.{Rest, next_first, timer_trigger}
 use Rattle.node_run.specs.Code.{events_of}
 
 -- an occurrence with each of some procedures, in order

@@ -2,7 +2,7 @@
 use Rattle.std.specs.Prelude.{◌≡◌, ◌⊎◌, ℕ, ◌-◌, Bool, List, []}
 use Rattle.can_frame.specs.Frame.{FrameFields}
 use Rattle.vm_host.specs.declared.outcome.Outcome.{Outcome}
-use Rattle.vm_host.specs.Record.{RecordMeaning}
+use Rattle.run_records.specs.Record.{RecordMeaning}
 use Rattle.timer_queue.specs.Timers.{active_timers}
 use Rattle.bytecode.specs.declared.code.Code.{Code}
 use Rattle.bytecode.specs.Laws.{BeginsWith}

@@ -2,11 +2,11 @@
 use Rattle.std.specs.Prelude.{◌≡◌, ◌⊎◌, ℕ, Bool, true, ◌||◌, List, All}
 use Rattle.can_frame.specs.Frame.{FrameFields}
 use Rattle.vm_host.specs.Effect.{Effect, Line, Send, Stop}
-use Rattle.vm_host.specs.declared.record.Noted.TheVariants as entry
-use Rattle.vm_host.specs.Record.{RecordMeaning, RefusesEntry, TakesEntry}
+use Rattle.run_records.specs.declared.record.Noted.TheVariants as entry
+use Rattle.run_records.specs.Record.{RecordMeaning, RefusesEntry, TakesEntry}
 use Rattle.timer_queue.specs.Timers.{Timers}
-use Rattle.rounds.specs.Effects.{IsTimerEffect, lines_of, requests_of, stops_of, timers_after, timers_after_one}
-use Rattle.rounds.specs.Entries.{TakesEntries, after_requests, line_entries}
+use Rattle.node_rounds.specs.Effects.{IsTimerEffect, lines_of, requests_of, stops_of, timers_after, timers_after_one}
+use Rattle.node_rounds.specs.Entries.{TakesEntries, after_requests, line_entries}
 
 -- the parts of a host: the number of its node, the moment, whether a stop was asked for, the bus, the record
 -- and the timers

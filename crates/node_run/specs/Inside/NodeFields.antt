@@ -3,7 +3,7 @@ use Rattle.std.specs.Prelude.{◌≡◌, ℕ, ◌+◌, ◌<◌, ◌≤◌, ◌^�
 use Rattle.timer_queue.specs.Timers.{Timers}
 use Rattle.bytecode.specs.declared.code.Code.{Code}
 use Rattle.stack_vm.specs.Memory.{IsMemoryOf, MemoryState}
-use Rattle.rounds.specs.Round.{Rest}
+use Rattle.node_rounds.specs.Round.{Rest}
 use Rattle.node_run.specs.Inside.Agenda.{IsPlan}
 
 -- The memory is one of the code and there are as many timers as in the code, its handlers can be numbered,

@@ -7,7 +7,7 @@ use Rattle.vm_host.specs.Event.{selectors_of}
 use Rattle.bytecode.specs.Verified.{IsVerified}
 use Rattle.msg_select.specs.declared.selector.MessageSelector.{MessageSelector}
 use Rattle.msg_select.specs.Selection.{IsChosen, NoneHolds}
-use Rattle.rounds.specs.Procedures.{first_where, is_any_key, is_key, is_timer, message_procedure}
+use Rattle.node_rounds.specs.Procedures.{first_where, is_any_key, is_key, is_timer, message_procedure}
 use Rattle.node_run.specs.declared.tables.Subject.{Subject}
 use Rattle.node_run.specs.declared.tables.Subject.TheVariants.{Timers, Keys}
 use Rattle.node_run.specs.declared.procedures.Procedures.TheInside.{Inside}

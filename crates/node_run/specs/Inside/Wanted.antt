@@ -3,7 +3,7 @@ use Rattle.std.specs.Prelude.{Bool}
 use Rattle.vm_host.specs.declared.event.Event.{Event}
 use Rattle.node_run.specs.declared.wanted.Wanted.{Wanted}
 use Rattle.node_run.specs.declared.wanted.Wanted.TheVariants.{PreStart, Start, Stop, AnyKey}
-use Rattle.rounds.specs.Procedures.{is_any_key, is_pre_start, is_start, is_stop}
+use Rattle.node_rounds.specs.Procedures.{is_any_key, is_pre_start, is_start, is_stop}
 
 -- whether a procedure that reacts to an event is wanted
 abbrev pub is_wanted : Wanted → Event → Bool

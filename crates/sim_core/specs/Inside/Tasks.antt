@@ -2,14 +2,14 @@
 use Rattle.std.specs.Prelude.{◌≡◌, ℕ, ◌+◌, ◌==◌, nat_le, Bool, ◌&&◌, List, length, ⊤}
 use Rattle.std.specs.List.{count_by, list_any}
 use Rattle.can_frame.specs.Frame.{FrameFields}
-use Rattle.vm_host.specs.declared.record.Noted.{Noted}
-use Rattle.vm_host.specs.Record.{RecordMeaning}
+use Rattle.run_records.specs.declared.record.Noted.{Noted}
+use Rattle.run_records.specs.Record.{RecordMeaning}
 use Rattle.bytecode.specs.Laws.{BeginsWith}
 use Rattle.stack_vm.specs.declared.meter.MeterRow.{MeterRow}
 use Rattle.timer_queue.specs.declared.setting.Setting.{Setting}
-use Rattle.rounds.specs.Entries.{TakesEntries}
-use Rattle.rounds.specs.Reaction.{NodeState}
-use Rattle.rounds.specs.Round.{Doing, DoesNext, IsDone, PartOf, Task}
+use Rattle.node_rounds.specs.Entries.{TakesEntries}
+use Rattle.node_rounds.specs.Reaction.{NodeState}
+use Rattle.node_rounds.specs.Round.{Doing, DoesNext, IsDone, PartOf, Task}
 use Rattle.node_run.specs.Code.{CodeMemory, code_reaction}
 use Rattle.node_run.specs.Node.{NodeInRound}
 use Rattle.sim_core.specs.Bus.{after_tasks}

@@ -5,7 +5,7 @@ use Rattle.capl_tree.specs.declared.file.Program.{Program}
 use Rattle.dbc_reader.specs.declared.message.DbcMessage.{DbcMessage}
 use Rattle.sim_core.specs.Entries.{run_entries}
 use Rattle.sim_core.specs.Run.{Passed}
-use Rattle.sim_inputs.specs.Code.{IsCodeFor}
+use Rattle.source_compiler.specs.Code.{IsCodeFor}
 use Rattle.sim_inputs.specs.declared.inputs.Inputs.{Inputs}
 use Rattle.sim_outside.specs.Sink.{GrowsBy, GrowsByPrefix}
 use Rattle.sim_run.specs.Answer.{printed}

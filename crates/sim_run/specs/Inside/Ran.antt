@@ -7,10 +7,10 @@ use Rattle.dbc_reader.specs.declared.message.DbcMessage.{DbcMessage}
 use Rattle.scenario.specs.declared.scenario.Scenario.{Scenario}
 use Rattle.sim_core.specs.Entries.{run_entries}
 use Rattle.sim_core.specs.Run.{Passed}
-use Rattle.sim_inputs.specs.Code.{IsCodeFor}
+use Rattle.source_compiler.specs.Code.{IsCodeFor}
 use Rattle.sim_run.specs.Run.{IsRunOf, rows_in}
 use Rattle.stack_vm.specs.declared.meter.MeterRow.{MeterRow}
-use Rattle.vm_host.specs.declared.record.Noted.{Noted}
+use Rattle.run_records.specs.declared.record.Noted.{Noted}
 
 -- a scenario with a program was run: there is such a run, these are its entries, and these its rows
 pub record HasRunBy (scenario : Scenario) (base : List DbcMessage) (program : Program)

@@ -1,6 +1,6 @@
 -- The visit of the first file is the answer.
 use Rattle.std.proofs.Common.{◌∙◌, Ok, sym, ap, subst, length}
-use Rattle.sim_outside.specs.Fault.{raised_by}
+use Rattle.texts.specs.Fault.{raised_by}
 use Rattle.capl_include.specs.Expansion.{Expansion, Went}
 use Rattle.capl_include.specs.Answer.{IsAnswer, IsOnly, HaveDifferentNames}
 use Rattle.capl_include.specs.Inside.Visit.{IsVisitAt, IsVisitRefusal}

@@ -1,7 +1,7 @@
 -- The token that is found breaks its rule, and one that breaks a rule is not passed over.
 use Rattle.std.proofs.Common.{◌≡◌, ◌<◌, ℕ, length, inl, inr, ap, subst, arith}
 use Rattle.std.proofs.lemmas.Bool.{cases_lt}
-use Rattle.sim_outside.specs.declared.blame.Rule.{Rule}
+use Rattle.texts.specs.declared.blame.Rule.{Rule}
 use Rattle.capl_lexer.specs.Screening.{Breaks}
 use Rattle.capl_lexer.proofs.ScreeningLemmas.{breaks_at, breaks-parts, breaks-within}
 use Rattle.capl_lexer.proofs.screening.screen.Goals as goal

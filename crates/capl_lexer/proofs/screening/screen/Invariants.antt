@@ -1,6 +1,6 @@
 -- No token so far breaks a rule.
 use Rattle.std.proofs.Common.{◌<◌, ℕ}
-use Rattle.sim_outside.specs.declared.blame.Rule.{Rule}
+use Rattle.texts.specs.declared.blame.Rule.{Rule}
 use Rattle.capl_lexer.specs.Screening.{Breaks}
 use Rattle.capl_lexer.proofs.screening.screen.Given as goal
 

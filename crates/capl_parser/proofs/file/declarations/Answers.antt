@@ -2,9 +2,9 @@
 use Rattle.std.proofs.Common.{sym, ◌∙◌}
 use Rattle.expr_parser.specs.Reading.{begins}
 use Rattle.capl_lexer.specs.declared.token.Sign.TheVariants as sign
-use Rattle.capl_readers.specs.Statement.{parts_of, until}
+use Rattle.parser_laws.specs.Statement.{parts_of, until}
 use Rattle.expr_parser.proofs.Turns.{one_more}
-use Rattle.capl_parser.proofs.Turns.{one_part}
+use Rattle.stmt_parser.proofs.Turns.{one_part}
 use Rattle.capl_parser.proofs.file.declarations.Goals as goal
 
 pub loop-turn-preserved : goal.loop-turn-preserved

@@ -2,10 +2,10 @@
 use Rattle.std.proofs.Common.{sym, ◌∙◌}
 use Rattle.expr_parser.specs.Reading.{begins}
 use Rattle.capl_lexer.specs.declared.token.Sign.TheVariants as sign
-use Rattle.capl_readers.specs.File as read
-use Rattle.capl_readers.specs.Statement.{until}
+use Rattle.parser_laws.specs.File as read
+use Rattle.parser_laws.specs.Statement.{until}
 use Rattle.expr_parser.proofs.Turns.{one_more}
-use Rattle.capl_parser.proofs.Turns.{one_part}
+use Rattle.stmt_parser.proofs.Turns.{one_part}
 use Rattle.capl_parser.proofs.file.names.Goals as goal
 
 pub loop-turn-preserved : goal.loop-turn-preserved

@@ -2,8 +2,8 @@
 use Rattle.std.proofs.Common.{◌≡◌, ◌-◌}
 use Rattle.expr_parser.specs.Reading.{begins}
 use Rattle.capl_lexer.specs.declared.token.Sign.TheVariants as sign
-use Rattle.capl_readers.specs.File as read
-use Rattle.capl_readers.specs.Statement.{until}
+use Rattle.parser_laws.specs.File as read
+use Rattle.parser_laws.specs.Statement.{until}
 use Rattle.capl_parser.proofs.file.names.Given as goal
 
 abbrev pub invariant-loop-turn : goal.invariant-loop-turn

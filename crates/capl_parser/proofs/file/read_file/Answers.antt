@@ -1,9 +1,10 @@
 -- The first turn of the loop, and a turn of it.
 use Rattle.std.proofs.Common.{arith, ◌≡◌, suc, ◌+◌, ◌-◌, length, refl}
-use Rattle.capl_readers.specs.File as read
-use Rattle.capl_readers.specs.Statement.{parts_of, until}
+use Rattle.parser_laws.specs.File as read
+use Rattle.parser_laws.specs.Statement.{parts_of, until}
 use Rattle.expr_parser.proofs.Turns.{one_more}
-use Rattle.capl_parser.proofs.Turns.{one_part, no_end}
+use Rattle.stmt_parser.proofs.Turns.{one_part}
+use Rattle.capl_parser.proofs.Ends.{no_end}
 use Rattle.capl_parser.proofs.file.read_file.Goals as goal
 
 pub loop-turn-init : goal.loop-turn-init

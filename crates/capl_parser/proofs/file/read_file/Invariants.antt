@@ -1,7 +1,7 @@
 -- What is still to be read.
 use Rattle.std.proofs.Common.{◌≡◌, ◌-◌}
-use Rattle.capl_readers.specs.File as read
-use Rattle.capl_readers.specs.Statement.{parts_of, until}
+use Rattle.parser_laws.specs.File as read
+use Rattle.parser_laws.specs.Statement.{parts_of, until}
 use Rattle.capl_parser.proofs.file.read_file.Given as goal
 
 abbrev pub invariant-loop-turn : goal.invariant-loop-turn

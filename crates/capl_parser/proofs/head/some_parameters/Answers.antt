@@ -2,7 +2,7 @@
 use Rattle.std.proofs.Common.{rules, sym, ◌∙◌}
 use Rattle.expr_parser.specs.Reading.{items_from}
 use Rattle.expr_parser.proofs.Turns.{one_more, one_item}
-use Rattle.capl_readers.specs.File as read
+use Rattle.parser_laws.specs.File as read
 use Rattle.capl_parser.proofs.head.some_parameters.Goals as goal
 
 pub loop-turn-preserved : goal.loop-turn-preserved

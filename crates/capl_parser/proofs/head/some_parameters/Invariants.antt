@@ -1,7 +1,7 @@
 -- What is still to be read.
 use Rattle.std.proofs.Common.{◌≡◌, ◌-◌}
 use Rattle.expr_parser.specs.Reading.{items, items_from}
-use Rattle.capl_readers.specs.File as read
+use Rattle.parser_laws.specs.File as read
 use Rattle.capl_parser.proofs.head.some_parameters.Given as goal
 
 abbrev pub invariant-loop-turn : goal.invariant-loop-turn

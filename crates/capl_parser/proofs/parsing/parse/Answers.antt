@@ -5,9 +5,9 @@ use Rattle.capl_lexer.specs.declared.token.Tok.{Tok}
 use Rattle.capl_nesting.specs.Tokens.{toks}
 use Rattle.capl_tree.specs.declared.file.FileTree.{FileTree}
 use Rattle.expr_parser.specs.Reading.{Gives}
-use Rattle.capl_readers.specs.File.{file}
-use Rattle.capl_readers.specs.Statement.{parts_of}
-use Rattle.capl_readers.proofs.Whole.{only_tree}
+use Rattle.parser_laws.specs.File.{file}
+use Rattle.parser_laws.specs.Statement.{parts_of}
+use Rattle.parser_laws.proofs.Whole.{only_tree}
 use Rattle.capl_parser.proofs.Whole.{tree_parsed, refusal_parsed, refusal_passed}
 use Rattle.capl_parser.proofs.parsing.parse.Goals as goal
 

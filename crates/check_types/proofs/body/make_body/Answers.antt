@@ -1,7 +1,7 @@
 -- One more statement.
 use Rattle.std.proofs.Common.{◌∙◌}
 use Rattle.check_sorts.specs.Scope.{scope_in}
-use Rattle.statement_trees.specs.Tables.{order_of}
+use Rattle.type_statements.specs.Tables.{order_of}
 use Rattle.typed_source.specs.Statement.{formats_of}
 use Rattle.check_types.proofs.MadeLemmas.{body_more, formats_more}
 use Rattle.check_types.proofs.body.make_body.Goals as goal

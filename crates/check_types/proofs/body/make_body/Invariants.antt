@@ -1,7 +1,7 @@
 -- The trees and formats are those of the statements so far.
 use Rattle.std.proofs.Common.{◌≡◌, ◌++◌, length, take}
 use Rattle.check_sorts.specs.Scope.{scope_in}
-use Rattle.statement_trees.specs.Tables.{order_of}
+use Rattle.type_statements.specs.Tables.{order_of}
 use Rattle.typed_source.specs.Program.{body_of, formats_of_body}
 use Rattle.check_types.proofs.body.make_body.Given as goal
 

@@ -1,6 +1,6 @@
 -- The variable that the name means.
 use Rattle.std.proofs.Common.{◌∙◌, ap, sym}
-use Rattle.typed_meaning.specs.Laid.{slot}
+use Rattle.typed_laws.specs.Laid.{slot}
 use Rattle.check_types.proofs.NameLemmas.{local_at}
 use Rattle.check_types.proofs.functions.local_slot.Goals as goal
 

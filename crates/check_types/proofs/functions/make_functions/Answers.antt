@@ -5,7 +5,7 @@ use Rattle.std.proofs.lemmas.Option.{get_or_from_slice_get, same_Some, slice_get
 use Rattle.capl_meaning.specs.Calls.{function_numbered}
 use Rattle.capl_meaning.specs.Names.{Function}
 use Rattle.check_names.specs.Function.{function_in}
-use Rattle.statement_trees.specs.Tables.{order_of}
+use Rattle.type_statements.specs.Tables.{order_of}
 use Rattle.typed_source.specs.Program.{formats_of_function, function_of}
 use Rattle.check_types.proofs.MadeLemmas.{formats_more, functions_more, read_same}
 use Rattle.check_types.proofs.functions.make_functions.Goals as goal

@@ -2,7 +2,7 @@
 use Rattle.std.proofs.Common.{◌∙◌, ◌++◌, ◌∷◌, [], ℕ, List, ap, sym, take}
 use Rattle.std.specs.Prelude.{map}
 use Rattle.capl_tree.specs.declared.procedure.Param.{Param}
-use Rattle.typed_meaning.specs.Laid.{slot}
+use Rattle.typed_laws.specs.Laid.{slot}
 use Rattle.check_types.proofs.MadeLemmas.{map_more}
 use Rattle.check_types.proofs.functions.parameter_slots.Goals as goal
 

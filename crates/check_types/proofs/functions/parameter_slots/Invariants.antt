@@ -1,7 +1,7 @@
 -- The cells are those of the parameters so far.
 use Rattle.std.proofs.Common.{◌≡◌, take}
 use Rattle.std.specs.Prelude.{map}
-use Rattle.typed_meaning.specs.Laid.{slot}
+use Rattle.typed_laws.specs.Laid.{slot}
 use Rattle.check_types.proofs.functions.parameter_slots.Given as goal
 
 abbrev pub invariant-loop-parameter : goal.invariant-loop-parameter

@@ -1,6 +1,6 @@
 -- Each statement leads further, and the first that is wrong is where the text is refused.
 use Rattle.std.proofs.Common.{rules, ◌≡◌, sym, List, [], ◌∷◌, ◌++◌, None, subst}
-use Rattle.dbc_reader.specs.Token.{Placed, tokens_of, line_of}
+use Rattle.dbc_statements.specs.Token.{Placed, tokens_of, line_of}
 use Rattle.dbc_reader.specs.Database.{Said, Lead, nothing, IsDatabase}
 use Rattle.dbc_reader.specs.Inside.Builder.{said_of}
 use Rattle.dbc_reader.proofs.SaidLemmas.{lead_more, at_end}

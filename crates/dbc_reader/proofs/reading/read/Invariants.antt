@@ -1,7 +1,7 @@
 -- The statements so far lead to what the builder keeps.
 use Rattle.std.proofs.Common.{List, length}
-use Rattle.dbc_reader.specs.declared.statement.Statement.{Statement}
-use Rattle.dbc_reader.specs.Token.{tokens_of}
+use Rattle.dbc_statements.specs.declared.statement.Statement.{Statement}
+use Rattle.dbc_statements.specs.Token.{tokens_of}
 use Rattle.dbc_reader.specs.Database.{Lead, nothing}
 use Rattle.dbc_reader.specs.Inside.Builder.{Agree, said_of}
 use Rattle.dbc_reader.proofs.reading.read.Given as goal

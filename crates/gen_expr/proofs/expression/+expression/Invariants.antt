@@ -2,7 +2,7 @@
 use Rattle.std.proofs.Common.{◌≡◌, ◌+◌, ◌≤◌, ◌++◌, length, drop}
 use Rattle.std.specs.Prelude.{sum_by}
 use Rattle.typed_tree.specs.Size.{value_size}
-use Rattle.typed_code.specs.Statement.{values_code}
+use Rattle.code_listing.specs.Statement.{values_code}
 use Rattle.gen_expr.proofs.expression.+expression.Given as goal
 
 abbrev pub invariant-emit_values-loop-e : goal.invariant-emit_values-loop-e

@@ -1,6 +1,6 @@
 -- What is appended so far is the code of the parameters from one on.
 use Rattle.std.proofs.Common.{◌≡◌, ◌+◌, ◌*◌, ◌≤◌, ◌++◌, length, drop}
-use Rattle.typed_code.specs.Expression.{params_code}
+use Rattle.code_listing.specs.Expression.{params_code}
 use Rattle.gen_expr.proofs.parts.add_params.Given as goal
 
 abbrev pub decreases-loop-left : goal.decreases-loop-left

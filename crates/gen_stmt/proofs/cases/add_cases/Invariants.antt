@@ -1,7 +1,7 @@
 -- What is appended so far, with the cases of the groups that are left, is all of them.
 use Rattle.std.proofs.Common.{◌≡◌, ◌+◌, ◌++◌, length, drop}
 use Rattle.std.specs.Prelude.{sum}
-use Rattle.typed_code.specs.Statement.{cases_code}
+use Rattle.code_listing.specs.Statement.{cases_code}
 use Rattle.code_size.specs.Rows.{case_count_of, group_sizes_of, labels_of_groups}
 use Rattle.gen_stmt.proofs.cases.add_cases.Given as goal
 

@@ -1,7 +1,7 @@
 -- What is appended so far, with the cases of the labels that are left, is all of them.
 use Rattle.std.proofs.Common.{◌≡◌, ◌+◌, ◌++◌, length, drop}
 use Rattle.std.specs.Prelude.{count_by, is_some}
-use Rattle.typed_code.specs.Statement.{labels_code}
+use Rattle.code_listing.specs.Statement.{labels_code}
 use Rattle.gen_stmt.proofs.cases.add_labels.Given as goal
 
 abbrev pub invariant-loop-label : goal.invariant-loop-label

@@ -1,7 +1,7 @@
 -- What is appended so far, with the code and the entries of the event procedures that are left, is all of it.
 use Rattle.std.proofs.Common.{◌≡◌, ◌+◌, ◌++◌, length, drop}
 use Rattle.std.specs.Prelude.{map}
-use Rattle.typed_code.specs.Program.{function_table, handler_table, procedures_code}
+use Rattle.code_listing.specs.Program.{function_table, handler_table, procedures_code}
 use Rattle.gen_stmt.specs.Inside.Procedures.{of_handler}
 use Rattle.code_size.specs.Rows.{handlers_size}
 use Rattle.gen_stmt.proofs.program.add_handlers.Given as goal

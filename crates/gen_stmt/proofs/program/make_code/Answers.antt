@@ -1,7 +1,7 @@
 -- The code and the tables of all procedures.
 use Rattle.std.proofs.Common.{◌≡◌, length, ap, ◌∙◌, rules}
 use Rattle.std.specs.Prelude.{map}
-use Rattle.typed_code.specs.Program.{handler_table, program_code}
+use Rattle.code_listing.specs.Program.{handler_table, program_code}
 use Rattle.gen_stmt.proofs.Emitted.{program_emitted, table_made}
 use Rattle.gen_stmt.proofs.Steps.{entries_count}
 use Rattle.gen_stmt.proofs.program.make_code.Goals as goal

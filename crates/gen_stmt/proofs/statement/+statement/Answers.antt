@@ -3,7 +3,7 @@ use Rattle.std.proofs.Common.{◌≡◌, ◌+◌, ◌++◌, length, sym, ap, ◌
 use Rattle.std.specs.Prelude.{sum_by}
 use Rattle.typed_tree.specs.declared.statement.TStmt.{the_lemmas}
 use Rattle.typed_tree.specs.Size.{jump_size, stmt_size, value_size}
-use Rattle.typed_code.specs.Program.{body_code}
+use Rattle.code_listing.specs.Program.{body_code}
 use Rattle.gen_stmt.specs.Inside.Exits.{exits_of}
 use Rattle.gen_stmt.specs.Inside.Rows.{arms_code_of, part_code_of}
 use Rattle.code_size.specs.Rows.{arms_size_of, group_sizes_of, labels_of_groups, part_size_of, switch_size_of}

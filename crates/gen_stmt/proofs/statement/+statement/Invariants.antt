@@ -2,8 +2,8 @@
 use Rattle.std.proofs.Common.{◌≡◌, ℕ, ◌+◌, ◌++◌, length, drop, take}
 use Rattle.std.specs.Prelude.{sum, sum_by}
 use Rattle.typed_tree.specs.Size.{stmt_size}
-use Rattle.typed_code.specs.Listing.{Listing}
-use Rattle.typed_code.specs.Program.{body_code}
+use Rattle.code_listing.specs.Listing.{Listing}
+use Rattle.code_listing.specs.Program.{body_code}
 use Rattle.gen_stmt.specs.Inside.Exits.{exits_of}
 use Rattle.gen_stmt.specs.Inside.Rows.{arms_code_of, groups_code_of}
 use Rattle.code_size.specs.Rows.{arms_size_of, group_sizes_of}

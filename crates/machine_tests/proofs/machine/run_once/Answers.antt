@@ -1,7 +1,7 @@
 -- A memory stays one of its code.
 use Rattle.std.proofs.Common.{IfOk, Result, subst}
 use Rattle.bytecode.specs.Verified.{IsVerified}
-use Rattle.sim_outside.specs.declared.memory.NoMemory.{NoMemory}
+use Rattle.texts.specs.declared.memory.NoMemory.{NoMemory}
 use Rattle.stack_vm.specs.Memory.{IsMemoryOf, MemoryState}
 use Rattle.machine_tests.proofs.machine.run_once.Goals as goal
 

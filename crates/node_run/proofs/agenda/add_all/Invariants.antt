@@ -1,6 +1,6 @@
 -- The handlers that are left give what is still to be added.
 use Rattle.std.proofs.Common.{◌≡◌, ◌++◌, drop}
-use Rattle.rounds.specs.Procedures.{numbers_where}
+use Rattle.node_rounds.specs.Procedures.{numbers_where}
 use Rattle.node_run.specs.Code.{events_of}
 use Rattle.node_run.specs.Inside.Agenda.{triggers_of}
 use Rattle.node_run.specs.Inside.Wanted.{is_wanted}

@@ -1,7 +1,7 @@
 -- The keys that are left give what is still to be added.
 use Rattle.std.proofs.Common.{◌≡◌, ◌++◌, drop}
-use Rattle.rounds.specs.Procedures.{procedures_for}
-use Rattle.rounds.specs.Round.{key_triggers}
+use Rattle.node_rounds.specs.Procedures.{procedures_for}
+use Rattle.node_rounds.specs.Round.{key_triggers}
 use Rattle.node_run.specs.Code.{events_of}
 use Rattle.node_run.proofs.agenda.add_keys.Given as goal
 

@@ -1,7 +1,7 @@
 -- What is left runs handlers that are there.
 use Rattle.std.proofs.Common.{None, refl, subst, sym, ◌<◌, length}
 use Rattle.std.specs.Option.{IfSome}
-use Rattle.rounds.specs.Procedures.{is_timer}
+use Rattle.node_rounds.specs.Procedures.{is_timer}
 use Rattle.node_run.proofs.Plans.{still_planned, timer_procedure_exists}
 use Rattle.node_run.proofs.node.take_next.Goals as goal
 

@@ -1,7 +1,7 @@
 -- What is entered is the first handler so far.
 use Rattle.std.proofs.Common.{rules, arith, ◌<◌, ◌+◌, ◌∙◌, ap, sym, Some, None, length, get_or, drop}
 use Rattle.bytecode.specs.declared.code.Handler.{Handler}
-use Rattle.rounds.specs.Procedures.{else_other}
+use Rattle.node_rounds.specs.Procedures.{else_other}
 use Rattle.node_run.proofs.ProcedureTables.{first_of, next_with_place, next_without_place}
 use Rattle.node_run.specs.Inside.Tables.{place_of}
 use Rattle.node_run.proofs.tables.table_of.Goals as goal

@@ -1,6 +1,6 @@
 -- The first handler for a number is the one that is entered, else the first of those that are left.
 use Rattle.std.proofs.Common.{◌≡◌, ℕ, ◌<◌, None, length, get_or, drop}
-use Rattle.rounds.specs.Procedures.{first_where}
+use Rattle.node_rounds.specs.Procedures.{first_where}
 use Rattle.node_run.specs.Code.{events_of}
 use Rattle.node_run.specs.Inside.Tables.{is_for}
 use Rattle.node_run.proofs.ProcedureTables.{first_of}

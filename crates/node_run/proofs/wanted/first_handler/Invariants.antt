@@ -1,7 +1,7 @@
 -- The first handler that is wanted is the first of those that are left.
 use Rattle.std.proofs.Common.{◌≡◌, drop}
 use Rattle.std.specs.List.{position_from}
-use Rattle.rounds.specs.Procedures.{first_where}
+use Rattle.node_rounds.specs.Procedures.{first_where}
 use Rattle.node_run.specs.Code.{events_of}
 use Rattle.node_run.specs.Inside.Wanted.{is_wanted}
 use Rattle.node_run.proofs.wanted.first_handler.Given as goal

@@ -1,5 +1,5 @@
 -- Nodes that are alike have equal runs.
-use Rattle.rounds.proofs.FollowLemmas.{reactions_follow}
+use Rattle.node_rounds.proofs.FollowLemmas.{reactions_follow}
 use Rattle.sim_core.specs.Bus.{bus_by}
 use Rattle.sim_core.proofs.RunsFollow.{runs_follow}
 use Rattle.sim_core.proofs.laws.equal_runs.Goals as goal

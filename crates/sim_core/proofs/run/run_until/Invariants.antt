@@ -1,7 +1,7 @@
 -- How far the run has come, and how much time is left.
 use Rattle.std.proofs.Common.{◌≡◌, ◌<◌, ◌≤◌, ◌-◌, IfSome}
 use Rattle.timer_queue.specs.Timers.{IsTimers}
-use Rattle.rounds.specs.Round.{IsDone}
+use Rattle.node_rounds.specs.Round.{IsDone}
 use Rattle.node_run.specs.Code.{code_reaction}
 use Rattle.node_run.specs.Node.{HasRows}
 use Rattle.sim_core.specs.Bus.{bus_by}

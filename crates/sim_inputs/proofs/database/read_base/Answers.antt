@@ -2,9 +2,10 @@
 use Rattle.std.proofs.Common.{◌≡◌, Err, ◌∙◌}
 use Rattle.sim_outside.specs.Folder.{beside}
 use Rattle.sim_inputs.specs.Database.{BaseAt, DatabaseAt, IsBaseBlame, IsDatabaseBlame}
-use Rattle.sim_inputs.specs.Inside.Agreement.{Agrees, messages_in}
+use Rattle.input_refusals.specs.Agreement.{Agrees}
+use Rattle.sim_inputs.specs.Inside.Messages.{messages_in}
 use Rattle.sim_inputs.proofs.BaseLemmas.{base_found, base_refused}
-use Rattle.sim_inputs.proofs.Passing.{told_from}
+use Rattle.input_refusals.proofs.Passing.{told_from}
 use Rattle.sim_inputs.proofs.database.read_base.Goals as goal
 
 pub returns-in_err-base-clause-told : goal.returns-in_err-base-clause-told

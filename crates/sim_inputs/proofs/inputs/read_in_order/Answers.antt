@@ -6,14 +6,15 @@ use Rattle.check_names.specs.Names.{messages_of}
 use Rattle.dbc_reader.specs.declared.message.DbcMessage.{DbcMessage}
 use Rattle.scenario.specs.declared.scenario.NodeItem.{NodeItem}
 use Rattle.sim_outside.specs.Folder.{beside}
-use Rattle.sim_inputs.specs.Accepted.{IsSourceBlame}
+use Rattle.source_compiler.specs.Source.{IsSourceBlame}
 use Rattle.sim_inputs.specs.Answer.{AreInputsOf, IsAnswer}
 use Rattle.sim_inputs.specs.Database.{BaseAt, IsBaseBlame}
-use Rattle.sim_inputs.specs.Inside.Agreement.{Agrees, messages_in}
-use Rattle.sim_inputs.specs.Inside.Compiled.{IsCompiledSource}
+use Rattle.input_refusals.specs.Agreement.{Agrees}
+use Rattle.sim_inputs.specs.Inside.Messages.{messages_in}
+use Rattle.source_compiler.specs.Compiled.{IsCompiledSource}
 use Rattle.sim_inputs.specs.Scenario.{ScenarioAt}
 use Rattle.sim_inputs.proofs.InputsLemmas.{inputs_of, lent_messages, memory_answer, refused_answer, same_node, source_blame}
-use Rattle.sim_inputs.proofs.Passing.{told_always, told_from_two, told_from_three}
+use Rattle.input_refusals.proofs.Passing.{told_always, told_from_two, told_from_three}
 use Rattle.sim_inputs.proofs.inputs.read_in_order.Goals as goal
 
 -- the database is to blame

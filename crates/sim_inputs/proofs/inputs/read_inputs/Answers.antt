@@ -1,7 +1,7 @@
 -- Accepted inputs have no blame, so that there are inputs.
 use Rattle.std.proofs.Common.{subst}
 use Rattle.std.specs.Prelude.{IfSome}
-use Rattle.sim_outside.specs.Fault.{HasRisen}
+use Rattle.texts.specs.Fault.{HasRisen}
 use Rattle.sim_inputs.specs.Answer.{IsAnswer}
 use Rattle.sim_inputs.proofs.InputsLemmas.{complete_answer}
 use Rattle.sim_inputs.proofs.inputs.read_inputs.Goals as goal

@@ -6,7 +6,7 @@ use Rattle.scenario.specs.Scenario.{IsScenario}
 use Rattle.scenario.specs.declared.scenario.NodeItem.{NodeItem}
 use Rattle.sim_inputs.specs.Blame.{not_yet_rule}
 use Rattle.sim_inputs.specs.Scenario.{HasOneNode, IsLineBlame, IsNotYetBlame}
-use Rattle.sim_inputs.proofs.Passing.{blamed}
+use Rattle.input_refusals.proofs.Passing.{blamed}
 use Rattle.sim_inputs.proofs.TextLemmas.{has_one_node}
 use Rattle.sim_inputs.proofs.scenario_file.scenario_of.Goals as goal
 

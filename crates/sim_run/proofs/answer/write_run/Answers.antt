@@ -1,7 +1,7 @@
 -- What was written of the run.
 use Rattle.std.proofs.Common.{List, subst}
 use Rattle.sim_outside.specs.Sink.{GrowsBy, GrowsByPrefix}
-use Rattle.vm_host.specs.declared.record.Noted.{Noted}
+use Rattle.run_records.specs.declared.record.Noted.{Noted}
 use Rattle.sim_run.proofs.AnswerLemmas.{prints_none, prints_partly, prints_whole}
 use Rattle.sim_run.specs.Answer.{printed}
 use Rattle.sim_run.proofs.answer.write_run.Goals as goal

@@ -4,18 +4,18 @@ use Rattle.std.specs.Prelude.{replicate}
 use Rattle.std.proofs.lemmas.Slice.Zip.{AllZip-long}
 use Rattle.bytecode.specs.declared.code.Code.{Code}
 use Rattle.can_bus.specs.Bus.{BusState, new_bus, next_moment}
-use Rattle.capl_meaning.specs.Reaction.{handlers_in}
+use Rattle.capl_meaning.specs.Procedure.{handlers_in}
 use Rattle.node_run.specs.Node.{NodeInRound}
 use Rattle.scenario.specs.declared.scenario.KeyItem.{KeyItem}
 use Rattle.sim_core.specs.Bus.{one_channel}
 use Rattle.sim_core.specs.Counts.{AddsTasks, tasks_of}
 use Rattle.sim_core.specs.Entries.{run_entries}
 use Rattle.sim_core.specs.Run.{IsRun}
-use Rattle.sim_inputs.specs.Program.{lines_of}
-use Rattle.source_code.specs.Code.{IsEntryOf, IsSourceCode}
-use Rattle.source_code.specs.Source.{by_source_reaction}
-use Rattle.source_runs.specs.Nodes.{AreLoadedFor}
-use Rattle.source_runs.specs.Sources.{first_source_nodes}
+use Rattle.source_compiler.specs.Program.{lines_of}
+use Rattle.source_laws.specs.Code.{IsEntryOf, IsSourceCode}
+use Rattle.source_laws.specs.Source.{by_source_reaction}
+use Rattle.run_laws.specs.Nodes.{AreLoadedFor}
+use Rattle.run_laws.specs.Sources.{first_source_nodes}
 use Rattle.stack_vm.specs.declared.meter.MeterRow.{MeterRow}
 use Rattle.sim_run.proofs.RunLemmas.{appended_all, no_run, nothing_due, rows_counted}
 use Rattle.sim_run.proofs.run.run_node.Goals as goal

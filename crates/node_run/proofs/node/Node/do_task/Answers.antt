@@ -3,8 +3,8 @@ use Rattle.std.proofs.Common.{[], ◌∷◌, ap, refl, rules, subst, sym, true, 
 use Rattle.bytecode.specs.declared.code.Code.{Code}
 use Rattle.std.specs.Prelude.{Err}
 use Rattle.stack_vm.specs.Memory.{IsMemoryOf}
-use Rattle.rounds.specs.Effects.{halt_lines}
-use Rattle.rounds.specs.Entries.{TakesEntries, line_entries}
+use Rattle.node_rounds.specs.Effects.{halt_lines}
+use Rattle.node_rounds.specs.Entries.{TakesEntries, line_entries}
 use Rattle.node_run.proofs.HostRuns.{on_err}
 use Rattle.node_run.proofs.NodeTasks.{Runs, does_at, does_with, does_without, halt_told, no_halt_told, not_halted, refused_at, refused_halt, refused_run, rises_from, sink_failed, took}
 use Rattle.node_run.proofs.node.Node.do_task.Goals as goal

@@ -6,7 +6,7 @@ use Rattle.bytecode.specs.declared.code.Code.{Code}
 use Rattle.bytecode.specs.declared.code.Handler.{Handler}
 use Rattle.bytecode.specs.Verified.{IsVerified}
 use Rattle.std.specs.List.Sorted.{IsPermutation}
-use Rattle.rounds.specs.Procedures.{first_where, is_any_key}
+use Rattle.node_rounds.specs.Procedures.{first_where, is_any_key}
 use Rattle.node_run.specs.Code.{events_of}
 use Rattle.node_run.specs.Inside.Tables.{IsTable, message_selectors}
 use Rattle.node_run.specs.declared.tables.Subject.TheVariants.{Keys, Timers}

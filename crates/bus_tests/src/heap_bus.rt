@@ -1,0 +1,98 @@
+// The calls of a `HeapBus`, by hand and beside those of the bus over a list.
+
+use arbitration::PlainBus;
+use bus_heap::HeapBus;
+use can_bus::{Bus, Ended, Waiting};
+use can_frame::{Frame, Ident};
+use std::test::Fail;
+
+// Three requests at moment 0 and 2 microseconds a bit. By a model of ISO 11898-1 apart from this code
+// the frame of identifier 0 has 50 bits, so it ends at 100, and the bus is free from 106 on; that of
+// identifier 1 has 47 bits, so it ends at 200.
+#[test]
+fn three_requests_go_in_order(rt: HostRuntime) -> Result<(), Fail> {
+    let later = Frame::make(Ident::Std(1), false, 0, [0; 8], 1).ok_or("a frame")?;
+    let first = Frame::make(Ident::Std(0), false, 0, [0; 8], 1).ok_or("a frame")?;
+    let mut bus = HeapBus::make(rt.alloc(), 2);
+    assert_eq!(rt; bus.next_time(), None);
+    for (node, frame) in [(1, later), (0, first), (0, later)] {
+        if bus.request(node, &frame).is_err() {
+            return Err("memory".into());
+        }
+    }
+    let (head, rest) = bus.waiting().split_first().ok_or("requests that wait")?;
+    let winner = Waiting {
+        node: 0,
+        number: 0,
+        frame: first,
+    };
+    assert_eq!(rt; *head, winner);
+    assert_eq!(rt; rest.len(), 2);
+    assert_eq!(rt; bus.next_time(), Some(0));
+    bus.arbitrate(0);
+    assert_eq!(rt; bus.waiting().len(), 2);
+    assert_eq!(rt; bus.finish(99), None);
+    let ended = Ended {
+        node: 0,
+        frame: first,
+    };
+    assert_eq!(rt; bus.finish(100), Some(ended));
+    assert_eq!(rt; bus.next_time(), Some(106));
+    bus.arbitrate(106);
+    let ended = Ended {
+        node: 0,
+        frame: later,
+    };
+    assert_eq!(rt; bus.finish(200), Some(ended));
+    assert_eq!(rt; bus.waiting().len(), 1);
+    Ok(())
+}
+
+/// The next number of a fixed sequence (xorshift with 64 bits).
+fn next_random(state: &mut u64) -> u64 {
+    *state ^= *state << 13;
+    *state ^= *state >> 7;
+    *state ^= *state << 17;
+    *state
+}
+
+/// A frame of few identifiers, so that many arbitration fields are equal.
+fn random_frame(random: u64) -> Option<Frame> {
+    let base = (random >> 8 & 7) as u16;
+    let ident = if random & 1 == 0 {
+        Ident::Std(base)
+    } else {
+        Ident::Ext(u32::from(base))
+    };
+    let dlc = ((random >> 16) % 9) as u8;
+    Frame::make(ident, random & 2 == 0, dlc, [(random & 0xff) as u8; 8], 1)
+}
+
+// 100,000 random calls, of which the two buses give one answer each.
+#[test]
+fn heap_and_list_answer_alike(rt: HostRuntime) -> Result<(), Fail> {
+    let mut list = PlainBus::make(rt.alloc(), 2);
+    let mut heap = HeapBus::make(rt.alloc(), 2);
+    let mut state = 1;
+    let mut now = 0;
+    for step in 0..100_000u32 {
+        let random = next_random(&mut state);
+        let fills = step / 512 % 4 == 0;
+        if fills || random % 8 == 0 {
+            let node = (random >> 32 & 7) as u32;
+            let frame = random_frame(random).ok_or("a frame")?;
+            if list.request(node, &frame).is_err() || heap.request(node, &frame).is_err() {
+                return Err("memory".into());
+            }
+        } else if random % 2 == 0 {
+            assert_eq!(rt; heap.finish(now), list.finish(now));
+        } else {
+            let moment = now.min(1 << 60);
+            list.arbitrate(moment);
+            heap.arbitrate(moment);
+        }
+        assert_eq!(rt; heap.next_time(), list.next_time());
+        now = heap.next_time().unwrap_or(now);
+    }
+    Ok(())
+}

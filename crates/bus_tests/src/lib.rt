@@ -1,0 +1,14 @@
+//! Tests of the bits of frames, of the signals in a payload, and of both buses: a module for each crate that
+//! is tested.
+//!
+//! They stand here, above those crates, so that each of those is proved without them.
+#![tactic(auto)]
+
+#[cfg(test)]
+mod frames;
+#[cfg(test)]
+mod heap_bus;
+#[cfg(test)]
+mod plain_bus;
+#[cfg(test)]
+mod signals;

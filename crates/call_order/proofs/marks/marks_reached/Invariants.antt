@@ -1,6 +1,0 @@
--- What is marked so far is reached from its root.
-use Rattle.call_order.specs.Graph.{AreReached, rows_of}
-use Rattle.call_order.proofs.marks.marks_reached.Given as goal
-
-abbrev pub invariant-loop-place : goal.invariant-loop-place
-invariant-loop-place l = AreReached (rows_of l.rows) l.roots l.marks.items

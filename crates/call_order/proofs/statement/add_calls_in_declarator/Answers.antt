@@ -1,7 +1,0 @@
--- A length and an initialiser.
-use Rattle.call_order.proofs.CalleeLemmas.{added_two}
-use Rattle.call_order.proofs.statement.add_calls_in_declarator.Goals as goal
-
-pub returns : goal.returns
-returns c =
-    added_two c.args.names.now _ _ _ _ _ c.in_ok-add_calls_in_part.ensures c.in_ok-add_calls_in_start.ensures

@@ -1,0 +1,45 @@
+-- The order is of all functions, each once.
+use Rattle.std.proofs.Common.{◌≡◌, ◌<◌, ◌∙◌, ℕ, List, ap, sym, subst, length}
+use Rattle.std.specs.Global.{Vec}
+use Rattle.std.specs.Prelude.{map, slice_index}
+use Rattle.check_calls.specs.Graph.{AreApart, AreWhere, Rise, rows_of}
+use Rattle.check_calls.specs.Components.{AreComponents}
+use Rattle.check_calls.proofs.OrderLemmas.{IsMade, at_order, functions_apart, functions_numbered, order_each, order_no_other, order_once, order_place}
+use Rattle.check_calls.proofs.calls.Calls.build.Goals as goal
+
+pub returns : goal.returns
+returns c =
+    let names = c.args.names.now in
+    let numbers : List ℕ = c.in_ok-numbers.numbers.items in
+    let indices : List ℕ = c.in_ok-indices.indices.items in
+    let order : List ℕ = c.in_ok-order.order.items in
+    let rising = subst Rise c.as_slice.ensures.value (c.rise.ensures c.if-not-rise.false) in
+    let count : c.in_ok-count.count ≡ length numbers = c.in_ok-count.ensures ∙ ap length c.as_slice-2.ensures.value in
+    let apart = functions_apart names numbers c.in_ok-numbers.ensures rising in
+    let made : IsMade names numbers indices order = record {
+      all = c.in_ok-numbers.ensures;
+      apart = apart;
+      each = λ place within. c.in_ok-indices.ensures.each place (subst (λ (n : ℕ). place < n) (sym count) within);
+      within = λ k place at. subst (λ (n : ℕ). place < n) count (c.in_ok-indices.ensures.within k place at);
+      once = c.in_ok-indices.ensures.apart;
+      taken =
+          c.in_ok-order.ensures ∙ ap (λ (l : List ℕ). map (slice_index l) c.as_slice-7.result.now) c.as_slice-6.ensures.value
+          ∙ ap (map (slice_index numbers)) c.as_slice-7.ensures.value;
+    } in
+    let where_ : AreWhere c.in_ok-places.places.items indices =
+    subst (AreWhere c.in_ok-places.places.items) c.as_slice-5.ensures.value
+    (c.in_ok-places.ensures (subst AreApart (sym c.as_slice-5.ensures.value) c.in_ok-indices.ensures.apart)) in
+    record {
+      has_each = order_each names numbers indices order made;
+      has_no_other = order_no_other names numbers indices order made;
+      once = order_once names numbers indices order made;
+      numbered = functions_numbered names apart;
+      apart = apart;
+      indices = at_order names numbers indices order made;
+      places = order_place names numbers indices order c.in_ok-places.places.items made where_;
+      numbers = c.in_ok-numbers.ensures;
+      callees = c.in_ok-callees.ensures;
+      rising = rising;
+      components = subst (λ (l : List (Vec ℕ)). AreComponents (rows_of l) c.in_ok-components.components) c.as_slice-8.ensures.value
+          c.in_ok-components.ensures;
+    }

@@ -1,0 +1,22 @@
+-- A search under way.
+use Rattle.std.specs.Prelude.{◌≡◌, ◌⊎◌, ◌<◌, ℕ, Bool, true, List, slice_get, Some}
+use Rattle.check_calls.specs.Graph.{AreApart, Has, Leads}
+
+-- each place with a flag was found
+abbrev pub AreFlagged : List Bool → List ℕ → Type 0
+AreFlagged flags found = (place : ℕ) → slice_get flags place ≡ Some true → Has found place
+
+-- what was found stays where it is, and what is new is one of some
+pub record IsGrown (before after : List ℕ) (New : ℕ → Type 0) : Type 0 where
+  pub kept : (k place : ℕ) → slice_get before k ≡ Some place → slice_get after k ≡ Some place
+  pub only : (k place : ℕ) → slice_get after k ≡ Some place → Has before place ⊎ New place
+
+-- what was found up to a head leads to what was found
+abbrev pub IsClosedTo : List (List ℕ) → List ℕ → ℕ → Type 0
+IsClosedTo rows found head =
+    (k from to : ℕ) → k < head → slice_get found k ≡ Some from → Leads rows from to → Has found to
+
+-- each place was found once, and has a flag
+pub record AreOnce (flags : List Bool) (found : List ℕ) : Type 0 where
+  pub known : (k place : ℕ) → slice_get found k ≡ Some place → slice_get flags place ≡ Some true
+  pub apart : AreApart found

@@ -1,0 +1,11 @@
+-- What was noted and what is left are the offences of all declared variables.
+use Rattle.std.proofs.Common.{◌≡◌, drop}
+use Rattle.std.specs.Prelude.{flat_map}
+use Rattle.capl_meaning.specs.DeclarationRules.{declarator_offences}
+use Rattle.check_names.specs.First.{noted}
+use Rattle.check_statements.specs.Site.{place_of}
+use Rattle.check_statements.proofs.declaration.judge_declarators.Given as goal
+
+abbrev pub invariant-loop-item : goal.invariant-loop-item
+invariant-loop-item l =
+    noted l.first (flat_map (declarator_offences (place_of l.site) l.what) (drop l.item-index l.items)) ≡ noted l.fn.first (flat_map (declarator_offences (place_of l.site) l.what) l.items)

@@ -1,0 +1,12 @@
+-- One more.
+use Rattle.std.proofs.Common.{◌∙◌}
+use Rattle.capl_meaning.specs.InitialiserRules.{array_item_rules}
+use Rattle.check_statements.specs.Site.{place_of}
+use Rattle.check_statements.proofs.TurnLemmas.{noted_step}
+use Rattle.check_statements.proofs.initialiser.judge_array_items.Goals as goal
+
+pub loop-item-preserved : goal.loop-item-preserved
+loop-item-preserved c =
+    noted_step (array_item_rules (place_of c.args.site.now) c.args.braces.token c.args.braces.at) c.args.items.now c.loop-item.item-index c.item-item.result c.loop-item.first c.judge_array_item.new.first
+    c.loop-item-test.true c.item-item.is c.in_ok-judge_array_item.ensures
+    ∙ c.loop-item.invariant

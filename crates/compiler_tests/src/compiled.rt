@@ -1,0 +1,95 @@
+// A program that is compiled.
+
+ghost use Rattle.std.specs.Prelude.{◌≡◌, ◌≤◌, [], ◌∷◌, IfOk};
+ghost use Rattle.capl_tree.specs.Weight.{weight};
+ghost use Rattle.typed_tree.specs.Size.{size};
+ghost use Rattle.typed_tree.specs.Sound.{IsSound};
+ghost use Rattle.code_meaning.specs.Example.{endless_loop};
+ghost use Rattle.gen_stmt.specs.Example.{on_start};
+
+use bytecode::Instr;
+use capl_tree::{FileTree, Head, Proc, Program, Stmt, TopItem};
+use gen_stmt::{compile, make_code};
+use int_kinds::Kind;
+use items::{Boxed, Items};
+use message_cells::MESSAGE_KINDS;
+use std::alloc::{AllocError, Global};
+use std::test::Fail;
+use typed_tree::{TExpr, THandler, TStmt, Typed};
+use vm_host::Event;
+
+/// The tree of `on start { ; }`, which weighs 16.
+fn source(alloc: Global) -> Result<Program, AllocError>
+    ensures { IfOk result (λ program. weight program ≡ 16) }
+{
+    let procedure = Proc {
+        head: Head::Start,
+        body: Items::from_list(vec![in alloc; Stmt::Empty]?),
+        at: 0,
+    };
+    let items = Items::from_list(vec![in alloc; TopItem::Proc(procedure)]?);
+    Ok(Program {
+        files: Items::from_list(vec![in alloc; FileTree { items }]?),
+    })
+}
+
+/// The program `byte b = 255; on start { .. }` with this statement, where cell 15 is `b`.
+fn on_start(alloc: Global, statement: TStmt) -> Result<Typed, AllocError>
+    ensures { IfOk result (λ typed. typed ≡ on_start (statement ∷ [])) }
+{
+    let mut cells = MESSAGE_KINDS.to_vec(alloc)?;
+    cells.extend_from_slice(&[Kind::Char, Kind::Byte])?;
+    let handler = THandler {
+        event: Event::Start,
+        body: Items::from_list(vec![in alloc; statement]?),
+        file: 0,
+        line: 1,
+    };
+    Ok(Typed {
+        functions: Items::new(alloc),
+        handlers: Items::from_list(vec![in alloc; handler]?),
+        cells: Items::from_list(cells),
+        starts: Items::from_list(vec![in alloc; (15u32, 255i128)]?),
+        timers: Items::new(alloc),
+        formats: Items::new(alloc),
+    })
+}
+
+/// `while (1) ;`
+#[tactic(auto, unfolding(gen_stmt::proofs::By::tree, gen_stmt::proofs::By::row))]
+fn endless_loop(alloc: Global) -> Result<TStmt, AllocError>
+    ensures { IfOk result (λ statement. statement ∷ [] ≡ endless_loop) }
+{
+    Ok(TStmt::While {
+        test: TExpr::Const(1),
+        body: Boxed::new(alloc, TStmt::Empty)?,
+    })
+}
+
+/// The program that goes round without an end.
+fn endless_program(alloc: Global) -> Result<Typed, AllocError>
+    ensures sound { IfOk result IsSound }
+    ensures small { IfOk result (λ typed. size typed ≤ 16) }
+{
+    let statement = endless_loop(alloc)?;
+    let typed = on_start(alloc, statement)?;
+    Ok(typed)
+}
+
+#[test]
+fn a_loop_is_compiled(rt: HostRuntime) -> Result<(), Fail> {
+    let source = source(rt.alloc())?;
+    let typed = endless_program(rt.alloc())?;
+    let code = compile(rt.alloc(), &source, &typed)?;
+    let instrs = [Instr::Push(1), Instr::Back(0), Instr::Ret];
+    assert_eq!(rt; code.code().instrs.as_slice(), instrs.as_slice());
+    Ok(())
+}
+
+#[test]
+fn a_loop_tests_behind_its_body(rt: HostRuntime) -> Result<(), Fail> {
+    let typed = endless_program(rt.alloc())?;
+    let code = make_code(rt.alloc(), &typed)?;
+    assert_eq!(rt; code.depths.as_slice(), [0, 1, 0].as_slice());
+    Ok(())
+}

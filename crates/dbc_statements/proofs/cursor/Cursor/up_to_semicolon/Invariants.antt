@@ -1,0 +1,13 @@
+-- From here the reading is as from the beginning.
+use Rattle.std.proofs.Common.{◌≡◌, ◌≤◌, length}
+use Rattle.dbc_statements.specs.Statement as spec
+use Rattle.dbc_statements.proofs.cursor.Cursor.up_to_semicolon.Given as goal
+
+abbrev pub invariant-loop-token : goal.invariant-loop-token
+invariant-loop-token l = record {
+  same : spec.up_to_semicolon l.fn.self ≡ spec.up_to_semicolon l.self;
+  no_longer : length l.self ≤ length l.fn.self;
+}
+
+abbrev pub decreases-loop-token : goal.decreases-loop-token
+decreases-loop-token l = length l.self

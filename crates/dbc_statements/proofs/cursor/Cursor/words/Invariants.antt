@@ -1,0 +1,13 @@
+-- From here the reading is as from the beginning.
+use Rattle.std.proofs.Common.{◌≡◌, ◌≤◌, length}
+use Rattle.dbc_statements.specs.Statement as spec
+use Rattle.dbc_statements.proofs.cursor.Cursor.words.Given as goal
+
+abbrev pub invariant-loop-token : goal.invariant-loop-token
+invariant-loop-token l = record {
+  same : spec.words l.fn.self ≡ spec.words l.self;
+  no_longer : length l.self ≤ length l.fn.self;
+}
+
+abbrev pub decreases-loop-token : goal.decreases-loop-token
+decreases-loop-token l = length l.self

@@ -1,0 +1,8 @@
+-- The bytes before the place are digits.
+use Rattle.std.proofs.Common.{◌≡◌, ◌+◌, drop}
+use Rattle.std.specs.List.{prefix_len}
+use Rattle.text_parts.specs.Number.{is_digit}
+use Rattle.dbc_statements.proofs.front.digits.Given as goal
+
+abbrev pub invariant-loop-place : goal.invariant-loop-place
+invariant-loop-place l = prefix_len is_digit l.text ≡ l.place + prefix_len is_digit (drop l.place l.text)

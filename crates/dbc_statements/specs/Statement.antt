@@ -1,0 +1,305 @@
+-- The statements of a database's text: how each is spelled in tokens (the DBC file format's keywords).
+-- This project's own: what ends an open list, that a statement with any other keyword goes on to its
+-- `;`, and that identifiers, starts and lengths are decimal digits.
+use Rattle.std.specs.Prelude.{ℕ, Bool, true, false, ◌&&◌, ◌||◌, not, ◌==◌, nat_le, nat_eq, if◌then◌else◌, List, [], ◌∷◌, drop, Option, Some, None, codes}
+use Rattle.std.specs.List.{prefix_len, list_all, ends_with}
+use Rattle.std.specs.Str.{bytes_eq}
+use Rattle.text_parts.specs.Number.{is_digit, number_up_to}
+use Rattle.signal_codec.specs.declared.layout.Layout.{Layout}
+use Rattle.dbc_statements.specs.Token.{Token, Placed, Word, Number, Quoted, Byte, begins_with, line_of}
+use Rattle.dbc_statements.specs.declared.keyword.Keyword.{Keyword}
+use Rattle.dbc_statements.specs.declared.keyword.Keyword.TheVariants as key
+use Rattle.dbc_statements.specs.declared.receivers.Before.{Before}
+use Rattle.dbc_statements.specs.declared.receivers.Before.TheVariants as before
+use Rattle.dbc_statements.specs.declared.statement.Statement.{Statement}
+use Rattle.dbc_statements.specs.declared.statement.Statement.TheVariants as statement
+
+-- what was read at the front, and the tokens behind it; None where it is not spelled there
+abbrev pub Read : Type 0 → Type 0
+Read A = Option (A × List Placed)
+
+-- what is read, and then behind it what depends on it
+abbrev pub and_then : {A B : Type 0} → Read A → (A → List Placed → Read B) → Read B
+and_then None more = None
+and_then (Some read) more = more read.0 read.1
+
+-- a value behind which these tokens stand, if there is one
+abbrev pub read_as : {A : Type 0} → Option A → List Placed → Read A
+read_as None behind = None
+read_as (Some value) behind = Some (value, behind)
+
+-- the bytes of a word
+abbrev pub word_in : Token → Option (List ℕ)
+word_in (Word bytes) = Some bytes
+word_in _ = None
+
+-- the bytes of a number
+abbrev pub number_in : Token → Option (List ℕ)
+number_in (Number bytes) = Some bytes
+number_in _ = None
+
+-- decimal digits of a number up to a limit
+abbrev pub decimal_in : ℕ → Token → Option ℕ
+decimal_in limit (Number bytes) = number_up_to limit bytes
+decimal_in limit _ = None
+
+-- whether it is this byte
+abbrev pub is_byte : ℕ → Token → Bool
+is_byte byte (Byte found) = found == byte
+is_byte byte _ = false
+
+-- the line of the next token
+unfoldable pub line : List Placed → Read ℕ
+line tokens = read_as (line_of tokens) tokens
+
+-- a word
+unfoldable pub word : List Placed → Read (List ℕ)
+word [] = None
+word (first ∷ behind) = read_as (word_in first.token) behind
+
+-- a number
+unfoldable pub number : List Placed → Read (List ℕ)
+number [] = None
+number (first ∷ behind) = read_as (number_in first.token) behind
+
+-- decimal digits of a number up to a limit
+unfoldable pub decimal : ℕ → List Placed → Read ℕ
+decimal limit [] = None
+decimal limit (first ∷ behind) = read_as (decimal_in limit first.token) behind
+
+-- this byte
+unfoldable pub byte : ℕ → List Placed → Read (Unit {0})
+byte wanted [] = None
+byte wanted (first ∷ behind) = if is_byte wanted first.token then Some (tt, behind) else None
+
+-- this byte, or nothing
+unfoldable pub perhaps : ℕ → List Placed → Read (Unit {0})
+perhaps wanted [] = Some (tt, [])
+perhaps wanted (first ∷ behind) =
+    if is_byte wanted first.token then Some (tt, behind) else Some (tt, first ∷ behind)
+
+-- whether it is a string
+abbrev pub is_quoted : Token → Bool
+is_quoted Quoted = true
+is_quoted _ = false
+
+-- a string
+unfoldable pub string : List Placed → Read (Unit {0})
+string [] = None
+string (first ∷ behind) = if is_quoted first.token then Some (tt, behind) else None
+
+-- A to Z or `_`
+abbrev pub is_upper : ℕ → Bool
+is_upper byte = nat_le 65 byte && nat_le byte 90 || byte == 95
+
+-- `VERSION`, or upper-case letters and `_` with a `_` at the end
+abbrev pub is_keyword : List ℕ → Bool
+is_keyword bytes =
+    bytes_eq bytes (codes "VERSION") || ends_with nat_eq bytes (codes "_") && list_all is_upper bytes
+
+-- the keyword of these bytes, if they are one
+abbrev pub keyword_of : List ℕ → Option Keyword
+keyword_of bytes =
+    if not (is_keyword bytes) then None
+    else if bytes_eq bytes (codes "VERSION") then Some key.Version
+    else if bytes_eq bytes (codes "NS_") then Some key.NewSymbols
+    else if bytes_eq bytes (codes "BS_") then Some key.BitTiming
+    else if bytes_eq bytes (codes "BU_") then Some key.Nodes
+    else if bytes_eq bytes (codes "BO_") then Some key.Message
+    else if bytes_eq bytes (codes "SG_") then Some key.Signal
+    else if bytes_eq bytes (codes "SIG_VALTYPE_") then Some key.ValueType
+    else Some key.Other
+
+-- the keyword of a word
+abbrev pub keyword_in : Token → Option Keyword
+keyword_in (Word bytes) = keyword_of bytes
+keyword_in _ = None
+
+-- a keyword
+unfoldable pub keyword : List Placed → Read Keyword
+keyword [] = None
+keyword (first ∷ behind) = read_as (keyword_in first.token) behind
+
+-- whether it is a keyword
+abbrev pub begins_statement : Token → Bool
+begins_statement (Word bytes) = is_keyword bytes
+begins_statement _ = false
+
+-- whether it is a word
+abbrev pub is_word : Token → Bool
+is_word (Word bytes) = true
+is_word _ = false
+
+-- tokens up to the next keyword or the end
+abbrev pub up_to_keyword : List Placed → Read (Unit {0})
+up_to_keyword [] = Some (tt, [])
+up_to_keyword (first ∷ behind) =
+    if begins_statement first.token then Some (tt, first ∷ behind) else up_to_keyword behind
+
+-- words up to the next keyword or the end
+abbrev pub words : List Placed → Read (Unit {0})
+words [] = Some (tt, [])
+words (first ∷ behind) =
+    if begins_statement first.token then Some (tt, first ∷ behind)
+    else if is_word first.token then words behind
+    else None
+
+-- whether it is one of the keywords before which a list of new symbols ends
+abbrev pub ends_symbols : Token → Bool
+ends_symbols (Word bytes) =
+    bytes_eq bytes (codes "BS_") || bytes_eq bytes (codes "BU_") || bytes_eq bytes (codes "BO_")
+ends_symbols _ = false
+
+-- words up to the next of these keywords or the end
+abbrev pub symbols : List Placed → Read (Unit {0})
+symbols [] = Some (tt, [])
+symbols (first ∷ behind) =
+    if ends_symbols first.token then Some (tt, first ∷ behind)
+    else if is_word first.token then symbols behind
+    else None
+
+-- tokens up to and with the next `;`
+abbrev pub up_to_semicolon : List Placed → Read (Unit {0})
+up_to_semicolon [] = None
+up_to_semicolon (first ∷ behind) =
+    if is_byte 59 first.token then Some (tt, behind) else up_to_semicolon behind
+
+-- a message: its identifier, its name, `:`, its length and its sender
+unfoldable pub message : List Placed → Read Statement
+message tokens =
+    and_then (line tokens) (λ id_line tokens. and_then (decimal 4294967295 tokens) (λ id tokens.
+    and_then (line tokens) (λ name_line tokens. and_then (word tokens) (λ name tokens.
+    and_then (byte 58 tokens) (λ _ tokens. and_then (decimal 65535 tokens) (λ len tokens.
+    and_then (word tokens) (λ _ tokens.
+    Some (statement.Message id id_line name name_line len, tokens))))))))
+
+-- whether these are digits and then perhaps an `M`
+abbrev pub is_multiplexed_number : List ℕ → Bool
+is_multiplexed_number bytes =
+    let digits = prefix_len is_digit bytes in
+    not (digits == 0) && (bytes_eq (drop digits bytes) [] || bytes_eq (drop digits bytes) (codes "M"))
+
+-- `M`, or `m` with a number and then perhaps an `M`
+abbrev pub is_multiplexing : List ℕ → Bool
+is_multiplexing bytes =
+    bytes_eq bytes (codes "M") || begins_with 109 bytes && is_multiplexed_number (drop 1 bytes)
+
+-- such a word, or none
+abbrev pub multiplexing_by : Token → List Placed → List Placed → Read (Unit {0})
+multiplexing_by (Word bytes) tokens behind = if is_multiplexing bytes then Some (tt, behind) else None
+multiplexing_by _ tokens behind = Some (tt, tokens)
+
+-- how a signal is multiplexed, or nothing
+unfoldable pub multiplexing : List Placed → Read (Unit {0})
+multiplexing [] = Some (tt, [])
+multiplexing (first ∷ behind) = multiplexing_by first.token (first ∷ behind) behind
+
+-- whether the order is big-endian: 0, or not: 1
+abbrev pub big_in : Token → Option Bool
+big_in (Number bytes) =
+    if bytes_eq bytes (codes "0") then Some true
+    else if bytes_eq bytes (codes "1") then Some false
+    else None
+big_in _ = None
+
+-- whether the signal is signed: `-`, or not: `+`
+abbrev pub signed_in : Token → Option Bool
+signed_in (Byte found) = if found == 45 then Some true else if found == 43 then Some false else None
+signed_in _ = None
+
+-- the order of a signal's bits
+unfoldable pub big : List Placed → Read Bool
+big [] = None
+big (first ∷ behind) = read_as (big_in first.token) behind
+
+-- the sign of a signal
+unfoldable pub signed : List Placed → Read Bool
+signed [] = None
+signed (first ∷ behind) = read_as (signed_in first.token) behind
+
+-- a layout: start, `|`, length, `@`, order and sign
+unfoldable pub layout : List Placed → Read Layout
+layout tokens =
+    and_then (decimal 65535 tokens) (λ start tokens. and_then (byte 124 tokens) (λ _ tokens.
+    and_then (decimal 65535 tokens) (λ len tokens. and_then (byte 64 tokens) (λ _ tokens.
+    and_then (big tokens) (λ big tokens. and_then (signed tokens) (λ signed tokens.
+    Some (record { start = start; len = len; big = big; signed = signed }, tokens)))))))
+
+-- two numbers between these bytes
+unfoldable pub pair : ℕ → ℕ → ℕ → List Placed → Read (Unit {0})
+pair first between last tokens =
+    and_then (byte first tokens) (λ _ tokens. and_then (number tokens) (λ _ tokens.
+    and_then (byte between tokens) (λ _ tokens. and_then (number tokens) (λ _ tokens. byte last tokens))))
+
+-- what a receivers' list has before its next part: a word, or a `,` behind a word
+abbrev pub receiver_after : Before → Token → Option Before
+receiver_after behind (Word bytes) = Some before.Word
+receiver_after before.Word (Byte found) = if found == 44 then Some before.Comma else None
+receiver_after _ _ = None
+
+-- whether a receivers' list may end
+abbrev pub may_end : Before → Bool
+may_end before.Comma = false
+may_end _ = true
+
+-- words up to the next keyword or the end, between two of which perhaps a `,` stands
+abbrev pub receivers : Before → List Placed → Read (Unit {0})
+receivers last [] = if may_end last then Some (tt, []) else None
+receivers last (first ∷ behind) =
+    if begins_statement first.token then (if may_end last then Some (tt, first ∷ behind) else None)
+    else and_then (read_as (receiver_after last first.token) []) (λ next _. receivers next behind)
+
+-- a signal: name, perhaps how it is multiplexed, `:`, layout, `(` factor `,` offset `)`, `[` least `|`
+-- greatest `]`, unit and receivers
+unfoldable pub signal : List Placed → Read Statement
+signal tokens =
+    and_then (line tokens) (λ line tokens. and_then (word tokens) (λ name tokens.
+    and_then (multiplexing tokens) (λ _ tokens. and_then (byte 58 tokens) (λ _ tokens.
+    and_then (layout tokens) (λ layout tokens. and_then (pair 40 44 41 tokens) (λ _ tokens.
+    and_then (pair 91 124 93 tokens) (λ _ tokens. and_then (string tokens) (λ _ tokens.
+    and_then (receivers before.Nothing tokens) (λ _ tokens.
+    Some (statement.Signal name layout line, tokens))))))))))
+
+-- whether a value type is a float's: 1 and 2, or not: 0 and 3
+abbrev pub float_in : Token → Option Bool
+float_in (Number bytes) =
+    if bytes_eq bytes (codes "1") || bytes_eq bytes (codes "2") then Some true
+    else if bytes_eq bytes (codes "0") || bytes_eq bytes (codes "3") then Some false
+    else None
+float_in _ = None
+
+-- a value type
+unfoldable pub float : List Placed → Read Bool
+float [] = None
+float (first ∷ behind) = read_as (float_in first.token) behind
+
+-- a signal's value type: the message's identifier, the signal's name, perhaps `:`, the type and `;`
+unfoldable pub value_type : List Placed → Read Statement
+value_type tokens =
+    and_then (decimal 4294967295 tokens) (λ id tokens. and_then (word tokens) (λ name tokens.
+    and_then (perhaps 58 tokens) (λ _ tokens. and_then (float tokens) (λ float tokens.
+    and_then (byte 59 tokens) (λ _ tokens.
+    Some (if float then statement.Float (record { id = id; name = name }) else statement.Other, tokens))))))
+
+-- nothing is kept of it
+abbrev pub other : Read (Unit {0}) → Read Statement
+other read = and_then read (λ _ tokens. Some (statement.Other, tokens))
+
+-- what stands behind each keyword; a signal stands only where a message stood before
+unfoldable pub behind_keyword : Bool → Keyword → List Placed → Read Statement
+behind_keyword inside key.Version tokens = other (string tokens)
+behind_keyword inside key.NewSymbols tokens =
+    other (and_then (byte 58 tokens) (λ _ tokens. symbols tokens))
+behind_keyword inside key.BitTiming tokens =
+    other (and_then (byte 58 tokens) (λ _ tokens. up_to_keyword tokens))
+behind_keyword inside key.Nodes tokens =
+    other (and_then (byte 58 tokens) (λ _ tokens. words tokens))
+behind_keyword inside key.Message tokens = message tokens
+behind_keyword inside key.Signal tokens = if inside then signal tokens else None
+behind_keyword inside key.ValueType tokens = value_type tokens
+behind_keyword inside key.Other tokens = other (up_to_semicolon tokens)
+
+-- a statement: a keyword and what stands behind it
+unfoldable pub statement_at : Bool → List Placed → Read Statement
+statement_at inside tokens =
+    and_then (keyword tokens) (λ keyword tokens. behind_keyword inside keyword tokens)

@@ -1,5 +1,0 @@
--- Fewer bytes are left.
-use Rattle.first_values.proofs.payload.+put_bytes.Given as goal
-
-abbrev pub decreases-put_bytes : goal.decreases-put_bytes
-decreases-put_bytes l = l.count

@@ -1,6 +1,0 @@
--- Each byte fits.
-use Rattle.std.proofs.Common.{arith}
-use Rattle.first_values.proofs.payload.are_bytes.Goals as goal
-
-pub returns : goal.returns
-returns c = λ k. omega (arith, c.type_inv.bytes k)

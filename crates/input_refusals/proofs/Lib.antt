@@ -1,0 +1,2 @@
+-- Lemmas that crates above use.
+pub mod Passing

@@ -1,0 +1,12 @@
+//! Why an input is refused: a rule that it breaks, a read that failed, or want of memory.
+//!
+//! [`InputRefusal`] is the error of whatever reads or judges an input. [`blamed_file`] and
+//! [`blamed_line`] make the refusal that blames a whole file or a line of it. `specs/Agreement.antt` has the
+//! shape of what such calls promise: an answer is so, or its blame is the right one.
+#![tactic(auto)]
+
+pub use blames::{blamed_file, blamed_line};
+pub use refusal::InputRefusal;
+
+mod blames;
+mod refusal;

@@ -1,0 +1,177 @@
+// What check_names says that names mean, and noted offences.
+
+use capl_meaning::Offence;
+use capl_tree::{Decl, DeclType, Expr, Head, Param, Proc, Program, Sel, Stmt, TopItem};
+use check_names::{Names, laws, note, note_type, selector_of};
+use dbc_reader::read;
+use int_kinds::Kind;
+use items::Items;
+use reader_tests::forms::{declaration, program_of, variable};
+use std::alloc::Global;
+use std::test::Fail;
+use texts::{Rule, Text};
+use vm_host::Selector;
+
+/// `long NAME;`, by its first token and that of the name.
+fn long(alloc: Global, name: &[u8], first: u32, at: u32) -> Result<Decl, Fail> {
+    let what = DeclType::Number {
+        kind: Kind::Long,
+        fixed: false,
+    };
+    declaration(alloc, what, variable(alloc, name, at)?, first)
+}
+
+/// `long f(long b) { { long INNER; } }`
+fn function(alloc: Global, inner: &[u8]) -> Result<TopItem, Fail> {
+    let local = Stmt::Decl(long(alloc, inner, 14, 15)?);
+    let block = Stmt::Block(Items::from_list(vec![in alloc; local]?));
+    let parameter = Param {
+        kind: Kind::Long,
+        name: Text::make(alloc, b"b")?,
+        at: 10,
+    };
+    let head = Head::Function {
+        kind: Some(Kind::Long),
+        name: Text::make(alloc, b"f")?,
+        params: Items::from_list(vec![in alloc; parameter]?),
+        at: 7,
+    };
+    Ok(TopItem::Proc(Proc {
+        head,
+        body: Items::from_list(vec![in alloc; block]?),
+        at: 6,
+    }))
+}
+
+/// `variables { long a; } long f(long b) { { long INNER; } }`
+fn program(alloc: Global, inner: &[u8]) -> Result<Program, Fail> {
+    let global = long(alloc, b"a", 2, 3)?;
+    let globals = TopItem::Variables(Items::from_list(vec![in alloc; global]?));
+    let function = function(alloc, inner)?;
+    program_of(alloc, vec![in alloc; globals, function]?)
+}
+
+#[test]
+fn names_mean_what_is_declared_before(rt: HostRuntime) -> Result<(), Fail> {
+    let program = program(rt.alloc(), b"c")?;
+    let names = Names::build(rt.alloc(), &program, None)?;
+    assert_eq!(rt; names.global(b"a"), Some(0));
+    assert_eq!(rt; names.global(b"c"), None);
+    assert_eq!(rt; names.local(1, b"c", 16), Some(2));
+    assert_eq!(rt; names.local(1, b"c", 15), None);
+    assert_eq!(rt; names.local(1, b"a", 16), None);
+    assert_eq!(rt; names.means(1, b"b", 16), Some(1));
+    assert_eq!(rt; names.means(1, b"a", 16), Some(0));
+    assert_eq!(rt; names.function(b"f"), Some(0));
+    Ok(())
+}
+
+#[test]
+fn variables_and_functions_are_in_order(rt: HostRuntime) -> Result<(), Fail> {
+    let program = program(rt.alloc(), b"c")?;
+    let names = Names::build(rt.alloc(), &program, None)?;
+    assert_eq!(rt; names.variables().len(), 3);
+    let wanted = [(0, 3, b'a'), (1, 10, b'b'), (1, 15, b'c')];
+    for (found, (owner, token, letter)) in names.variables().iter().zip(wanted.iter()) {
+        assert_eq!(rt; found.place.owner, *owner);
+        assert_eq!(rt; found.token(), *token);
+        assert_eq!(rt; found.name(), [*letter].as_slice());
+    }
+    assert_eq!(rt; names.functions().len(), 1);
+    Ok(())
+}
+
+#[test]
+fn messages_are_those_of_the_database(rt: HostRuntime) -> Result<(), Fail> {
+    let program = program(rt.alloc(), b"c")?;
+    let base = read(rt.alloc(), b"BO_ 5 M: 8 N\n")?;
+    let names = Names::build(rt.alloc(), &program, Some(&base))?;
+    let message = names.message(b"M").ok_or("M is there")?;
+    assert_eq!(rt; message.id, 5);
+    assert!(rt; names.message(b"N").is_none());
+    Ok(())
+}
+
+/// The first of what the names of the program break, where the inner local has this name.
+fn first(alloc: Global, inner: &[u8]) -> Result<Option<Offence>, Fail> {
+    let program = program(alloc, inner)?;
+    let names = Names::build(alloc, &program, None)?;
+    Ok(names.first(alloc, &program)?)
+}
+
+#[test]
+fn a_name_is_declared_once(rt: HostRuntime) -> Result<(), Fail> {
+    let again = Offence {
+        file: 0,
+        token: 15,
+        rule: Rule {
+            group: b'E',
+            number: 10,
+        },
+    };
+    assert_eq!(rt; first(rt.alloc(), b"c")?, None);
+    assert_eq!(rt; first(rt.alloc(), b"a")?, None);
+    assert_eq!(rt; first(rt.alloc(), b"b")?, Some(again));
+    Ok(())
+}
+
+#[test]
+fn selectors_have_keys(rt: HostRuntime) -> Result<(), Fail> {
+    let program = program(rt.alloc(), b"c")?;
+    let names = Names::build(rt.alloc(), &program, None)?;
+    let number = |value| Expr::Num {
+        value: Some(value),
+        ext: true,
+        at: 1,
+    };
+    let range = Sel::Ids {
+        low: number(1),
+        high: Some(number(2)),
+        at: 1,
+    };
+    let keys = Selector {
+        rank: 1,
+        low: 0x8000_0001,
+        high: 0x8000_0002,
+    };
+    assert_eq!(rt; selector_of(&names, &range), Some(keys));
+    Ok(())
+}
+
+#[test]
+fn an_identifier_is_small(rt: HostRuntime) -> Result<(), Fail> {
+    let program = program(rt.alloc(), b"c")?;
+    let names = Names::build(rt.alloc(), &program, None)?;
+    let what = DeclType::ById {
+        value: Some(0x800),
+        ext: false,
+        at: 2,
+    };
+    let mut first = None;
+    note_type(&names, 0, &what, &mut first);
+    assert_eq!(rt; first.map(|offence| offence.rule.number), Some(21));
+    Ok(())
+}
+
+#[test]
+fn the_earlier_offence_stays(rt: HostRuntime) {
+    let offence = |token, number| Offence {
+        file: 0,
+        token,
+        rule: Rule {
+            group: b'E',
+            number,
+        },
+    };
+    let mut first = None;
+    note(&mut first, offence(7, 9));
+    note(&mut first, offence(3, 13));
+    note(&mut first, offence(3, 14));
+    assert_eq!(rt; first, Some(offence(3, 13)));
+}
+
+#[test]
+fn laws_can_be_called() {
+    laws::the_first_is_noted();
+    laws::named_offences_are_offences();
+}

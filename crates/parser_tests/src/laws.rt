@@ -1,0 +1,11 @@
+// Calls of the laws on readers and the trees that they give.
+
+#[test]
+fn readers_have_laws() {
+    expr_parser::each_spelling_is_read();
+    expr_parser::only_spellings_are_read();
+    decl_parser::each_declaration_is_read();
+    decl_parser::only_declarations_are_read();
+    parser_laws::trees_are_read();
+    parser_laws::one_tree();
+}

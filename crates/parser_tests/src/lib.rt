@@ -1,0 +1,10 @@
+//! Tests of the parser: sources with their trees, written as text, sources that have none, and calls of the
+//! laws on readers.
+//!
+//! They stand here, above those crates, so that each of those is proved without them.
+#![tactic(auto)]
+
+#[cfg(test)]
+mod laws;
+#[cfg(test)]
+mod parser;

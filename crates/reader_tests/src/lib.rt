@@ -1,0 +1,18 @@
+//! Tests of the calls that read expressions and declarations and tell how deep tokens nest, and of the trees
+//! of sources: a module for each crate that is tested.
+//!
+//! They stand here, above those crates, so that each of those is proved without them.
+//! [`forms`] has parts of trees for the tests of the crates that check programs, too.
+#![tactic(auto)]
+
+#[cfg(test)]
+mod declarations;
+#[cfg(test)]
+mod expressions;
+pub mod forms;
+#[cfg(test)]
+mod nesting;
+#[cfg(test)]
+mod tokens;
+#[cfg(test)]
+mod trees;

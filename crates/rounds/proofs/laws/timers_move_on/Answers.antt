@@ -1,6 +1,0 @@
--- The reaction that runs of procedures make moves timers on.
-use Rattle.rounds.proofs.MovingTimers.{reaction_moves_timers}
-use Rattle.rounds.proofs.laws.timers_move_on.Goals as goal
-
-pub returns : goal.returns
-returns g c = reaction_moves_timers g.P.RunnerPair.first

@@ -1,9 +1,0 @@
--- What stands between two files.
-use Rattle.std.proofs.Common.{take}
-use Rattle.std.specs.List.{AllZip}
-use Rattle.sim_inputs.specs.Program.{HasTree}
-use Rattle.sim_inputs.proofs.program.parse_files.Given as goal
-
--- the trees are those of the files that were passed
-abbrev pub invariant-loop-file : goal.invariant-loop-file
-invariant-loop-file l = AllZip HasTree (take l.file-index l.files) l.trees.items

@@ -1,0 +1,33 @@
+// The rules that scenarios and databases break, and files that are not there.
+
+use texts::Rule;
+
+/// There is no such file.
+pub(crate) const MISSING: Rule = Rule {
+    group: b'F',
+    number: 1,
+};
+
+/// The file has more bytes than it may.
+pub(crate) const TOO_LONG: Rule = Rule {
+    group: b'F',
+    number: 2,
+};
+
+/// The program does not run such a scenario yet.
+pub(crate) const NOT_YET: Rule = Rule {
+    group: b'N',
+    number: 1,
+};
+
+/// A statement of a database has no spelling.
+pub(crate) const STATEMENT: Rule = Rule {
+    group: b'D',
+    number: 1,
+};
+
+/// An identifier or a name of a database stands for the second time.
+pub(crate) const TWICE: Rule = Rule {
+    group: b'D',
+    number: 2,
+};

@@ -1,5 +1,0 @@
--- The definitions of this crate.
-pub mod Code
-pub mod Ends
-pub mod Source
-pub mod Stands

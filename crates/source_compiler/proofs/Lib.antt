@@ -1,0 +1,4 @@
+-- The lemmas of this crate.
+pub mod CellLemmas
+pub mod FileLemmas
+pub mod OffenceLemmas

@@ -1,0 +1,36 @@
+-- What is known of a typed program that is compiled, and what is to blame of one that is too heavy.
+use Rattle.std.proofs.Common.{◌≡◌, ◌≤◌, ◌<◌, inr}
+use Rattle.bytecode.specs.declared.code.Code.{Code}
+use Rattle.capl_include.specs.Blame.{file_blame, source_rule}
+use Rattle.capl_tree.specs.Weight.{weight}
+use Rattle.check_names.specs.Names.{messages_of}
+use Rattle.code_listing.specs.Program.{IsCodeOf}
+use Rattle.source_compiler.specs.Source.{IsProgramBlame}
+use Rattle.source_compiler.specs.Compiled.{IsCompiled}
+use Rattle.source_compiler.specs.Program.{lines_of, most}
+use Rattle.source_compiler.proofs.CellLemmas.{few_cells, within_weight}
+use Rattle.input_refusals.proofs.Passing.{judged_on}
+use Rattle.source_compiler.proofs.program.code_of.Goals as goal
+
+pub compile_program-requires-clause-bounded : goal.compile_program-requires-clause-bounded
+compile_program-requires-clause-bounded c =
+    let base = messages_of c.args.base in
+    let program = c.in_ok-program.program in
+    within_weight base program (lines_of c.args.files.now) c.in_ok-typed.typed c.in_ok-typed.ensures (c.code_is_within_the_weight.ensures base program)
+
+pub compile_program-requires-clause-few_cells : goal.compile_program-requires-clause-few_cells
+compile_program-requires-clause-few_cells c =
+    few_cells (messages_of c.args.base) c.in_ok-program.program (lines_of c.args.files.now) c.in_ok-typed.typed c.in_ok-typed.ensures
+
+-- a program that is too heavy
+pub returns-in_err-code : goal.returns-in_err-code
+returns-in_err-code c =
+    let base = messages_of c.args.base in
+    let name = c.args.name.now in
+    let files = c.args.files.now in
+    let program = c.in_ok-program.program in
+    judged_on {A = Code} {B = Code} (λ code. IsCodeOf c.in_ok-typed.typed code × (weight program ≤ most))
+    (λ blame. (most < weight program) × (blame ≡ file_blame name (source_rule 29))) (IsCompiled base files) (IsProgramBlame base name files)
+    c.in_err-code.field-0.0 c.from_residual-in_err-code.result c.from_residual-in_err-code.ensures.1
+    (λ blame heavy. inr (inr (c.in_ok-screen_files.ensures, (program, c.in_ok-program.ensures, inr (c.in_ok-typed.ensures.no_offence, inr heavy.0, heavy.1)))))
+    c.in_err-code.ensures

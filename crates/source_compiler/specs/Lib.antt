@@ -1,0 +1,5 @@
+-- The definitions of this crate.
+pub mod Code
+pub mod Compiled
+pub mod Program
+pub mod Source

@@ -1,0 +1,120 @@
+-- The program of a node's files, and which of its rules is the first that is broken.
+use Rattle.std.specs.Prelude.{◌≡◌, ◌<◌, ◌≤◌, ◌⊎◌, ℕ, List, [], ◌∷◌, ◌++◌, map, slice_get, unwrap_or, All}
+use Rattle.std.specs.List.{AllZip}
+use Rattle.std.specs.Option.{option_map}
+use Rattle.texts.specs.declared.blame.Blame.{Blame}
+use Rattle.texts.specs.declared.blame.Rule.{Rule}
+use Rattle.dbc_reader.specs.declared.message.DbcMessage.{DbcMessage}
+use Rattle.capl_lexer.specs.Screening.{Breaks}
+use Rattle.capl_nesting.specs.Tokens.{toks}
+use Rattle.capl_tree.specs.Nesting.{nesting}
+use Rattle.capl_tree.specs.Tree.{IsTreeOf}
+use Rattle.capl_tree.specs.Weight.{weight}
+use Rattle.capl_tree.specs.declared.file.FileTree.{FileTree}
+use Rattle.capl_tree.specs.declared.file.Program.{Program}
+use Rattle.capl_parser.specs.Refusal.{nesting_limit}
+use Rattle.capl_include.specs.Blame.{file_blame, source_rule}
+use Rattle.capl_include.specs.Expansion.{Contents, Expansion, Went, Stopped, IsExpansion}
+use Rattle.capl_include.specs.declared.expanded.SourceFile.{SourceFile}
+use Rattle.capl_meaning.specs.Offences.{IsFirstOffence, offences_of}
+use Rattle.capl_meaning.specs.Size.{cells_of_program}
+use Rattle.capl_meaning.specs.declared.offence.Offence.{Offence}
+use Rattle.check_types.specs.Lines.{line_in}
+use Rattle.input_refusals.specs.Blame.{line_blame, without_column}
+
+-- ---- files
+
+-- the files of the program, in program order
+abbrev pub FilesAt : Contents → List ℕ → List SourceFile → Type 0
+FilesAt contents name files =
+    (end : Expansion) × IsExpansion contents name (Went end) × (files ≡ end.files)
+
+-- the expansion stopped at its first blame, E01, E04, E07, E08, E29 or F02
+abbrev pub IsFilesBlame : Contents → List ℕ → Blame → Type 0
+IsFilesBlame contents name blame =
+    (first : Blame) × IsExpansion contents name (Stopped first) × (blame ≡ without_column first)
+
+-- a file has this, and all files before it are right
+pub record IsFirstFile (IsRight IsWrong : SourceFile → Type 0) (files : List SourceFile) : Type 0 where
+  pub before : List SourceFile
+  pub file : SourceFile
+  pub after : List SourceFile
+  pub split : files ≡ before ++ file ∷ after
+  pub right_before : All IsRight before
+  pub wrong : IsWrong file
+
+-- ---- tokens
+
+-- a file has only tokens that a program may have
+abbrev pub IsScreened : SourceFile → Type 0
+IsScreened file = (place : ℕ) (rule : Rule) → Breaks file.tokens place rule → ⊥
+
+-- a token of the file breaks E05 or E06, and none before it does
+pub record IsTokenBlame (blame : Blame) (file : SourceFile) : Type 0 where
+  pub place : ℕ
+  pub rule : Rule
+  pub breaks : Breaks file.tokens place rule
+  pub first : (earlier : ℕ) (other : Rule) → earlier < place → Breaks file.tokens earlier other → ⊥
+  pub is : blame ≡ line_blame file.name breaks.token.line rule
+
+-- the first such token of the first file that has one
+abbrev pub IsScreenBlame : List SourceFile → Blame → Type 0
+IsScreenBlame files blame = IsFirstFile IsScreened (IsTokenBlame blame) files
+
+-- ---- trees
+
+-- the tokens of a file nest no deeper than they may, and spell this tree
+abbrev pub HasTree : SourceFile → FileTree → Type 0
+HasTree file tree = (nesting (toks file.tokens) ≤ nesting_limit) × IsTreeOf (toks file.tokens) tree
+
+-- they spell some tree
+abbrev pub IsParsed : SourceFile → Type 0
+IsParsed file = (tree : FileTree) × HasTree file tree
+
+-- the trees of the program are those of its files
+abbrev pub AreTreesOf : List SourceFile → Program → Type 0
+AreTreesOf files program = AllZip HasTree files program.files
+
+-- the tokens of a file nest deeper than they may (E03), or they do not and spell no tree (E02)
+abbrev pub IsTreeBlame : Blame → SourceFile → Type 0
+IsTreeBlame blame file =
+    ((nesting_limit < nesting (toks file.tokens)) × (blame ≡ file_blame file.name (source_rule 3)))
+    ⊎ ((nesting (toks file.tokens) ≤ nesting_limit)
+    × ((tree : FileTree) → IsTreeOf (toks file.tokens) tree → ⊥)
+    × (blame ≡ file_blame file.name (source_rule 2)))
+
+-- the first file whose tokens do so
+abbrev pub IsParseBlame : List SourceFile → Blame → Type 0
+IsParseBlame files blame = IsFirstFile IsParsed (IsTreeBlame blame) files
+
+-- ---- meaning
+
+-- the lines of the tokens of each file
+abbrev pub lines_of : List SourceFile → List (List ℕ)
+lines_of files = map (λ file. map (λ token. token.line) file.tokens) files
+
+-- the name of the file of a number
+abbrev pub name_in : List SourceFile → ℕ → List ℕ
+name_in files number = unwrap_or (option_map (λ file. file.name) (slice_get files number)) []
+
+-- the blame of an offence: the line of its token in its file
+abbrev pub offence_blame : List SourceFile → Offence → Blame
+offence_blame files offence =
+    line_blame (name_in files offence.file) (line_in (lines_of files) offence.file offence.token)
+    (source_rule offence.rule.number)
+
+-- the program breaks a rule of E09 to E28, and this is its first offence
+abbrev pub IsOffenceBlame : List DbcMessage → List SourceFile → Program → Blame → Type 0
+IsOffenceBlame base files program blame =
+    (offence : Offence) × IsFirstOffence base program offence × (blame ≡ offence_blame files offence)
+
+-- the most cells, and the greatest weight, of a program
+abbrev pub most : ℕ
+most = 1000000
+
+-- the program breaks none of them, and its cells or its weight are too large (E29)
+abbrev pub IsSizeBlame : List DbcMessage → List ℕ → Program → Blame → Type 0
+IsSizeBlame base name program blame =
+    (offences_of base program ≡ [])
+    × ((most < cells_of_program base program) ⊎ (most < weight program))
+    × (blame ≡ file_blame name (source_rule 29))

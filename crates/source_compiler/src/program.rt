@@ -1,0 +1,195 @@
+// The code of a program, from its files.
+
+ghost use Rattle.std.specs.Prelude.{◌≡◌, ◌≤◌, ◌<◌, ◌^◌, ◌⊎◌, All, IfOk, length, map, slice_get, unwrap_or};
+ghost use Rattle.capl_include.specs.Answer.{token_count};
+ghost use Rattle.capl_include.specs.Blame.{file_blame, source_rule};
+ghost use Rattle.capl_lexer.specs.Reading.{token_limit};
+ghost use Rattle.capl_tree.specs.Weight.{weight};
+ghost use Rattle.check_names.specs.Names.{messages_of};
+ghost use Rattle.check_types.specs.Accepted.{IsAccepted};
+ghost use Rattle.gen_stmt.specs.Cells.{cell_count};
+ghost use Rattle.code_listing.specs.Program.{IsCodeOf};
+ghost use Rattle.typed_tree.specs.Size.{size};
+ghost use Rattle.typed_tree.specs.Sound.{IsSound};
+ghost use Rattle.source_compiler.specs.Source.{IsProgramBlame};
+ghost use Rattle.input_refusals.specs.Agreement.{IsBlamedOrNoMemory, Judges};
+ghost use Rattle.source_compiler.specs.Compiled.{IsCompiled};
+ghost use Rattle.source_compiler.specs.Program.{AreTreesOf, HasTree, IsFirstFile, IsOffenceBlame, IsParseBlame, IsScreenBlame, IsScreened, IsSizeBlame, IsTokenBlame, IsTreeBlame, lines_of, most, name_in, offence_blame};
+
+use crate::rules::{NOT_SPELLED, TOO_DEEP, TOO_LARGE, source_rule};
+use bytecode::Verified;
+use capl_include::SourceFile;
+use capl_lexer::screen;
+use capl_meaning::Offence;
+use capl_parser::{ParseRefusal, parse};
+use capl_tree::{FileTree, Program};
+use check_types::{CheckRefusal, check};
+use dbc_reader::Database;
+use gen_stmt::{CompileRefusal, compile};
+use input_refusals::{InputRefusal, blamed_file, blamed_line};
+use items::Items;
+use std::alloc::Global;
+use texts::{NoMemory, Text};
+use typed_source::laws::code_is_within_the_weight;
+use typed_tree::Typed;
+
+/// The code of the program of these files, the last of which has this name, with the messages of a
+/// database.
+pub(crate) fn code_of(
+    alloc: Global,
+    name: &Text,
+    files: &[SourceFile],
+    base: Option<&Database>,
+) -> Result<Verified, InputRefusal>
+    requires { token_count files.now ≤ token_limit }
+    ensures { Judges (IsCompiled (messages_of base.entry) files.now)
+        (IsProgramBlame (messages_of base.entry) name.now files.now) result }
+{
+    screen_files(alloc, files)?;
+    let program = parse_files(alloc, files)?;
+    let typed = check_program(alloc, name, files, &program, base)?;
+    code_is_within_the_weight();
+    let code = compile_program(alloc, name, &program, &typed)?;
+    Ok(code)
+}
+
+/// Blames the first token of the first file that has one which a program may not have.
+fn screen_files(alloc: Global, files: &[SourceFile]) -> Result<(), InputRefusal>
+    ensures { Judges (λ done. All IsScreened files.now) (IsScreenBlame files.now) result }
+{
+    for file in files {
+        screen_file(alloc, file)?;
+    }
+    Ok(())
+}
+
+/// Blames the first token of a file that a program may not have.
+fn screen_file(alloc: Global, file: &SourceFile) -> Result<(), InputRefusal>
+    ensures { Judges (λ done. IsScreened file.now) (λ blame. IsTokenBlame blame file.now) result }
+{
+    let tokens = file.tokens.as_slice();
+    match screen(tokens) {
+        Some((place, rule)) => {
+            let line = tokens[place].line;
+            Err(blamed_line(alloc, file.name.bytes(), line, rule))
+        }
+        None => Ok(()),
+    }
+}
+
+/// The trees of these files.
+fn parse_files(alloc: Global, files: &[SourceFile]) -> Result<Program, InputRefusal>
+    requires { token_count files.now ≤ token_limit }
+    ensures { Judges (AreTreesOf files.now) (IsParseBlame files.now) result }
+{
+    let mut trees = Vec::new(alloc);
+    for file in files {
+        let tree = parse_file(alloc, file)?;
+        trees.push(tree)?;
+    }
+    Ok(Program {
+        files: Items::from_list(trees),
+    })
+}
+
+/// The tree of a file.
+fn parse_file(alloc: Global, file: &SourceFile) -> Result<FileTree, InputRefusal>
+    requires { length file.now.tokens < 2 ^ 32 }
+    ensures { Judges (HasTree file.now) (λ blame. IsTreeBlame blame file.now) result }
+{
+    match parse(alloc, file.tokens.as_slice()) {
+        Ok(tree) => Ok(tree),
+        Err(ParseRefusal::Deep) => Err(blamed_file(alloc, &file.name, TOO_DEEP)),
+        Err(ParseRefusal::NotSpelled) => Err(blamed_file(alloc, &file.name, NOT_SPELLED)),
+        Err(ParseRefusal::NoMemory) => Err(InputRefusal::NoMemory),
+    }
+}
+
+/// The typed program of these files.
+fn check_program(
+    alloc: Global,
+    name: &Text,
+    files: &[SourceFile],
+    program: &Program,
+    base: Option<&Database>,
+) -> Result<Typed, InputRefusal>
+    ensures { Judges (IsAccepted (messages_of base.entry) program.now (lines_of files.now))
+        (λ blame. IsOffenceBlame (messages_of base.entry) files.now program.now blame
+        ⊎ IsSizeBlame (messages_of base.entry) name.now program.now blame) result }
+{
+    let lines = lines_of(alloc, files)?;
+    match check(alloc, program, &lines, base) {
+        Ok(typed) => Ok(typed),
+        Err(CheckRefusal::Offends(offence)) => Err(blamed_offence(alloc, files, &offence)),
+        Err(CheckRefusal::Size) => Err(blamed_file(alloc, name, TOO_LARGE)),
+        Err(CheckRefusal::NoMemory) => Err(InputRefusal::NoMemory),
+    }
+}
+
+/// The lines of the tokens of each file.
+fn lines_of(alloc: Global, files: &[SourceFile]) -> Result<Vec<Vec<u32>>, NoMemory>
+    ensures { IfOk result (λ lines. map (λ row. row.items) lines.items ≡ lines_of files.now) }
+{
+    let mut lines = Vec::new(alloc);
+    for file in files {
+        let row = lines_in(alloc, file)?;
+        lines.push(row)?;
+    }
+    Ok(lines)
+}
+
+/// The lines of the tokens of a file.
+fn lines_in(alloc: Global, file: &SourceFile) -> Result<Vec<u32>, NoMemory>
+    ensures { IfOk result (λ row. row.items ≡ map (λ token. token.line) file.now.tokens) }
+{
+    let mut row = Vec::new(alloc);
+    for token in file.tokens.as_slice() {
+        row.push(token.line)?;
+    }
+    Ok(row)
+}
+
+/// The refusal that blames an offence, or that of want of memory.
+fn blamed_offence(alloc: Global, files: &[SourceFile], offence: &Offence) -> InputRefusal
+    ensures { IsBlamedOrNoMemory (offence_blame files.now offence.now) result }
+{
+    let rule = source_rule(offence.rule.number);
+    match files.get(offence.file as usize) {
+        Some(file) => {
+            let line = line_at(file, offence.token);
+            blamed_line(alloc, file.name.bytes(), line, rule)
+        }
+        None => blamed_line(alloc, b"", 0, rule),
+    }
+}
+
+/// The line of a token of a file; 0 where there is no such token.
+fn line_at(file: &SourceFile, token: u32) -> u32
+    ensures { result ≡ unwrap_or (slice_get (map (λ t. t.line) file.now.tokens) token) 0 }
+{
+    match file.tokens.as_slice().get(token as usize) {
+        Some(token) => token.line,
+        None => 0,
+    }
+}
+
+/// The code of a typed program, which has few enough cells, or the blame of the file of this name where the
+/// program is too heavy.
+fn compile_program(
+    alloc: Global,
+    name: &Text,
+    program: &Program,
+    typed: &Typed,
+) -> Result<Verified, InputRefusal>
+    requires sound { IsSound typed.now }
+    requires bounded { size typed.now ≤ weight program.now }
+    requires few_cells { cell_count typed.now ≤ most }
+    ensures { Judges (λ code. IsCodeOf typed.now code × (weight program.now ≤ most))
+        (λ blame. (most < weight program.now) × (blame ≡ file_blame name.now (source_rule 29))) result }
+{
+    match compile(alloc, program, typed) {
+        Ok(code) => Ok(code),
+        Err(CompileRefusal::Size) => Err(blamed_file(alloc, name, TOO_LARGE)),
+        Err(CompileRefusal::NoMemory) => Err(InputRefusal::NoMemory),
+    }
+}

@@ -1,0 +1,45 @@
+// The rules that sources break, and blames without a column.
+
+ghost use Rattle.std.specs.Prelude.{◌≡◌};
+ghost use Rattle.capl_include.specs.Blame.{source_rule};
+ghost use Rattle.input_refusals.specs.Blame.{without_column};
+
+use texts::{Blame, Rule};
+
+/// The tokens of a file spell no tree.
+pub(crate) const NOT_SPELLED: Rule = Rule {
+    group: b'E',
+    number: 2,
+};
+
+/// The tokens of a file nest too deep.
+pub(crate) const TOO_DEEP: Rule = Rule {
+    group: b'E',
+    number: 3,
+};
+
+/// The program has too many cells or too great a weight.
+pub(crate) const TOO_LARGE: Rule = Rule {
+    group: b'E',
+    number: 29,
+};
+
+/// The rule on sources of this number.
+pub(crate) fn source_rule(number: u8) -> Rule
+    ensures { result ≡ source_rule number }
+{
+    Rule {
+        group: b'E',
+        number,
+    }
+}
+
+/// The same blame, which shows no column.
+pub(crate) fn without_column(blame: Blame) -> Blame
+    ensures { result ≡ without_column blame }
+{
+    Blame {
+        column: None,
+        ..blame
+    }
+}

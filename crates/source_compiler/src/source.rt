@@ -1,0 +1,62 @@
+// The source of a node.
+
+ghost use Rattle.std.specs.Prelude.{◌≡◌, ◌≤◌, IfOk, IfSome, IsErrOf};
+ghost use Rattle.capl_include.specs.Answer.{token_count};
+ghost use Rattle.capl_lexer.specs.Reading.{token_limit};
+ghost use Rattle.check_names.specs.Names.{messages_of};
+ghost use Rattle.texts.specs.Fault.{HasRisen};
+ghost use Rattle.source_compiler.specs.Source.{IsSourceBlame};
+ghost use Rattle.input_refusals.specs.Agreement.{Agrees};
+ghost use Rattle.source_compiler.specs.Compiled.{IsCompiledSource};
+ghost use Rattle.source_compiler.specs.Program.{FilesAt, IsFilesBlame};
+
+use crate::program::code_of;
+use crate::rules::without_column;
+use bytecode::Verified;
+use capl_include::{ExpandRefusal, SourceFile, expand};
+use dbc_reader::Database;
+use input_refusals::InputRefusal;
+use items::Items;
+use sim_outside::Files;
+use std::alloc::Global;
+use texts::Text;
+
+/// The code of the source of this name, with the messages of a database.
+pub fn read_source<F: Files>(
+    alloc: Global,
+    name: &Text,
+    base: Option<&Database>,
+    files: &mut F,
+) -> Result<Verified, InputRefusal>
+    ensures told { IfSome (F.held files.old) (λ contents.
+        Agrees (IsCompiledSource contents name.now (messages_of base.entry))
+        (IsSourceBlame contents name.now (messages_of base.entry)) result) }
+    ensures failed { IsErrOf result InputRefusal.Failed → HasRisen (F.faults files.old) (F.faults files.new) }
+    ensures faults_stay { F.faults files.old ≤ F.faults files.new }
+    ensures contents_stay { F.held files.new ≡ F.held files.old }
+{
+    let sources = read_files(alloc, name, files)?;
+    let code = code_of(alloc, name, sources.as_slice(), base)?;
+    Ok(code)
+}
+
+/// The files of the program of this name, in program order.
+fn read_files<F: Files>(
+    alloc: Global,
+    name: &Text,
+    files: &mut F,
+) -> Result<Items<SourceFile>, InputRefusal>
+    ensures told { IfSome (F.held files.old) (λ contents.
+        Agrees (FilesAt contents name.now) (IsFilesBlame contents name.now) result) }
+    ensures few { IfOk result (λ sources. token_count sources ≤ token_limit) }
+    ensures failed { IsErrOf result InputRefusal.Failed → HasRisen (F.faults files.old) (F.faults files.new) }
+    ensures faults_stay { F.faults files.old ≤ F.faults files.new }
+    ensures contents_stay { F.held files.new ≡ F.held files.old }
+{
+    match expand(alloc, files, name) {
+        Ok(expanded) => Ok(expanded.files),
+        Err(ExpandRefusal::Blamed(blame)) => Err(InputRefusal::Blamed(without_column(blame))),
+        Err(ExpandRefusal::Failed) => Err(InputRefusal::Failed),
+        Err(ExpandRefusal::NoMemory) => Err(InputRefusal::NoMemory),
+    }
+}

@@ -1,0 +1,6 @@
+-- The definitions of this crate.
+pub mod Code
+pub mod Reaction
+pub mod Ends
+pub mod Source
+pub mod Stands

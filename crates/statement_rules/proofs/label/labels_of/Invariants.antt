@@ -1,8 +1,0 @@
--- What was listed and what is left are the labels of all groups.
-use Rattle.std.proofs.Common.{◌≡◌, ◌++◌, drop}
-use Rattle.check_names.specs.Variable.{lent}
-use Rattle.statement_rules.specs.Statement.{labels_in}
-use Rattle.statement_rules.proofs.label.labels_of.Given as goal
-
-abbrev pub invariant-loop-group : goal.invariant-loop-group
-invariant-loop-group l = lent l.all.items ++ labels_in (drop l.group-index l.groups) ≡ labels_in l.groups

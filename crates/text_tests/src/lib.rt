@@ -1,0 +1,16 @@
+//! Tests of the calls that read and write texts beside sources (databases, logs, replays, scenarios) and that
+//! make random text: a module for each crate that is tested.
+//!
+//! They stand here, above those crates, so that each of those is proved without them.
+#![tactic(auto)]
+
+#[cfg(test)]
+mod databases;
+#[cfg(test)]
+mod generated;
+#[cfg(test)]
+mod log_lines;
+#[cfg(test)]
+mod replays;
+#[cfg(test)]
+mod scenarios;

@@ -1,6 +1,0 @@
--- There are as many timers as at the start.
-use Rattle.std.proofs.Common.{◌≡◌}
-use Rattle.timer_queue.proofs.tests.set_from_the_last.Given as goal
-
-abbrev pub invariant-loop-done : goal.invariant-loop-done
-invariant-loop-done l = l.queue.count ≡ l.fn.queue.count

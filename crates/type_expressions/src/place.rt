@@ -1,0 +1,199 @@
+// Places of numbers: those of names, of elements of arrays and of parts of messages.
+
+ghost use Rattle.std.specs.Prelude.{◌≡◌, pos, IfOk, None, Option, Some};
+ghost use Rattle.std.specs.Option.{option_map_or};
+ghost use Rattle.capl_meaning.specs.Message as meant;
+ghost use Rattle.capl_meaning.specs.Message.{array_in, member_named, signals_of};
+ghost use Rattle.capl_meaning.specs.Names.{Names, direction, means};
+ghost use Rattle.capl_meaning.specs.Sort.{number_from, sort_of_element, sort_of_member, sort_of_name};
+ghost use Rattle.capl_meaning.specs.Variable.{Variable};
+ghost use Rattle.typed_laws.specs.Laid.{message_slot};
+ghost use Rattle.typed_tree.specs.declared.expression.TExpr.TheVariants.{Const};
+ghost use Rattle.typed_tree.specs.Forms.{Bytes};
+ghost use Rattle.typed_source.specs.Expression.{of_name, place_of_element, place_of_field, place_of_member, place_of_name};
+ghost use Rattle.check_sorts.specs.Form.{signals_in};
+ghost use Rattle.check_sorts.specs.Message.{held_in, member_in};
+ghost use Rattle.check_sorts.specs.Scope.{IsMeaning, scope_in};
+ghost use Rattle.type_expressions.specs.declared.made.Shape.TheVariants as shape;
+ghost use Rattle.type_expressions.specs.Made.{AreTreeTables, place_in, value_in};
+
+use crate::made::{Part, Shape, TreeTables, Walked};
+use capl_meaning::{MessageField, Sort};
+use capl_tree::Expr;
+use check_sorts::{
+    DeclaredSignals, Form, Held, Meaning, Member, Scope, direction, member_named, number_from,
+    sort_of_element, sort_of_form, sort_of_member,
+};
+use int_kinds::Kind;
+use texts::NoMemory;
+use typed_tree::{Place, TExpr};
+
+/// The place of a variable that a name means, where it is a number.
+fn place_of_name(tables: &TreeTables, meaning: Meaning) -> Option<Place>
+    ensures { (names : Names) (means : Option Variable) → AreTreeTables names tables.now →
+        IsMeaning names means meaning.entry → result ≡ place_of_name names means }
+{
+    match meaning.form {
+        Form::Number { .. } => Some(Place::Cell {
+            slot: tables.layout.slot(meaning.number),
+        }),
+        Form::Array { .. } | Form::Message(_) | Form::Timer(_) | Form::Misfit => None,
+    }
+}
+
+/// A name that means no variable.
+fn unknown_name(name: &[u8]) -> Walked
+    ensures value { value_in result.shape ≡ Const (option_map_or pos (direction name.now) (pos 0)) }
+    ensures place { place_in result.shape ≡ None }
+    ensures sort { result.sort ≡ sort_of_name name.now None }
+{
+    match direction(name) {
+        None => Walked {
+            shape: Shape::Value(TExpr::Const(0)),
+            sort: Sort::Bad,
+        },
+        Some(number) => Walked {
+            shape: Shape::Value(TExpr::Const(i128::from(number))),
+            sort: Sort::Number(Kind::Long),
+        },
+    }
+}
+
+/// A name at a token.
+pub(crate) fn name(scope: Scope, tables: &TreeTables, name: &[u8], at: u32) -> Walked
+    requires { AreTreeTables scope.names.now tables.now }
+    ensures value { let s = scope_in scope.entry in
+        value_in result.shape ≡ of_name s.names name.now (means s name.now at) }
+    ensures place { let s = scope_in scope.entry in
+        place_in result.shape ≡ place_of_name s.names (means s name.now at) }
+    ensures sort { result.sort ≡ sort_of_name name.now (means (scope_in scope.entry) name.now at) }
+{
+    match scope.meaning(name, at) {
+        None => unknown_name(name),
+        Some(meaning) => Walked {
+            shape: Shape::Place(place_of_name(tables, meaning)),
+            sort: sort_of_form(meaning.form),
+        },
+    }
+}
+
+/// An element of what an expression of a sort names, if that is an array.
+pub(crate) fn element(
+    scope: Scope,
+    tables: &TreeTables,
+    base: &Expr,
+    sort: Sort,
+    index: Part,
+) -> Walked
+    requires { AreTreeTables scope.names.now tables.now }
+    ensures { let s = scope_in scope.entry in result ≡ record {
+      shape = shape.Place (place_of_element s.names (array_in s base.now) index.tree);
+      sort = sort_of_element sort index.sort;
+    } }
+{
+    let sort = sort_of_element(sort, index.sort);
+    let place = match scope.array_in(base) {
+        None => None,
+        Some(number) => Some(Place::Elem {
+            base: tables.layout.slot(number),
+            len: tables.layout.elements(number),
+            index: index.tree,
+        }),
+    };
+    Walked {
+        shape: Shape::Place(place),
+        sort,
+    }
+}
+
+/// The first cell of a message.
+pub fn message_slot(tables: &TreeTables, held: Held) -> u32
+    ensures { (names : Names) (message : meant.Held) → AreTreeTables names tables.now →
+        held_in names held.entry ≡ Some message → result ≡ message_slot names message }
+{
+    match held {
+        Held::Frame(_) => 0,
+        Held::Variable { number, .. } => tables.layout.slot(number),
+    }
+}
+
+/// The signals of a message.
+fn signals_of(held: Held<'_>) -> DeclaredSignals<'_>
+    ensures { (names : Names) (message : meant.Held) → held_in names held.entry ≡ Some message →
+        signals_in result ≡ signals_of message }
+{
+    match held {
+        Held::Frame(signals) | Held::Variable { signals, .. } => signals,
+    }
+}
+
+/// The place of a field of the message at a cell, if its number is one of 32 bits.
+fn place_of_field(at: u32, field: MessageField) -> Result<Place, NoMemory>
+    ensures { IfOk result (λ place. place ≡ place_of_field at field) }
+{
+    match field {
+        MessageField::Id => Ok(Place::Set { msg: at, field: 0 }),
+        MessageField::Dlc => Ok(Place::Set { msg: at, field: 1 }),
+        MessageField::Rtr => Ok(Place::Set { msg: at, field: 2 }),
+        MessageField::Can => Ok(Place::Set { msg: at, field: 3 }),
+        MessageField::Dir => {
+            let slot = at.checked_add(4).ok_or(NoMemory)?;
+            Ok(Place::Cell { slot })
+        }
+        MessageField::Time => {
+            let slot = at.checked_add(5).ok_or(NoMemory)?;
+            Ok(Place::Cell { slot })
+        }
+    }
+}
+
+/// The place of a member of the message at a cell, if it is a field or a signal that can be used.
+fn place_of_member(at: u32, member: Member) -> Result<Option<Place>, NoMemory>
+    ensures { IfOk result (λ place. place ≡ place_of_member at (member_in member)) }
+{
+    match member {
+        Member::Field(field) => {
+            let place = place_of_field(at, field)?;
+            Ok(Some(place))
+        }
+        Member::Signal(layout) => Ok(Some(Place::Signal { msg: at, layout })),
+        Member::Unusable | Member::Unknown { .. } => Ok(None),
+    }
+}
+
+/// A member of a message, by its name.
+pub(crate) fn member(tables: &TreeTables, held: Held, name: &[u8]) -> Result<Walked, NoMemory>
+    ensures { (names : Names) (message : meant.Held) → AreTreeTables names tables.now →
+        held_in names held.entry ≡ Some message → IfOk result (λ walked. walked ≡ record {
+          shape = shape.Place
+              (place_of_member (message_slot names message) (member_named (signals_of message) name.now));
+          sort = sort_of_member (member_named (signals_of message) name.now);
+        }) }
+{
+    let member = member_named(signals_of(held), name);
+    let place = place_of_member(message_slot(tables, held), member)?;
+    Ok(Walked {
+        shape: Shape::Place(place),
+        sort: sort_of_member(member),
+    })
+}
+
+/// Payload bytes of a message as a number of a kind.
+pub(crate) fn payload(tables: &TreeTables, held: Held, kind: Kind, index: Part) -> Walked
+    ensures { (names : Names) (message : meant.Held) → AreTreeTables names tables.now →
+        held_in names held.entry ≡ Some message → result ≡ record {
+          shape = shape.Place (Some (Bytes (message_slot names message) kind index.tree));
+          sort = number_from index.sort kind;
+        } }
+{
+    let sort = number_from(index.sort, kind);
+    let place = Place::Bytes {
+        msg: message_slot(tables, held),
+        kind,
+        index: index.tree,
+    };
+    Walked {
+        shape: Shape::Place(Some(place)),
+        sort,
+    }
+}

@@ -1,0 +1,6 @@
+-- Each byte fits.
+use Rattle.std.proofs.Common.{arith}
+use Rattle.type_starts.proofs.payload.are_bytes.Goals as goal
+
+pub returns : goal.returns
+returns c = λ k. omega (arith, c.type_inv.bytes k)

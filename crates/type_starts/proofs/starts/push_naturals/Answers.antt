@@ -1,0 +1,14 @@
+-- One more number.
+use Rattle.std.proofs.Common.{[], ◌∷◌, get_or, take, ◌∙◌, ap}
+use Rattle.std.specs.Prelude.{map, pos}
+use Rattle.std.proofs.lemmas.List.{map-append, take_more}
+use Rattle.type_starts.proofs.StartLemmas.{goes_more_raw, passed}
+use Rattle.type_starts.proofs.starts.push_naturals.Goals as goal
+
+pub loop-n-preserved : goal.loop-n-preserved
+loop-n-preserved c =
+    let bytes = c.args.numbers.now in
+    let i = c.loop-n.n-index in
+    goes_more_raw _ _ _ _ _ _ (pos (get_or bytes i 0)) c.loop-n.invariant c.in_ok-push.ensures
+    (passed c.from.result (record { sfits = c.from.type_inv }) ∙ c.from.ensures)
+    (ap (map pos) (take_more bytes i 0 c.loop-n-test.true) ∙ map-append pos (take i bytes) (get_or bytes i 0 ∷ []))

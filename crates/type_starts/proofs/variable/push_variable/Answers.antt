@@ -1,0 +1,25 @@
+-- The cells of a message.
+use Rattle.std.proofs.Common.{◌≡◌, Option, Some, sym, ap, subst, ◌∙◌}
+use Rattle.std.specs.Prelude.{OnOk}
+use Rattle.std.specs.Option.{option_map_or}
+use Rattle.capl_meaning.specs.Constant.{scope_of}
+use Rattle.capl_meaning.specs.Variable.{Misfit, Variable}
+use Rattle.check_names.specs.Variable.{variable_in}
+use Rattle.check_sorts.specs.Form.{type_in}
+use Rattle.check_sorts.specs.Scope.{scope_in}
+use Rattle.std.specs.Option.{option_copied}
+use Rattle.type_starts.specs.Starts.{Goes}
+use Rattle.type_starts.proofs.VariableLemmas.{message_first}
+use Rattle.type_starts.proofs.variable.push_variable.Goals as goal
+
+pub returns-in_ok-message-in-Message : goal.returns-in_ok-message-in-Message
+returns-in_ok-message-in-Message c = λ v at.
+    let names = c.args.names.now in
+    let d : Variable = variable_in names.base c.in-Some.declared.now in
+    let same : d ≡ v = let e : Some d ≡ Some v = c.in-Some.ensures ∙ at in cc in
+    subst (λ cells. OnOk c.push_message.result (Goes c.args.starts.now c.push_message.new.starts cells))
+    (message_first names v (scope_in c.scope_of.result) c.token.result (type_in c.in-Message.what) (option_copied c.init_of-init.result)
+    (sym (c.in-Message.ensures ∙ ap (λ (o : Option Variable). option_map_or (λ v. v.form) o Misfit) at))
+    (c.scope_of.ensures.scope ∙ ap (scope_of names) same) (c.token.ensures names.base ∙ ap (λ (v : Variable). v.token) same)
+    (c.init_of-init.ensures names.base ∙ ap (λ (v : Variable). v.init) same))
+    (c.push_message.ensures _ c.in_ok-message-in-Message.ensures)

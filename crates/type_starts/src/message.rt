@@ -1,0 +1,104 @@
+// Messages, and the rules by which their members are written.
+
+ghost use Rattle.std.specs.Prelude.{◌≡◌, IfOk};
+ghost use Rattle.message_cells.specs.Message.{written_id};
+ghost use Rattle.capl_meaning.specs.Initial.{with_bytes_at, with_member};
+ghost use Rattle.capl_meaning.specs.Store.{MessageRecord, with_field, with_signal};
+ghost use Rattle.check_sorts.specs.Message.{member_in};
+ghost use Rattle.type_starts.specs.Message.{IsMessage};
+
+use crate::payload::{are_bytes, has_eight_bytes, put_bytes, size};
+use capl_meaning::MessageField;
+use check_sorts::Member;
+use int_kinds::{Kind, is_number, residue};
+use signal_codec::{Layout, put, usable};
+use texts::NoMemory;
+
+/// A message whose direction and time are 0.
+#[derive(Clone, Copy, Debug)]
+pub(crate) struct Message {
+    /// The identifier, with bit 31 for an extended one.
+    pub(crate) id: u64,
+    /// The length.
+    pub(crate) dlc: u64,
+    /// The remote bit.
+    pub(crate) rtr: u64,
+    /// The channel.
+    pub(crate) can: u64,
+    /// The payload.
+    pub(crate) payload: [u8; 8],
+}
+
+/// What is written to the identifier: the low 29 bits with bit 31, and the low 11 without it.
+fn written_id(n: i128) -> u64
+    ensures { result ≡ written_id n }
+{
+    let id = residue(Kind::Dword, n);
+    if id >= 0x8000_0000 {
+        0x8000_0000 + id % 0x2000_0000
+    } else {
+        id % 0x800
+    }
+}
+
+/// A message once a number is stored in a field by its rule.
+pub(crate) fn with_field(field: MessageField, n: i128, message: Message) -> Message
+    ensures { (m : MessageRecord) → IsMessage message m → IsMessage result (with_field field n m) }
+{
+    let mut message = message;
+    match field {
+        MessageField::Id => message.id = written_id(n),
+        MessageField::Dlc => message.dlc = residue(Kind::Byte, n).min(8),
+        MessageField::Rtr => message.rtr = residue(Kind::Byte, n).min(1),
+        MessageField::Can => message.can = residue(Kind::Word, n),
+        MessageField::Dir | MessageField::Time => {}
+    }
+    message
+}
+
+/// A message once a number is stored in its payload bytes from one on, wrapped to a kind; none where there
+/// is no such byte.
+pub(crate) fn with_bytes(kind: Kind, from: i128, n: i128, message: Message) -> Message
+    ensures { (m : MessageRecord) → IsMessage message m → IsMessage result (with_bytes_at kind from n m) }
+{
+    has_eight_bytes(&message.payload);
+    let mut message = message;
+    if 0 <= from && from < 8 {
+        put_bytes(
+            size(kind),
+            from as u32,
+            residue(kind, n),
+            &mut message.payload,
+        );
+        has_eight_bytes(&message.payload);
+    }
+    message
+}
+
+/// A message once a number is stored in a signal: its low bits. A signal that cannot be used, and a
+/// number that no variable can have, are refused as if there were no memory for them: no source has them.
+pub(crate) fn with_signal(layout: &Layout, n: i128, message: Message) -> Result<Message, NoMemory>
+    ensures { (m : MessageRecord) → IsMessage message m →
+        IfOk result (λ written. IsMessage written (with_signal layout.now n m)) }
+{
+    if !usable(layout) || !is_number(n) {
+        return Err(NoMemory);
+    }
+    are_bytes(message.payload.as_slice());
+    let mut message = message;
+    put(layout, &mut message.payload, n);
+    has_eight_bytes(&message.payload);
+    Ok(message)
+}
+
+/// A message once a number is stored in a member.
+pub(crate) fn with_member(member: Member, n: i128, message: Message) -> Result<Message, NoMemory>
+    ensures { (m : MessageRecord) → IsMessage message m →
+        IfOk result (λ written. IsMessage written (with_member (member_in member) n m)) }
+{
+    match member {
+        Member::Field(field) => Ok(with_field(field, n, message)),
+        Member::Signal(layout) => with_signal(&layout, n, message),
+        Member::Unusable | Member::Unknown { .. } => Ok(message),
+    }
+}

@@ -1,0 +1,156 @@
+// The first cells of variables.
+
+ghost use Rattle.std.specs.Prelude.{◌≡◌, IfOk, List, OnOk, Some, length, slice_get};
+ghost use Rattle.std.specs.Option.{option_copied, option_map};
+ghost use Rattle.dbc_reader.specs.declared.message.DbcMessage.{DbcMessage};
+ghost use Rattle.capl_meaning.specs.Constant.{scope_of};
+ghost use Rattle.capl_meaning.specs.Initial.{first_element, first_store};
+ghost use Rattle.capl_meaning.specs.Store.{MessageRecord, lay, message_cells, row};
+ghost use Rattle.capl_meaning.specs.Variable.{Variable};
+ghost use Rattle.typed_laws.specs.Laid.{AreDistinct};
+ghost use Rattle.typed_laws.specs.Starts.{first_cells_of};
+ghost use Rattle.typed_source.specs.Program.{starts_from};
+ghost use Rattle.check_names.specs.Variable.{variable_in};
+ghost use Rattle.check_sorts.specs.Constant.{AreConstantsOf};
+ghost use Rattle.check_sorts.specs.Scope.{scope_in};
+ghost use Rattle.type_starts.specs.Message.{IsMessage};
+ghost use Rattle.type_starts.specs.Starts.{Goes};
+
+use crate::message::Message;
+use crate::starts::{Starts, push, push_bytes, push_naturals};
+use crate::value::{Spot, first_element, first_message, first_number};
+use capl_tree::Init;
+use check_names::{Declared, Names, Source};
+use check_sorts::{Constants, Form, Scope, ThisForm, form_of};
+use int_kinds::Kind;
+use std::alloc::Global;
+use texts::NoMemory;
+
+/// How many cells the event has, which stand before those of the variables.
+const EVENT_CELLS: u32 = 15;
+
+/// Puts the first numbers of an array of a kind in the next cells.
+fn push_elements(
+    starts: &mut Starts,
+    spot: &Spot,
+    kind: Kind,
+    init: Option<&Init>,
+    count: u32,
+) -> Result<(), NoMemory>
+    requires { AreConstantsOf spot.now.scope.names.now spot.now.constants.now }
+    ensures { OnOk result (Goes starts.old starts.new (row
+        (first_element (scope_in spot.now.scope) spot.now.token kind (option_copied init.entry)) 0 count)) }
+{
+    for index in 0..count {
+        push(starts, first_element(spot, kind, init, index))?;
+    }
+    Ok(())
+}
+
+/// Puts a message in the next cells.
+fn push_message(starts: &mut Starts, message: &Message) -> Result<(), NoMemory>
+    ensures { (m : MessageRecord) → IsMessage message.now m →
+        OnOk result (Goes starts.old starts.new (message_cells m)) }
+{
+    let fields = [message.id, message.dlc, message.rtr, message.can, 0, 0];
+    push_naturals(starts, fields.as_slice())?;
+    push_bytes(starts, message.payload.as_slice())?;
+    Ok(())
+}
+
+/// Where a variable is declared.
+fn scope_of<'a, 'p>(names: &'a Names<'p>, declared: &Declared) -> Scope<'a, 'p>
+    ensures names { result.names.now ≡ names.now }
+    ensures scope { scope_in result ≡ scope_of names.now (variable_in names.now.base declared.now) }
+{
+    Scope {
+        names,
+        owner: declared.place.owner,
+        file: declared.place.file,
+        this: ThisForm::NoThis,
+        gives: None,
+    }
+}
+
+/// The initialiser of a variable, if it has one.
+fn init_of<'p>(declared: &Declared<'p>) -> Option<&'p Init>
+    ensures { (base : List DbcMessage) → option_copied result ≡ (variable_in base declared.now).init }
+{
+    match declared.source {
+        Source::Item { item, .. } => item.init.as_ref(),
+        Source::Parameter(_) => None,
+    }
+}
+
+/// The declared variable of a number, or None where there is none.
+fn declared_at<'a, 'p>(names: &'a Names<'p>, number: u32) -> Option<&'a Declared<'p>>
+    ensures { option_map (λ d. variable_in names.now.base d.now) result
+        ≡ slice_get names.now.variables number }
+{
+    names.variables().get(number as usize)
+}
+
+/// How many variables a program has, if they are numbered by 32 bits.
+fn variable_count(names: &Names) -> Result<u32, NoMemory>
+    ensures { IfOk result (λ count. count ≡ length names.now.variables) }
+{
+    match u32::try_from(names.variables().len()) {
+        Ok(count) => Ok(count),
+        Err(_) => Err(NoMemory),
+    }
+}
+
+/// Puts the first cells of the variable of a number in the next cells.
+pub(crate) fn push_variable(
+    starts: &mut Starts,
+    names: &Names,
+    constants: &Constants,
+    number: u32,
+) -> Result<(), NoMemory>
+    requires { AreConstantsOf names.now constants.now }
+    ensures { (v : Variable) → slice_get names.now.variables number ≡ Some v →
+        OnOk result (Goes starts.old starts.new (first_cells_of names.now v)) }
+{
+    let Some(declared) = declared_at(names, number) else {
+        return Ok(());
+    };
+    let spot = Spot {
+        constants,
+        scope: scope_of(names, declared),
+        token: declared.token(),
+    };
+    let init = init_of(declared);
+    match form_of(names, number) {
+        Form::Number { kind, .. } => push(starts, first_number(&spot, kind, init)),
+        Form::Array { kind, .. } => {
+            push_elements(starts, &spot, kind, init, constants.elements(names, number))
+        }
+        Form::Message(what) => {
+            let message = first_message(&spot, what, init)?;
+            push_message(starts, &message)
+        }
+        Form::Timer(_) | Form::Misfit => Ok(()),
+    }
+}
+
+/// What the cells of a program's variables hold at first, behind the cells of the event: the cells that do
+/// not begin with 0, each with its number. Takes time linear in the number of cells and the initialisers.
+pub fn first_values(
+    alloc: Global,
+    names: &Names,
+    constants: &Constants,
+) -> Result<Vec<(u32, i128)>, NoMemory>
+    requires constants { AreConstantsOf names.now constants.now }
+    requires distinct { AreDistinct names.now.variables }
+    ensures { IfOk result (λ starts. starts.items ≡ starts_from 15 (lay names.now (first_store names.now))) }
+{
+    let count = variable_count(names)?;
+    let mut starts = Starts {
+        cell: EVENT_CELLS,
+        all: Vec::new(alloc),
+    };
+    for number in 0..count {
+        push_variable(&mut starts, names, constants, number)?;
+    }
+    Ok(starts.all)
+}

@@ -1,0 +1,127 @@
+// Where type_expressions lays variables, and the trees of an expression, a place, arguments and statements.
+
+ghost use Rattle.type_expressions.specs.Made.{AreTreeTables};
+
+use super::statements::check_made;
+use capl_meaning::Sort;
+use capl_tree::{Decl, DeclType, Expr, Program, TopItem};
+use check_calls::Calls;
+use check_names::Names;
+use check_sorts::{Constants, Scope};
+use int_kinds::{BinOp, Kind};
+use items::{Boxed, Items};
+use reader_tests::forms::{declaration, number, program_of, undeclared, variable};
+use std::alloc::Global;
+use std::process::Abort;
+use std::test::Fail;
+use type_expressions::{
+    Layout, TreeTables, cell_kinds, make_expression, make_place, make_row, timer_units,
+};
+use type_statements::StatementTables;
+use typed_tree::TExpr;
+
+/// A declaration of a variable of a type, by the token of its name.
+fn declared(alloc: Global, what: DeclType, name: &[u8], at: u32) -> Result<Decl, Fail> {
+    declaration(alloc, what, variable(alloc, name, at)?, at)
+}
+
+/// `variables { message * m; msTimer t; byte b; }`
+fn program(alloc: Global) -> Result<Program, Fail> {
+    let byte = DeclType::Number {
+        kind: Kind::Byte,
+        fixed: false,
+    };
+    let mut variables = Vec::new(alloc);
+    variables.push(declared(alloc, DeclType::Any, b"m", 4)?)?;
+    variables.push(declared(alloc, DeclType::Millis, b"t", 7)?)?;
+    variables.push(declared(alloc, byte, b"b", 10)?)?;
+    let variables = TopItem::Variables(Items::from_list(variables));
+    program_of(alloc, vec![in alloc; variables]?)
+}
+
+#[test]
+fn variables_lie_one_behind_the_other(rt: HostRuntime) -> Result<(), Fail> {
+    let alloc = rt.alloc();
+    let program = program(alloc)?;
+    let names = Names::build(alloc, &program, None)?;
+    let constants = Constants::build(alloc, &names)?;
+    let layout = Layout::build(alloc, &names, &constants)?.ok_or("it has few cells")?;
+    assert_eq!(rt; layout.slot(0), 15);
+    assert_eq!(rt; layout.slot(2), 29);
+    assert_eq!(rt; layout.timer(1), 0);
+    assert_eq!(rt; layout.elements(2), 0);
+    let kinds = cell_kinds(alloc, &names, &layout)?;
+    assert_eq!(rt; kinds.len(), 30);
+    assert_eq!(rt; kinds.as_slice().get(29).copied(), Some(Kind::Byte));
+    assert_eq!(rt; timer_units(alloc, &names)?.as_slice(), [1_000].as_slice());
+    Ok(())
+}
+
+/// `1 + 3000000000`
+fn sum(alloc: Global) -> Result<Expr, Fail> {
+    Ok(Expr::Binary {
+        op: BinOp::Add,
+        left: Boxed::new(alloc, number(1, 0))?,
+        right: Boxed::new(alloc, number(3_000_000_000, 0))?,
+        at: 0,
+    })
+}
+
+/// What the calls make of the sum, where it stands outside of procedures.
+fn check_sum(rt: &impl Abort, alloc: Global, names: &Names, tables: &TreeTables) -> Result<(), Fail>
+    requires { AreTreeTables names.now tables.now }
+{
+    let scope = Scope::outside(names, 0);
+    let sum = sum(alloc)?;
+    let made = make_expression(alloc, scope, tables, &sum)?;
+    assert_eq!(rt; made.sort, Sort::Number(Kind::Dword));
+    let is_sum = matches!(
+        made.tree,
+        TExpr::Binary {
+            op: BinOp::Add,
+            kind: Kind::Dword,
+            ..
+        }
+    );
+    assert!(rt; is_sum);
+    let made = make_place(alloc, scope, tables, &sum)?;
+    assert!(rt; made.place.is_none());
+    Ok(())
+}
+
+/// What is made of a row of a number.
+fn check_row(rt: &impl Abort, alloc: Global, names: &Names, tables: &TreeTables) -> Result<(), Fail>
+    requires { AreTreeTables names.now tables.now }
+{
+    let row = make_row(
+        alloc,
+        Scope::outside(names, 0),
+        tables,
+        [number(7, 0)].as_slice(),
+    )?;
+    assert_eq!(rt; row.trees.len(), 1);
+    assert_eq!(rt; row.sorts.as_slice(), [Sort::Number(Kind::Long)].as_slice());
+    Ok(())
+}
+
+#[test]
+fn expressions_and_statements_have_trees(rt: HostRuntime) -> Result<(), Fail> {
+    let alloc = rt.alloc();
+    let program = undeclared(alloc);
+    let names = Names::build(alloc, &program, None)?;
+    let constants = Constants::build(alloc, &names)?;
+    let calls = Calls::build(alloc, &names)?;
+    let layout = Layout::build(alloc, &names, &constants)?.ok_or("it has few cells")?;
+    let tables = TreeTables {
+        layout: &layout,
+        calls: &calls,
+    };
+    check_sum(&rt, alloc, &names, &tables)?;
+    check_row(&rt, alloc, &names, &tables)?;
+    let tables = StatementTables {
+        trees: tables,
+        constants: &constants,
+    };
+    check_made(&rt, alloc, &names, &tables)?;
+    Ok(())
+}
