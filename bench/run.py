@@ -29,7 +29,7 @@ import tempfile
 HERE = pathlib.Path(__file__).resolve().parent
 ROOT = HERE.parent
 PROGRAM = "machine_bench"
-STANDS_ON = "stack_vm bytecode vm_host signal_codec can_frame int_kinds sim_outside items message_cells write_format".split()
+STANDS_ON = "stack_vm bytecode vm_host run_effects signal_codec can_frame int_kinds texts items message_cells write_format".split()
 KINDS = "Byte Word Dword Qword Int Long Int64 Char".split()
 OPERATORS = "Or Xor And Equal NotEqual Less LessEqual Greater GreaterEqual Shl Shr Add Sub Mul Div Rem".split()
 LAYOUTS = {"LITTLE": (3, 12, "false", "true"), "BIG": (29, 17, "true", "false")}

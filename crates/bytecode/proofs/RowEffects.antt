@@ -9,15 +9,15 @@ use Rattle.int_kinds.specs.declared.operators.BinOp.{BinOp}
 use Rattle.int_kinds.specs.declared.operators.BinOp.TheVariants.{OrElse, AndAlso}
 use Rattle.int_kinds.specs.Arithmetic.{value}
 use Rattle.write_format.specs.Format.{FormatText, char_arrays, numbers_taken, rendered}
-use Rattle.vm_host.specs.Effect.{Effect}
-use Rattle.vm_host.specs.Effect as effect
+use Rattle.run_effects.specs.Effect.{Effect}
+use Rattle.run_effects.specs.Effect as effect
 use Rattle.bytecode.specs.declared.code.Code.{Code}
 use Rattle.bytecode.specs.declared.instr.Instr.{Instr}
 use Rattle.bytecode.specs.declared.instr.Instr.TheVariants.{Push, Load, Store, Check, Elem, SetElem, Bytes, SetBytes, Sig, SetSig, SetField, Bin, Neg, Inv, Conv, Not, Dup, Drop, Jump, Zero, Case, Back, Turn, Call, Ret, Write, Send, Copy, Stop, Set, Cancel, Active, Now}
 use Rattle.bytecode.specs.Laws.{BeginsWith}
 use Rattle.bytecode.specs.Machine.{Machine, Next, Goes, Ends, Stuck}
 use Rattle.message_cells.specs.Message.{frame_of, message_at, size, write_rules}
-use Rattle.vm_host.specs.Duration.{micros}
+use Rattle.run_effects.specs.Duration.{micros}
 use Rattle.bytecode.specs.Step.{after_cancel, after_effect, after_set, gives_or_traps, goes_on, indexing, needing, operates, returns_to, row, stores, taking_one, taking_turn, taking_two, unless, writes}
 
 -- a list begins with itself

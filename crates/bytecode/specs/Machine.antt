@@ -1,7 +1,7 @@
 -- The state of the stack machine, and what a step makes of it.
 use Rattle.std.specs.Prelude.{ℕ, Bool, List, ℤ}
-use Rattle.vm_host.specs.Effect.{Effect}
-use Rattle.vm_host.specs.declared.outcome.Outcome.{Outcome}
+use Rattle.run_effects.specs.Effect.{Effect}
+use Rattle.run_effects.specs.declared.outcome.Outcome.{Outcome}
 
 -- a state: the place of the next instruction; the numbers on the stack, the top first; where each open
 -- call returns to, the innermost first; the cells; the turns that are left; which timers are active; and

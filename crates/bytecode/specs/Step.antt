@@ -10,11 +10,11 @@ use Rattle.int_kinds.specs.Kind.{wrap}
 use Rattle.int_kinds.specs.Arithmetic.{inverted, negated, truth, value}
 use Rattle.signal_codec.specs.Signal.{payload_with, signal_value}
 use Rattle.write_format.specs.Format.{FormatText, char_arrays, numbers_taken, rendered}
-use Rattle.vm_host.specs.Effect.{Effect}
-use Rattle.vm_host.specs.Effect as effect
-use Rattle.vm_host.specs.Duration.{micros}
-use Rattle.vm_host.specs.declared.outcome.Outcome.TheVariants.{Done, Trapped, Cut}
-use Rattle.vm_host.specs.declared.outcome.TrapKind.TheVariants.{ZeroDivisor, Index}
+use Rattle.run_effects.specs.Effect.{Effect}
+use Rattle.run_effects.specs.Effect as effect
+use Rattle.run_effects.specs.Duration.{micros}
+use Rattle.run_effects.specs.declared.outcome.Outcome.TheVariants.{Done, Trapped, Cut}
+use Rattle.run_effects.specs.declared.outcome.TrapKind.TheVariants.{ZeroDivisor, Index}
 use Rattle.bytecode.specs.declared.code.Code.{Code}
 use Rattle.bytecode.specs.declared.instr.Instr.{Instr}
 use Rattle.bytecode.specs.declared.instr.Instr.TheVariants.{Push, Load, Store, Check, Elem, SetElem, Bytes, SetBytes, Sig, SetSig, SetField, Bin, Neg, Inv, Conv, Not, Dup, Drop, Jump, Zero, Case, Back, Turn, Call, Ret, Write, Send, Copy, Stop, Set, Cancel, Active, Now}

@@ -5,7 +5,7 @@ use Rattle.bytecode.specs.declared.code.Code.{Code}
 use Rattle.bytecode.specs.declared.code.Fun.{Fun}
 use Rattle.bytecode.specs.declared.instr.Instr.{Instr}
 use Rattle.bytecode.specs.Rule.{IsIn, KeepsRule}
-use Rattle.vm_host.specs.Event.{selectors_of}
+use Rattle.run_effects.specs.Event.{selectors_of}
 use Rattle.bytecode.specs.Tables.{KeepsTables}
 
 -- functions that cover the places from one up to an end, in order and without a gap, and none of them empty

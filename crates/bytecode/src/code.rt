@@ -3,7 +3,7 @@
 use crate::instr::Instr;
 use int_kinds::Kind;
 use items::Items;
-use vm_host::Event;
+use run_effects::Event;
 use write_format::Format;
 
 /// A function: the places from `start` up to `end`, which is not one of them.

@@ -3,9 +3,9 @@
 ghost use Rattle.std.specs.Prelude.{◌≡◌, ◌≢◌, ◌↔◌, ◌≤◌, AllPairs, All, IsSomeAnd, IsTrue};
 ghost use Rattle.std.specs.List.Sorted.{IsNonDecreasing, IsNonDecreasingBy};
 ghost use Rattle.bytecode.specs.Inside.Distinct.{AreApartIn};
-ghost use Rattle.vm_host.specs.Event.{AreApart};
+ghost use Rattle.run_effects.specs.Event.{AreApart};
 
-use vm_host::Selector;
+use run_effects::Selector;
 
 /// How many ranks there are.
 const RANKS: u8 = 3;

@@ -5,17 +5,17 @@ ghost use Rattle.int_kinds.specs.Kind.{Holds};
 ghost use Rattle.write_format.specs.Arrays.{IsCharArray};
 ghost use Rattle.write_format.specs.Format.{char_arrays};
 ghost use Rattle.message_cells.specs.Cells.{IsHeldStart};
-ghost use Rattle.vm_host.specs.Duration.{IsUnit};
-ghost use Rattle.vm_host.specs.Event.{AreApart, KeepsSelectors, KeepsTimers, key_of, selectors_of, timer_of};
+ghost use Rattle.run_effects.specs.Duration.{IsUnit};
+ghost use Rattle.run_effects.specs.Event.{AreApart, KeepsSelectors, KeepsTimers, key_of, selectors_of, timer_of};
 ghost use Rattle.bytecode.specs.Tables.{GivesNothing, KeepsHandlers, KeepsTables, all_keys, all_selectors, all_timers};
 
 use crate::code::{Code, Fun, Handler};
 use crate::distinct::{keys_differ, selectors_are_apart, timers_differ};
 use int_kinds::{Kind, holds, is_number};
 use message_cells::begin_with_event;
+use run_effects::{Event, Selector};
 use std::alloc::Global;
 use texts::NoMemory;
-use vm_host::{Event, Selector};
 use write_format::Format;
 
 /// Whether the tables keep their rules.

@@ -10,8 +10,8 @@ use Rattle.int_kinds.specs.declared.operators.UnOp.TheVariants as prefix
 use Rattle.int_kinds.specs.Kind.{join, wrap}
 use Rattle.int_kinds.specs.Arithmetic.{truth, value}
 use Rattle.signal_codec.specs.declared.layout.Layout.{Layout}
-use Rattle.vm_host.specs.declared.outcome.Outcome.TheVariants.{Trapped}
-use Rattle.vm_host.specs.declared.outcome.TrapKind.TheVariants.{Index, ZeroDivisor}
+use Rattle.run_effects.specs.declared.outcome.Outcome.TheVariants.{Trapped}
+use Rattle.run_effects.specs.declared.outcome.TrapKind.TheVariants.{Index, ZeroDivisor}
 use Rattle.message_cells.specs.Message.{size}
 use Rattle.control_flow.specs.World.{World, Run, Gives, Fails, and_then, run_map}
 use Rattle.control_flow.specs.Control.{Calls, Computes, deciding}

@@ -4,8 +4,8 @@ use Rattle.std.specs.Option.{option_map}
 use Rattle.int_kinds.specs.declared.kinds.Kind.TheVariants.{Byte, Char, Dword, Int, Long}
 use Rattle.int_kinds.specs.declared.operators.BinOp.TheVariants as op
 use Rattle.int_kinds.specs.declared.operators.UnOp.TheVariants as prefix
-use Rattle.vm_host.specs.Effect.{Effect, Line}
-use Rattle.vm_host.specs.declared.outcome.Outcome.{Outcome}
+use Rattle.run_effects.specs.Effect.{Effect, Line}
+use Rattle.run_effects.specs.declared.outcome.Outcome.{Outcome}
 use Rattle.dbc_reader.specs.declared.message.DbcMessage.{DbcMessage}
 use Rattle.capl_tree.specs.declared.declaration.DeclType.TheVariants as decl_type
 use Rattle.capl_tree.specs.declared.declaration.Init.TheVariants.{One}

@@ -11,8 +11,8 @@ use Rattle.write_format.specs.Format.{elements_of as format_elements}
 use Rattle.write_format.specs.Line.{line_of}
 use Rattle.write_format.specs.declared.piece.Piece.{Piece}
 use Rattle.write_format.specs.Reading.{codes_of, pieces_of}
-use Rattle.vm_host.specs.Duration.{micros}
-use Rattle.vm_host.specs.Effect as effect
+use Rattle.run_effects.specs.Duration.{micros}
+use Rattle.run_effects.specs.Effect as effect
 use Rattle.message_cells.specs.Message.{frame_of}
 use Rattle.control_flow.specs.World.{World, Run, Gives, and_then, run_map, after_effect}
 use Rattle.control_flow.specs.Control.{Calls, Computes, Does, GoesOn, Breaks, Continues, Returns, deciding, for_loop, do_loop, followed_by, leaving_switch, nothing, while_loop}

@@ -7,8 +7,8 @@ ghost use Rattle.capl_meaning.specs.declared.offence.Offence.{Offence};
 ghost use Rattle.capl_meaning.specs.Offences.{IsFirstOffence};
 ghost use Rattle.capl_meaning.specs.Example.{broken, argument_missing, array_as_test, break_outside, empty_array, identifier_too_great, key_twice, label_twice, member_of_number, name_twice, number_assigned, number_too_great, recursion, this_in_start, too_few_arguments, too_many_elements, unknown_message, unknown_name, value_returned, variable_as_constant};
 ghost use Rattle.std.specs.Prelude.{codes, neg_ℤ, pos, Some};
-ghost use Rattle.vm_host.specs.declared.outcome.Outcome.TheVariants.{Cut, Done, Trapped};
-ghost use Rattle.vm_host.specs.declared.outcome.TrapKind.TheVariants.{Index, ZeroDivisor};
+ghost use Rattle.run_effects.specs.declared.outcome.Outcome.TheVariants.{Cut, Done, Trapped};
+ghost use Rattle.run_effects.specs.declared.outcome.TrapKind.TheVariants.{Index, ZeroDivisor};
 ghost use Rattle.capl_meaning.specs.ChoiceExample.{added_to_message, broken_with, constant_assigned, constant_of_itself, direction_assigned, equal_ends, far_recursion, inner_block, labels_that_wrap, local_beside_function, long_message, message_added, message_stepped, message_too_long, mixed_case, needed_division, number_too_great_for_a_size, one_for_an_array, text_assigned, text_in_parentheses, this_copied, unknown_in_size, unknown_to_message, unneeded_division, variable_in_size};
 ghost use Rattle.capl_meaning.specs.RunExample.{counts, divides_by_zero, fills, keeps_its_local, left, needs_one_side, passes_the_end, puts_signals, ran, signals_put, two_messages, wraps, wrote};
 

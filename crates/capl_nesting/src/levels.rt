@@ -59,7 +59,7 @@ impl Levels {
     }
 
     /// One more in the last level's count.
-    pub(crate) fn count(&mut self)
+    pub(crate) fn add_one(&mut self)
         requires summed { IsSummed self.old }
         requires small { self.old.depth < 2 ^ 32 - 1 }
         ensures levels { counts self.new ≡ counted (counts self.old) }

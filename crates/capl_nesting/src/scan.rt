@@ -54,7 +54,7 @@ fn pass(
         }
         Tok::Word(word) => {
             if is_counted(*word) {
-                levels.count();
+                levels.add_one();
             }
             Ok(())
         }
@@ -97,14 +97,14 @@ fn pass_sign(
         Sign::OpenParen | Sign::OpenBrace => levels.open(),
         Sign::OpenBracket => {
             if bracket {
-                levels.count();
+                levels.add_one();
             }
             levels.open()
         }
         Sign::CloseParen => {
             levels.close();
             if kind {
-                levels.count();
+                levels.add_one();
             }
             Ok(())
         }
@@ -130,7 +130,7 @@ fn pass_sign(
             Ok(())
         }
         _ => {
-            levels.count();
+            levels.add_one();
             Ok(())
         }
     }

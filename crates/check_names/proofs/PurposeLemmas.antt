@@ -5,7 +5,7 @@ use Rattle.std.specs.List.{AllByRecursion, cons_option, list_any}
 use Rattle.std.specs.Option.{option_map_or, option_or}
 use Rattle.std.specs.Str.{bytes_eq}
 use Rattle.std.proofs.lemmas.Bool.Decides.{nat_tests}
-use Rattle.vm_host.specs.declared.event.Selector.{Selector}
+use Rattle.run_effects.specs.declared.event.Selector.{Selector}
 use Rattle.capl_meaning.specs.ProcedureRules.{Purpose, ForFrames, ForTimer, ForKey, Told, collide, overlap, same_key}
 use Rattle.check_names.specs.declared.purposes.Purposes.{Purposes}
 use Rattle.check_names.specs.declared.ranges.Ranges.{Ranges}

@@ -1,6 +1,6 @@
 -- The numbers of selectors, as the code has them, and what all selectors are.
 use Rattle.std.specs.Prelude.{◌≤◌, if◌then◌else◌, Option, None}
-use Rattle.vm_host.specs.declared.event.Selector.{Selector}
+use Rattle.run_effects.specs.declared.event.Selector.{Selector}
 use Rattle.capl_meaning.specs.ProcedureRules.{Number, is_range, key_of, keys_between}
 use Rattle.check_names.specs.declared.selector.Spelled.{Spelled}
 

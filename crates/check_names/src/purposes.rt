@@ -18,9 +18,9 @@ use crate::selector::selector_of;
 use crate::table::NameTable;
 use capl_meaning::Offence;
 use capl_tree::{Head, Sel};
+use run_effects::Selector;
 use std::alloc::Global;
 use texts::{NoMemory, Text};
-use vm_host::Selector;
 
 /// What a procedure is for.
 #[derive(Clone, Copy, Debug)]

@@ -9,7 +9,7 @@ ghost use Rattle.check_names.specs.Selector.{IsProper, number_of, selector_of_ra
 use crate::names::Names;
 use capl_tree::{Expr, Sel};
 use dbc_reader::DbcMessage;
-use vm_host::Selector;
+use run_effects::Selector;
 
 /// The greatest identifier of a standard frame.
 const LAST_STANDARD: u32 = 0x7FF;

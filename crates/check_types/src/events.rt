@@ -9,10 +9,10 @@ ghost use Rattle.typed_laws.specs.Laid.{AreDistinct};
 use capl_tree::{Head, Sel};
 use check_names::{Names, selector_of};
 use items::Items;
+use run_effects::{Event, Selector};
 use std::alloc::Global;
 use texts::NoMemory;
 use type_expressions::Layout;
-use vm_host::{Event, Selector};
 
 /// What the selectors of a message procedure select.
 fn selectors_of(

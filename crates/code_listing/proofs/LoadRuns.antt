@@ -6,8 +6,8 @@ use Rattle.std.proofs.lemmas.Option.{slice_get-get_or}
 use Rattle.int_kinds.specs.declared.kinds.Kind.{Kind}
 use Rattle.int_kinds.specs.Kind.{Holds}
 use Rattle.signal_codec.specs.declared.layout.Layout.{Layout}
-use Rattle.vm_host.specs.declared.outcome.Outcome.TheVariants.{Trapped}
-use Rattle.vm_host.specs.declared.outcome.TrapKind.TheVariants.{Index}
+use Rattle.run_effects.specs.declared.outcome.Outcome.TheVariants.{Trapped}
+use Rattle.run_effects.specs.declared.outcome.TrapKind.TheVariants.{Index}
 use Rattle.signal_codec.specs.Signal.{signal_value}
 use Rattle.message_cells.specs.Message.{IsMessage, message_of, number_at, payload_of, size}
 use Rattle.bytecode.specs.declared.code.Code.{Code}

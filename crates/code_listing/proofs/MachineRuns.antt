@@ -1,7 +1,7 @@
 -- Runs of the machine on code that holds a listing, put together part by part.
 use Rattle.std.proofs.Common.{◌≡◌, ℕ, zero, suc, ◌+◌, ◌≤◌, Bool, List, [], ◌∷◌, ◌++◌, length, Some, slice_get, refl, ap, ◌∙◌, subst, arith}
 use Rattle.std.specs.Prelude.{ℤ}
-use Rattle.vm_host.specs.declared.outcome.Outcome.{Outcome}
+use Rattle.run_effects.specs.declared.outcome.Outcome.{Outcome}
 use Rattle.bytecode.specs.declared.code.Code.{Code}
 use Rattle.bytecode.specs.declared.instr.Instr.{Instr}
 use Rattle.bytecode.specs.Machine.{Machine, Goes, Ends}

@@ -1,8 +1,8 @@
 -- The code of an assignment stores its number, where that of its index and of its right side do what those mean.
 use Rattle.std.proofs.Common.{◌≡◌, ℕ, ◌+◌, Bool, true, false, List, [], ◌∷◌, ◌++◌, refl, sym, ◌∙◌, subst, arith}
 use Rattle.std.specs.Prelude.{ℤ}
-use Rattle.vm_host.specs.declared.outcome.Outcome.TheVariants.{Trapped}
-use Rattle.vm_host.specs.declared.outcome.TrapKind.TheVariants.{Index}
+use Rattle.run_effects.specs.declared.outcome.Outcome.TheVariants.{Trapped}
+use Rattle.run_effects.specs.declared.outcome.TrapKind.TheVariants.{Index}
 use Rattle.bytecode.specs.declared.code.Code.{Code}
 use Rattle.bytecode.specs.declared.instr.Instr.{Instr}
 use Rattle.bytecode.specs.declared.instr.Instr.TheVariants as instr

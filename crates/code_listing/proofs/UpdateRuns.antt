@@ -5,8 +5,8 @@ use Rattle.int_kinds.specs.declared.kinds.Kind.{Kind}
 use Rattle.int_kinds.specs.declared.operators.BinOp.{BinOp}
 use Rattle.int_kinds.specs.Arithmetic.{value}
 use Rattle.int_kinds.specs.Kind.{wrap}
-use Rattle.vm_host.specs.declared.outcome.Outcome.TheVariants.{Trapped}
-use Rattle.vm_host.specs.declared.outcome.TrapKind.TheVariants.{Index}
+use Rattle.run_effects.specs.declared.outcome.Outcome.TheVariants.{Trapped}
+use Rattle.run_effects.specs.declared.outcome.TrapKind.TheVariants.{Index}
 use Rattle.bytecode.specs.declared.code.Code.{Code}
 use Rattle.bytecode.specs.declared.instr.Instr.{Instr}
 use Rattle.bytecode.specs.declared.instr.Instr.TheVariants as instr

@@ -4,7 +4,7 @@
 use Rattle.std.specs.Prelude.{◌≡◌, ℕ, ◌+◌, ◌<◌, ◌≤◌, Bool, true, false, not, if◌then◌else◌, List, [], ◌∷◌, length, slice_get, Option, Some, None, ℤ, pos, ⊤}
 use Rattle.std.specs.Ordering.{int_eq}
 use Rattle.int_kinds.specs.declared.kinds.Kind.{Kind}
-use Rattle.vm_host.specs.declared.outcome.Outcome.{Outcome}
+use Rattle.run_effects.specs.declared.outcome.Outcome.{Outcome}
 use Rattle.bytecode.specs.declared.code.Code.{Code}
 use Rattle.bytecode.specs.declared.instr.Instr.TheVariants as instr
 use Rattle.bytecode.specs.Machine.{Machine, Goes, Ends}

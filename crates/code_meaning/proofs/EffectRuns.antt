@@ -12,8 +12,8 @@ use Rattle.int_kinds.specs.declared.kinds.Kind.{Kind}
 use Rattle.int_kinds.specs.Kind.{Holds}
 use Rattle.write_format.specs.Arrays.{IsCharArray}
 use Rattle.write_format.specs.Format.{FormatText, char_arrays, numbers_taken, rendered}
-use Rattle.vm_host.specs.Duration.{micros}
-use Rattle.vm_host.specs.Effect as effect
+use Rattle.run_effects.specs.Duration.{micros}
+use Rattle.run_effects.specs.Effect as effect
 use Rattle.message_cells.specs.Message.{IsMessage, frame_of, message_at, message_of, with_message}
 use Rattle.bytecode.specs.declared.code.Code.{Code}
 use Rattle.bytecode.specs.declared.instr.Instr.{Instr}

@@ -1,8 +1,8 @@
 -- A run of the machine in a memory and on a host leaves them as the typed tree says, or is refused on its way there.
 use Rattle.std.proofs.Common.{◌≡◌, ℕ, List, Some, slice_get, sym, ap, ◌∙◌, subst}
-use Rattle.vm_host.specs.Effect.{Effect}
+use Rattle.run_effects.specs.Effect.{Effect}
 use Rattle.vm_host.specs.Host.{HostMeaning}
-use Rattle.vm_host.specs.declared.outcome.Outcome.{Outcome}
+use Rattle.run_effects.specs.declared.outcome.Outcome.{Outcome}
 use Rattle.bytecode.specs.declared.code.Code.{Code}
 use Rattle.bytecode.specs.Laws.{BeginsWith}
 use Rattle.bytecode.specs.Machine.{Machine}

@@ -1,7 +1,7 @@
 -- How statements leave off on the machine, and what comes after them.
 use Rattle.std.proofs.Common.{◌≡◌, ℕ, Bool, List, [], ◌∷◌, Some, slice_get, refl, subst, arith}
 use Rattle.std.specs.Prelude.{ℤ}
-use Rattle.vm_host.specs.declared.outcome.Outcome.TheVariants.{Done}
+use Rattle.run_effects.specs.declared.outcome.Outcome.TheVariants.{Done}
 use Rattle.bytecode.specs.declared.code.Code.{Code}
 use Rattle.bytecode.specs.declared.instr.Instr.TheVariants as instr
 use Rattle.bytecode.specs.Machine.{Machine}

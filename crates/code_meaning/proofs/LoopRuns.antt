@@ -3,7 +3,7 @@ use Rattle.std.proofs.Common.{◌≡◌, ℕ, zero, suc, ◌+◌, ◌<◌, ◌�
 use Rattle.std.specs.Prelude.{ℤ, pos, not, ◌==◌, if◌then◌else◌}
 use Rattle.std.specs.Ordering.{int_eq}
 use Rattle.std.proofs.lemmas.Bool.{eqb-true}
-use Rattle.vm_host.specs.declared.outcome.Outcome.TheVariants.{Cut}
+use Rattle.run_effects.specs.declared.outcome.Outcome.TheVariants.{Cut}
 use Rattle.bytecode.specs.declared.code.Code.{Code}
 use Rattle.bytecode.specs.declared.instr.Instr.TheVariants as instr
 use Rattle.bytecode.specs.Machine.{Machine}

@@ -5,7 +5,7 @@ use Rattle.std.specs.List.{AllByRecursion}
 use Rattle.std.specs.Option.{option_map_or}
 use Rattle.std.proofs.lemmas.List.Sums.{sum_by-cons}
 use Rattle.int_kinds.specs.declared.kinds.Kind.{Kind}
-use Rattle.vm_host.specs.declared.outcome.Outcome.TheVariants.{Cut}
+use Rattle.run_effects.specs.declared.outcome.Outcome.TheVariants.{Cut}
 use Rattle.bytecode.specs.declared.code.Code.{Code}
 use Rattle.bytecode.specs.declared.instr.Instr.TheVariants as instr
 use Rattle.bytecode.specs.Machine.{Goes, Machine, Next}

@@ -3,8 +3,8 @@
 use Rattle.std.specs.Prelude.{ℕ, false, true, List, [], ◌∷◌, ◌++◌, replicate, ℤ, pos, Some, None}
 use Rattle.int_kinds.specs.declared.kinds.Kind.TheVariants.{Byte, Long}
 use Rattle.int_kinds.specs.declared.operators.BinOp.TheVariants as op
-use Rattle.vm_host.specs.declared.event.Event.TheVariants.{Start}
-use Rattle.vm_host.specs.declared.outcome.Outcome.{Outcome}
+use Rattle.run_effects.specs.declared.event.Event.TheVariants.{Start}
+use Rattle.run_effects.specs.declared.outcome.Outcome.{Outcome}
 use Rattle.typed_tree.specs.declared.expression.Place.TheVariants.{Cell}
 use Rattle.typed_tree.specs.declared.expression.TExpr.{TExpr, end_of-TExpr}
 use Rattle.typed_tree.specs.declared.expression.TExpr.TheVariants.{Bump, Call'}

@@ -1,7 +1,7 @@
 -- What it is that the code of a statement does what the statement means (CAPL manual, statements). Nothing of
 -- the procedure's own is on the stack where a statement begins and ends: what is there is its callers'.
 use Rattle.std.specs.Prelude.{◌≡◌, ℕ, ◌+◌, Bool, if◌then◌else◌, List, [], ◌∷◌, ℤ}
-use Rattle.vm_host.specs.declared.outcome.Outcome.TheVariants.{Done}
+use Rattle.run_effects.specs.declared.outcome.Outcome.TheVariants.{Done}
 use Rattle.bytecode.specs.declared.code.Code.{Code}
 use Rattle.bytecode.specs.Machine.{Machine}
 use Rattle.control_flow.specs.World.{World, Run}

@@ -19,9 +19,9 @@ ghost use Rattle.typed_tree.specs.SoundStatement.{Around, IsSoundStmt};
 ghost use Rattle.typed_tree.specs.declared.program.THandler.{THandler};
 ghost use Rattle.typed_tree.specs.declared.program.Typed.{Typed};
 ghost use Rattle.typed_tree.specs.declared.statement.TStmt.{TStmt};
-ghost use Rattle.vm_host.specs.declared.outcome.Outcome.{Outcome};
-ghost use Rattle.vm_host.specs.declared.outcome.Outcome.TheVariants as Outcome;
-ghost use Rattle.vm_host.specs.declared.outcome.TrapKind.TheVariants as TrapKind;
+ghost use Rattle.run_effects.specs.declared.outcome.Outcome.{Outcome};
+ghost use Rattle.run_effects.specs.declared.outcome.Outcome.TheVariants as Outcome;
+ghost use Rattle.run_effects.specs.declared.outcome.TrapKind.TheVariants as TrapKind;
 ghost use Rattle.control_flow.specs.Control.{Calls};
 
 use vm_host::Host;

@@ -13,10 +13,10 @@ use gen_stmt::{compile, make_code};
 use int_kinds::Kind;
 use items::{Boxed, Items};
 use message_cells::MESSAGE_KINDS;
+use run_effects::Event;
 use std::alloc::{AllocError, Global};
 use std::test::Fail;
 use typed_tree::{TExpr, THandler, TStmt, Typed};
-use vm_host::Event;
 
 /// The tree of `on start { ; }`, which weighs 16.
 fn source(alloc: Global) -> Result<Program, AllocError>

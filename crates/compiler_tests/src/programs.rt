@@ -7,12 +7,12 @@ use capl_tree::{FileTree, Head, Proc, Program, Stmt, TopItem};
 use int_kinds::Kind;
 use items::Items;
 use message_cells::MESSAGE_KINDS;
+use run_effects::{Event, Outcome, TrapKind};
 use stack_vm::{Memory, Meter, run};
 use std::alloc::{AllocError, Global};
 use std::test::Fail;
 use typed_tree::{TFun, THandler, Typed};
 use typed_words::{Words, statements};
-use vm_host::{Event, Outcome, TrapKind};
 use write_format::{ArgKind, Format};
 
 /// How deep statements may be.

@@ -2,7 +2,7 @@
 use Rattle.std.specs.Prelude.{◌≡◌, ℕ, zero, suc, ◌<◌, ◌≤◌, Bool, true, false, if◌then◌else◌, List, [], ◌∷◌, ℤ, pos}
 use Rattle.std.specs.Ordering.{int_eq}
 use Rattle.std.proofs.Common.{refl, ap, sym, ◌∙◌, arith}
-use Rattle.vm_host.specs.declared.outcome.Outcome.TheVariants.{Cut}
+use Rattle.run_effects.specs.declared.outcome.Outcome.TheVariants.{Cut}
 use Rattle.control_flow.specs.World.{World, Run, Gives, Fails, and_then, run_map, taking_turn, taking_turn_of}
 use Rattle.control_flow.specs.Control.{Calls, Computes, Does, End, GoesOn, Breaks, Continues, Returns, calls_by, deciding, followed_by, going_on, in_order, loop, looping, nothing, number_given, round}
 use Rattle.control_flow.specs.Turns.{AddsNoTurns, Agree, LeavesAtMost}

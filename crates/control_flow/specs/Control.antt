@@ -1,7 +1,7 @@
 -- How control goes through a procedure (CAPL manual, statements; as in C): statements in order, loops, calls.
 use Rattle.std.specs.Prelude.{ℕ, zero, suc, if◌then◌else◌, List, [], ◌∷◌, ℤ, pos}
 use Rattle.std.specs.Ordering.{int_eq}
-use Rattle.vm_host.specs.declared.outcome.Outcome.TheVariants.{Cut}
+use Rattle.run_effects.specs.declared.outcome.Outcome.TheVariants.{Cut}
 use Rattle.control_flow.specs.World.{World, Run, Gives, Fails, and_then, run_map, taking_turn}
 
 -- how a part of a procedure leaves off: it goes on to what follows it, breaks or continues the loop around

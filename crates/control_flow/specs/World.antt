@@ -1,9 +1,9 @@
 -- What a part of a program does, over any memory. The meaning of a source on its variables and that of its
 -- typed tree on cells are both said with these words, so that they speak of the same things.
 use Rattle.std.specs.Prelude.{ℕ, zero, suc, List, [], ◌∷◌, ◌++◌}
-use Rattle.vm_host.specs.Effect.{Effect}
-use Rattle.vm_host.specs.declared.outcome.Outcome.{Outcome}
-use Rattle.vm_host.specs.declared.outcome.Outcome.TheVariants.{Cut}
+use Rattle.run_effects.specs.Effect.{Effect}
+use Rattle.run_effects.specs.declared.outcome.Outcome.{Outcome}
+use Rattle.run_effects.specs.declared.outcome.Outcome.TheVariants.{Cut}
 
 -- the memory, the turns that are left, and the effects so far, in order
 pub record World (M : Type 0) : Type 0 where

@@ -167,7 +167,7 @@ each_declarator total depth (first ∷ second ∷ others) rest well placed ends 
       (omega (arith, declarator_longer first (further spelled.declarator (second ∷ others) rest))),
 )
 
-kind_read : (total : ℕ) (of : Kind) (rest : List Tok) → read.declared_type total (tok.Word (kind_word of) ∷ rest) ≡ read.number false (kind_of (kind_word of)) rest
+kind_read : (total : ℕ) (of : Kind) (rest : List Tok) → read.declared_type total (tok.Word (kind_word of) ∷ rest) ≡ read.number_type false (kind_of (kind_word of)) rest
 unfolding read.declared_type
 kind_read total kind.Byte rest = refl
 kind_read total kind.Word rest = refl
@@ -179,7 +179,7 @@ kind_read total kind.Int64 rest = refl
 kind_read total kind.Char rest = refl
 
 type_read : (total : ℕ) (what : DeclType) (rest : List Tok) → IsTypePlaced total what rest → read.declared_type total (spelled.declared_type what rest) ≡ Some (what, rest)
-unfolding read.declared_type read.number read.message
+unfolding read.declared_type read.number_type read.message
 type_read total (type.Number of true) rest placed = rw (kind_found of) refl
 type_read total (type.Number of false) rest placed = kind_read total of rest ∙ rw (kind_found of) refl
 type_read total type.Any rest placed = refl

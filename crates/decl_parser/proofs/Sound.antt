@@ -240,18 +240,18 @@ record TypePart (total : ℕ) (ts : List Tok) (what : DeclType) (rest : List Tok
   placed : IsTypePlaced total what rest
   shorter : length rest ≤ length ts
 
-const_part : (total : ℕ) (ts : List Tok) (of : Option Kind) → kind_at ts ≡ of → (what : DeclType) (rest : List Tok) → read.number true of (behind ts) ≡ Some (what, rest)
+const_part : (total : ℕ) (ts : List Tok) (of : Option Kind) → kind_at ts ≡ of → (what : DeclType) (rest : List Tok) → read.number_type true of (behind ts) ≡ Some (what, rest)
     → TypePart total (tok.Word word.Const ∷ ts) what rest
-unfolding read.number
+unfolding read.number_type
 const_part total ts None is what rest f = absurd cc
 const_part total ts (Some of) is what rest f =
     let next = kind_next ts of is in
     moved (TypePart total (tok.Word word.Const ∷ ts)) (type.Number of true) what (behind ts) rest f
     (record { written = ap (λ (ts : List Tok). tok.Word word.Const ∷ ts) next; placed = tt; shorter = omega (arith, ap length next) })
 
-kind_part : (total : ℕ) (w : Word) (ts : List Tok) (of : Option Kind) → kind_of w ≡ of → (what : DeclType) (rest : List Tok) → read.number false of ts ≡ Some (what, rest)
+kind_part : (total : ℕ) (w : Word) (ts : List Tok) (of : Option Kind) → kind_of w ≡ of → (what : DeclType) (rest : List Tok) → read.number_type false of ts ≡ Some (what, rest)
     → TypePart total (tok.Word w ∷ ts) what rest
-unfolding read.number
+unfolding read.number_type
 kind_part total w ts None is what rest f = absurd cc
 kind_part total w ts (Some of) is what rest f =
     moved (TypePart total (tok.Word w ∷ ts)) (type.Number of false) what ts rest f

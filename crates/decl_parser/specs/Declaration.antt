@@ -92,9 +92,9 @@ declarator total depth (tok.Name name ∷ ts) = named total depth name (total - 
 declarator total depth _ = None
 
 -- behind `const` where the flag is true: a kind
-unfoldable pub number : Bool → Option Kind → List Tok → Read DeclType
-number fixed None ts = None
-number fixed (Some of) ts = Some (type.Number of fixed, ts)
+unfoldable pub number_type : Bool → Option Kind → List Tok → Read DeclType
+number_type fixed None ts = None
+number_type fixed (Some of) ts = Some (type.Number of fixed, ts)
 
 -- behind `message`: which one, at this place
 unfoldable pub message : ℕ → List Tok → Read DeclType
@@ -105,11 +105,11 @@ message at _ = None
 
 -- the type of a declaration
 unfoldable pub declared_type : ℕ → List Tok → Read DeclType
-declared_type total (tok.Word word.Const ∷ ts) = number true (kind_at ts) (behind ts)
+declared_type total (tok.Word word.Const ∷ ts) = number_type true (kind_at ts) (behind ts)
 declared_type total (tok.Word word.Message ∷ ts) = message (total - length ts) ts
 declared_type total (tok.Word word.Timer ∷ ts) = Some (type.Seconds, ts)
 declared_type total (tok.Word word.MsTimer ∷ ts) = Some (type.Millis, ts)
-declared_type total (tok.Word of ∷ ts) = number false (kind_of of) ts
+declared_type total (tok.Word of ∷ ts) = number_type false (kind_of of) ts
 declared_type total _ = None
 
 -- a declaration of these parts

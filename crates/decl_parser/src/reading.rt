@@ -37,20 +37,24 @@ fn declared_type(cursor: &mut Cursor<'_>, total: u32) -> Result<DeclType, Refusa
         Some(Tok::Word(Word::Const)) => {
             let kind = cursor.kind();
             cursor.skip();
-            number(cursor, true, kind)
+            number_type(cursor, true, kind)
         }
         Some(Tok::Word(Word::Message)) => message(cursor, total),
         Some(Tok::Word(Word::Timer)) => Ok(DeclType::Seconds),
         Some(Tok::Word(Word::MsTimer)) => Ok(DeclType::Millis),
-        Some(Tok::Word(word)) => number(cursor, false, kind_of(*word)),
+        Some(Tok::Word(word)) => number_type(cursor, false, kind_of(*word)),
         _ => Err(Refusal::NotSpelled),
     }
 }
 
 /// Numbers of a kind, behind `const` where `fixed` is true.
-#[tactic(auto, unfolding(crate::specs::Declaration::number))]
-fn number(cursor: &mut Cursor<'_>, fixed: bool, kind: Option<Kind>) -> Result<DeclType, Refusal>
-    ensures { Gives (read.number fixed kind cursor.old) result cursor.new }
+#[tactic(auto, unfolding(crate::specs::Declaration::number_type))]
+fn number_type(
+    cursor: &mut Cursor<'_>,
+    fixed: bool,
+    kind: Option<Kind>,
+) -> Result<DeclType, Refusal>
+    ensures { Gives (read.number_type fixed kind cursor.old) result cursor.new }
 {
     match kind {
         Some(kind) => Ok(DeclType::Number { kind, fixed }),

@@ -2,7 +2,7 @@
 use Rattle.std.specs.Prelude.{List, [], ◌∷◌, ◌++◌, pos}
 use Rattle.int_kinds.specs.declared.kinds.Kind.TheVariants.{Byte, Char}
 use Rattle.message_cells.specs.Message.{message_kinds}
-use Rattle.vm_host.specs.declared.event.Event.TheVariants.{Start}
+use Rattle.run_effects.specs.declared.event.Event.TheVariants.{Start}
 use Rattle.typed_tree.specs.declared.program.Typed.{Typed}
 use Rattle.typed_tree.specs.declared.statement.TStmt.{TStmt}
 

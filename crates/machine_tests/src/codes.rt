@@ -1,15 +1,15 @@
 // Code that the tests of the verifier and of the machine are about.
 
 ghost use Rattle.std.specs.Prelude.{◌<◌, ◌^◌, IsTrue, length};
-ghost use Rattle.vm_host.specs.Event.{selectors_of};
+ghost use Rattle.run_effects.specs.Event.{selectors_of};
 ghost use Rattle.bytecode.specs.Verified.{IsShortCode};
 
 use bytecode::{Code, Fun, Handler, Instr};
 use int_kinds::Kind;
 use items::Items;
 use message_cells::MESSAGE_KINDS;
+use run_effects::Event;
 use std::alloc::{AllocError, Global};
-use vm_host::Event;
 use write_format::Format;
 
 /// The kinds of the event's cells, of a long cell 15, and of the cells of a message from cell 16 on.

@@ -7,11 +7,12 @@ use super::codes::{code, is_short};
 use bytecode::{Instr, Verified, VerifyRefusal, verify};
 use can_frame::{Frame, Ident};
 use int_kinds::{BinOp, Kind};
+use run_effects::{Event, Outcome, TrapKind};
 use stack_vm::{Memory, Meter, MeterRow, laws, run};
 use std::alloc::Global;
 use std::test::Fail;
 use texts::NoMemory;
-use vm_host::{Event, Host, Outcome, RecordFault, TrapKind};
+use vm_host::{Host, RecordFault};
 
 /// A host with two timers at 1250 microseconds that keeps what it takes.
 #[derive(Drop)]

@@ -3,12 +3,12 @@
 use int_kinds::Kind;
 use items::Items;
 use message_cells::MESSAGE_KINDS;
+use run_effects::Event;
 use sound_check::is_sound;
 use std::alloc::Global;
 use std::test::Fail;
 use texts::NoMemory;
 use typed_tree::{Place, TExpr, THandler, TStmt, Typed};
-use vm_host::Event;
 
 /// A program of an event procedure with this statement, and a cell 15 with this initial value.
 fn program(alloc: Global, statement: TStmt, start: i128) -> Result<Typed, NoMemory> {

@@ -2,11 +2,11 @@
 
 use int_kinds::{BinOp, Kind, UnOp};
 use items::{Boxed, Items};
+use run_effects::Event;
 use signal_codec::Layout;
 use std::alloc::{AllocError, Global};
 use std::test::Fail;
 use typed_tree::{Place, TArm, TExpr, TFun, TGroup, THandler, TStmt, Typed};
-use vm_host::Event;
 use write_format::Format;
 
 /// A number in a box.

@@ -4,10 +4,10 @@ use super::codes::{code, is_short};
 use bytecode::{Code, Instr, VerifyRefusal, laws, verify};
 use int_kinds::{BinOp, Kind};
 use items::Items;
+use run_effects::{Event, Selector};
 use std::alloc::{AllocError, Global};
 use std::process::Abort;
 use std::test::Fail;
-use vm_host::{Event, Selector};
 
 /// The first place whose rule fails, where one does.
 fn first_failure(rt: &impl Abort, alloc: Global, code: Code) -> Option<u32> {

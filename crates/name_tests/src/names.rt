@@ -7,10 +7,10 @@ use dbc_reader::read;
 use int_kinds::Kind;
 use items::Items;
 use reader_tests::forms::{declaration, program_of, variable};
+use run_effects::Selector;
 use std::alloc::Global;
 use std::test::Fail;
 use texts::{Rule, Text};
-use vm_host::Selector;
 
 /// `long NAME;`, by its first token and that of the name.
 fn long(alloc: Global, name: &[u8], first: u32, at: u32) -> Result<Decl, Fail> {

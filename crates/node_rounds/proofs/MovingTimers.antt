@@ -4,7 +4,7 @@ use Rattle.std.specs.List.{All, Contains}
 use Rattle.std.specs.Option.{option_map_or, MatchOption}
 use Rattle.std.proofs.lemmas.Bool.Decides.{eqb_tells}
 use Rattle.std.proofs.lemmas.List.Elements.{All-contains_itself, All-head, All-tail, All-push, All-filter, filter_passes}
-use Rattle.vm_host.specs.Effect.{Effect, Line, Send, Stop, Set, Cancel}
+use Rattle.run_effects.specs.Effect.{Effect, Line, Send, Stop, Set, Cancel}
 use Rattle.timer_queue.specs.declared.setting.Setting.{Setting}
 use Rattle.timer_queue.specs.Timers.{Timers, IsDuration, IsTimers, after_firing, after_take, again, first_due, is_of, others, set_at}
 use Rattle.timer_queue.proofs.TimersLemmas.{IsTimers-after_cancel, IsTimers-after_set, IsTimers-after_take, again_none, again_some, fired_known}

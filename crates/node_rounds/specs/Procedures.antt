@@ -3,10 +3,10 @@
 use Rattle.std.specs.Prelude.{ℕ, ◌+◌, ◌==◌, nat_le, Bool, true, false, ◌&&◌, if◌then◌else◌, List, [], ◌∷◌, Option, None, Some, option_to_list}
 use Rattle.std.specs.List.{list_any, position_from}
 use Rattle.can_frame.specs.Arbitration.{selection_key}
-use Rattle.vm_host.specs.declared.event.Event.{Event}
-use Rattle.vm_host.specs.declared.event.Event.TheVariants as event
-use Rattle.vm_host.specs.declared.event.Selector.{Selector}
-use Rattle.vm_host.specs.Event.{selectors_of}
+use Rattle.run_effects.specs.declared.event.Event.{Event}
+use Rattle.run_effects.specs.declared.event.Event.TheVariants as event
+use Rattle.run_effects.specs.declared.event.Selector.{Selector}
+use Rattle.run_effects.specs.Event.{selectors_of}
 use Rattle.node_rounds.specs.declared.occurrence.Occurrence.{Occurrence}
 use Rattle.node_rounds.specs.declared.occurrence.Occurrence.TheVariants.{PreStart, Start, Stop, Frame, Timer, Key}
 

@@ -2,9 +2,9 @@
 use Rattle.std.specs.Prelude.{◌≡◌, ◌≢◌, ◌⊎◌, ℕ, ◌<◌, ◌≤◌, Bool, true, false, if◌then◌else◌, List, [], ◌++◌, Option, None, Some, All, Contains, MatchOption}
 use Rattle.std.specs.Option.{option_map}
 use Rattle.can_frame.specs.Frame.{FrameFields}
-use Rattle.vm_host.specs.Effect.{Effect}
-use Rattle.vm_host.specs.declared.event.Event.{Event}
-use Rattle.vm_host.specs.declared.outcome.Outcome.{Outcome}
+use Rattle.run_effects.specs.Effect.{Effect}
+use Rattle.run_effects.specs.declared.event.Event.{Event}
+use Rattle.run_effects.specs.declared.outcome.Outcome.{Outcome}
 use Rattle.timer_queue.specs.declared.setting.Setting.{Setting}
 use Rattle.timer_queue.specs.Timers.{Timers, active_timers, after_take, first_due, least_due}
 use Rattle.node_rounds.specs.declared.occurrence.Occurrence.{Occurrence}

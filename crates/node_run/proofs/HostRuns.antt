@@ -2,10 +2,10 @@
 use Rattle.std.proofs.Common.{◌≡◌, ℕ, Bool, List, [], ◌∷◌, inl, inr, ◌⊎◌, ap, sym, subst, ◌∙◌}
 use Rattle.std.specs.Prelude.{Result, Ok, Err, OnErr}
 use Rattle.can_frame.specs.Frame.{FrameFields}
-use Rattle.vm_host.specs.Effect.{Effect}
+use Rattle.run_effects.specs.Effect.{Effect}
 use Rattle.vm_host.specs.Host.{HostMeaning}
 use Rattle.run_records.specs.Record.{RecordMeaning}
-use Rattle.vm_host.specs.declared.outcome.Outcome.{Outcome}
+use Rattle.run_effects.specs.declared.outcome.Outcome.{Outcome}
 use Rattle.timer_queue.specs.Timers.{Timers, active_timers}
 use Rattle.bytecode.specs.declared.code.Code.{Code}
 use Rattle.bytecode.specs.Machine.{Machine}

@@ -11,10 +11,10 @@ use Rattle.node_run.specs.Inside.Fault.{IsTaskFault}
 use Rattle.std.specs.Option.{MatchOption}
 use Rattle.std.proofs.lemmas.List.{append_assoc}
 use Rattle.can_frame.specs.Frame.{FrameFields}
-use Rattle.vm_host.specs.Effect.{Effect, Line, Send, Stop, Set, Cancel}
-use Rattle.vm_host.specs.declared.outcome.Outcome.{Outcome}
-use Rattle.vm_host.specs.declared.outcome.Outcome.TheVariants.{Done as Ended, Trapped, Cut}
-use Rattle.vm_host.specs.declared.outcome.TrapKind.TheVariants.{ZeroDivisor, Index}
+use Rattle.run_effects.specs.Effect.{Effect, Line, Send, Stop, Set, Cancel}
+use Rattle.run_effects.specs.declared.outcome.Outcome.{Outcome}
+use Rattle.run_effects.specs.declared.outcome.Outcome.TheVariants.{Done as Ended, Trapped, Cut}
+use Rattle.run_effects.specs.declared.outcome.TrapKind.TheVariants.{ZeroDivisor, Index}
 use Rattle.run_records.specs.declared.record.Noted.{Noted}
 use Rattle.run_records.specs.declared.record.Noted.TheVariants as entry
 use Rattle.run_records.specs.Record.{RecordMeaning, RefusesEntry}

@@ -6,9 +6,9 @@ use Rattle.std.proofs.lemmas.Bool.{eq-eqb, cases_eq}
 use Rattle.std.proofs.lemmas.Bool.Decides.{eqb_tells}
 use Rattle.std.proofs.lemmas.List.{drop_more}
 use Rattle.std.proofs.lemmas.List.Elements.{All-head, All-tail}
-use Rattle.vm_host.specs.declared.event.Event.{Event}
-use Rattle.vm_host.specs.declared.event.Event.TheVariants as event
-use Rattle.vm_host.specs.Event.{timer_of}
+use Rattle.run_effects.specs.declared.event.Event.{Event}
+use Rattle.run_effects.specs.declared.event.Event.TheVariants as event
+use Rattle.run_effects.specs.Event.{timer_of}
 use Rattle.bytecode.specs.declared.code.Handler.{Handler}
 use Rattle.bytecode.specs.Tables.{all_timers}
 use Rattle.node_rounds.specs.Procedures.{else_other, first_where, is_timer}

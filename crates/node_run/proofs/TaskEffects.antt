@@ -2,7 +2,7 @@
 use Rattle.std.proofs.Common.{◌≡◌, ℕ, Bool, true, false, ◌||◌, List, [], ◌∷◌, refl, sym, subst, ◌∙◌}
 use Rattle.std.proofs.lemmas.List.Elements.{All-nil, All-cons}
 use Rattle.can_frame.specs.Frame.{FrameFields}
-use Rattle.vm_host.specs.Effect.{Effect, Line, Send, Stop, Set, Cancel}
+use Rattle.run_effects.specs.Effect.{Effect, Line, Send, Stop, Set, Cancel}
 use Rattle.run_records.specs.Record.{RecordMeaning}
 use Rattle.node_rounds.specs.Effects.{IsTimerEffect, timers_after_one}
 use Rattle.node_run.specs.Inside.Host.{ComeTo, Parts, PartsTake}

@@ -1,6 +1,6 @@
 -- How a node reacts by its code: the machine runs the code of its procedures.
 use Rattle.std.specs.Prelude.{◌≡◌, ℕ, ◌-◌, Bool, List, [], ◌++◌, drop, map, ℤ, pos, slice_set}
-use Rattle.vm_host.specs.declared.event.Event.{Event}
+use Rattle.run_effects.specs.declared.event.Event.{Event}
 use Rattle.bytecode.specs.declared.code.Code.{Code}
 use Rattle.bytecode.specs.declared.code.Handler.{Handler}
 use Rattle.bytecode.specs.Machine.{Machine}

@@ -3,7 +3,7 @@
 //! A [`Node`] is loaded with verified code, begins a round, and does one task at a time: it lends a
 //! record, a bus and a meter to the task, which gives its lines to the record and its requests to the
 //! bus, under the number of this node alone. The tasks, their order and what each leaves are those of
-//! the crate rounds, where the reaction is the machine's run of the code (`Code`).
+//! the crate node_rounds, where the reaction is the machine's run of the code (`Code`).
 #![tactic(auto)]
 
 pub use node::{Node, TaskEnd, TaskFault};

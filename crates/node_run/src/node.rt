@@ -17,13 +17,14 @@ use crate::task::run_handler;
 use bytecode::Verified;
 use can_bus::Bus;
 use node_rounds::{Occurrence, Round, Seen, Trigger};
+use run_effects::{Outcome, TrapKind};
 use run_records::Record;
 use stack_vm::{Memory, Meter};
 use std::alloc::Global;
 use std::marker::Model;
 use texts::NoMemory;
 use timer_queue::TimerQueue;
-use vm_host::{Outcome, RecordFault, TrapKind};
+use vm_host::RecordFault;
 
 /// How a task ended.
 #[derive(Clone, Copy, Debug, PartialEq, Eq)]

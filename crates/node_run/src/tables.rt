@@ -8,9 +8,9 @@ ghost use Rattle.node_rounds.specs.Procedures.{else_other};
 
 use bytecode::Handler;
 use msg_select::{MessageSelector, Selectors};
+use run_effects::{Event, Selector};
 use std::alloc::Global;
 use texts::NoMemory;
-use vm_host::{Event, Selector};
 
 /// What the places of a table stand for.
 #[derive(Clone, Copy)]

@@ -10,10 +10,11 @@ ghost use Rattle.node_run.specs.Inside.Host.{parts};
 use crate::host::NodeHost;
 use bytecode::Verified;
 use can_bus::Bus;
+use run_effects::Outcome;
 use run_records::Record;
 use stack_vm::{Memory, Meter, run};
 use timer_queue::TimerQueue;
-use vm_host::{Outcome, RecordFault};
+use vm_host::RecordFault;
 
 /// Runs a handler on a host, whose references stay.
 fn run_on<'a, B: Bus, R: Record>(

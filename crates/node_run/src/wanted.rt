@@ -6,7 +6,7 @@ ghost use Rattle.node_run.specs.Inside.Wanted.{is_wanted};
 ghost use Rattle.node_rounds.specs.Procedures.{first_where};
 
 use bytecode::Handler;
-use vm_host::Event;
+use run_effects::Event;
 
 /// What a handler that is sought reacts to.
 #[derive(Clone, Copy)]

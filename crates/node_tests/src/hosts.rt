@@ -1,13 +1,14 @@
 // A host over borrowed parts.
 
 ghost use Rattle.std.specs.Prelude.{◌≡◌, ◌<◌, ◌≤◌, codes, length, OnOk};
-ghost use Rattle.vm_host.specs.Effect.{Line};
+ghost use Rattle.run_effects.specs.Effect.{Line};
 
 use can_frame::{Frame, Ident};
 use items::Items;
+use run_effects::{Event, Selector};
 use std::test::Fail;
 use texts::NoMemory;
-use vm_host::{Event, Host, RecordFault, Selector};
+use vm_host::{Host, RecordFault};
 
 /// How many effects were taken.
 #[derive(Clone, Copy)]

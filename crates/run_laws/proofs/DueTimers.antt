@@ -5,7 +5,7 @@ use Rattle.std.specs.Option.{option_map_or}
 use Rattle.std.proofs.lemmas.Bool.Decides.{leb_tells}
 use Rattle.std.proofs.lemmas.Cmp.{nat_eq_equiv}
 use Rattle.std.proofs.lemmas.List.Elements.{All-head, All-tail}
-use Rattle.vm_host.specs.Effect.{Effect, Line, Send, Stop, Set, Cancel}
+use Rattle.run_effects.specs.Effect.{Effect, Line, Send, Stop, Set, Cancel}
 use Rattle.timer_queue.specs.declared.setting.Setting.{Setting}
 use Rattle.timer_queue.specs.Timers.{IsDuration, IsTimers, Timers, after_firing, after_take, again, first_due, is_due, is_of, others, set_at}
 use Rattle.node_rounds.specs.declared.occurrence.Occurrence.{Occurrence}

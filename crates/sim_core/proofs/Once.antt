@@ -1,8 +1,8 @@
 -- A node does one thing by its code, so a run of code has one course.
 use Rattle.std.proofs.Common.{◌≡◌, ℕ, ◌+◌, ◌-◌, Bool, List, [], ◌∷◌, Option, None, Some, MatchOption, slice_get, refl, ap, sym, subst, ◌∙◌}
 use Rattle.std.specs.Prelude.{ℤ, ◌||◌}
-use Rattle.vm_host.specs.Effect.{Effect}
-use Rattle.vm_host.specs.declared.outcome.Outcome.{Outcome}
+use Rattle.run_effects.specs.Effect.{Effect}
+use Rattle.run_effects.specs.declared.outcome.Outcome.{Outcome}
 use Rattle.can_bus.specs.declared.bus.Ended.{Ended}
 use Rattle.scenario.specs.declared.scenario.KeyItem.{KeyItem}
 use Rattle.replay_node.specs.declared.replay.Request.{Request}

@@ -2,8 +2,8 @@
 -- (CAPL manual, event procedures).
 use Rattle.std.specs.Prelude.{ℕ, List, ◌++◌, codes, decimal}
 use Rattle.stack_vm.specs.declared.meter.MeterRow.{MeterRow}
-use Rattle.vm_host.specs.declared.event.Event.{Event}
-use Rattle.vm_host.specs.declared.event.Event.TheVariants.{PreStart, Start, Stop, Message, Timer, Key}
+use Rattle.run_effects.specs.declared.event.Event.{Event}
+use Rattle.run_effects.specs.declared.event.Event.TheVariants.{PreStart, Start, Stop, Message, Timer, Key}
 
 -- the word that the procedure has behind `on`, without what it selects
 abbrev pub event_word : Event → List ℕ

@@ -4,10 +4,10 @@ ghost use Rattle.std.specs.Prelude.{◌≡◌, ◌++◌, IfOk, OnOk, decimal, co
 ghost use Rattle.sim_text.specs.Profile.{event_word, profile_line};
 
 use crate::number::append_number;
+use run_effects::Event;
 use stack_vm::MeterRow;
 use std::alloc::Global;
 use texts::{NoMemory, Text};
-use vm_host::Event;
 
 /// The line of an event procedure: `p NODE FILE:LINE EVENT RUNS TURNS` and its line end. LINE is that of
 /// the word `on`, counted from 1. Takes time and memory linear in both names.
@@ -63,8 +63,8 @@ fn append_row(text: &mut Vec<u8>, row: MeterRow) -> Result<(), NoMemory>
 mod tests {
     use super::*;
     use items::Items;
+    use run_effects::Selector;
     use std::test::Fail;
-    use vm_host::Selector;
 
     #[test]
     fn lines_of_the_events(rt: HostRuntime) -> Result<(), Fail> {

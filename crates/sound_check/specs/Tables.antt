@@ -3,8 +3,8 @@ use Rattle.std.specs.Prelude.{◌≢◌, ◌<◌, ◌^◌, false, List, [], ◌�
 use Rattle.write_format.specs.Arrays.{IsCharArray}
 use Rattle.write_format.specs.Format.{char_arrays}
 use Rattle.message_cells.specs.Cells.{BeginWithEvent, IsHeldStart}
-use Rattle.vm_host.specs.Duration.{IsUnit}
-use Rattle.vm_host.specs.Event.{KeepsSelectors, KeepsTimers, selectors_of}
+use Rattle.run_effects.specs.Duration.{IsUnit}
+use Rattle.run_effects.specs.Event.{KeepsSelectors, KeepsTimers, selectors_of}
 use Rattle.bytecode.specs.declared.code.Code.{Code}
 use Rattle.bytecode.specs.declared.code.Handler.{Handler}
 use Rattle.bytecode.specs.declared.instr.Instr.TheVariants.{Ret}

@@ -2,7 +2,7 @@
 
 ghost use Rattle.std.specs.Prelude.{◌≡◌, ◌≢◌, ◌↔◌, ◌<◌, ◌^◌, ℕ, All, AllPairs, IfOk, IsTrue, Some, length, slice_get};
 ghost use Rattle.write_format.specs.Format.{IsShort};
-ghost use Rattle.vm_host.specs.Event.{selectors_of};
+ghost use Rattle.run_effects.specs.Event.{selectors_of};
 ghost use Rattle.typed_tree.specs.declared.program.TFun.{TFun};
 ghost use Rattle.typed_tree.specs.Sound.{IsShortProgram, IsSound, IsSoundFunction, IsSoundHandler};
 ghost use Rattle.sound_check.specs.Tables.{HaveFewSelectors};
@@ -10,10 +10,10 @@ ghost use Rattle.sound_check.specs.Tables.{HaveFewSelectors};
 use crate::around::Around;
 use crate::statement::are_sound_stmts;
 use crate::tables::keeps_tables;
+use run_effects::Event;
 use std::alloc::Global;
 use texts::NoMemory;
 use typed_tree::{TFun, THandler, Typed};
-use vm_host::Event;
 use write_format::Format;
 
 /// How many items a list may have.

@@ -13,10 +13,10 @@ use Rattle.int_kinds.specs.Kind.{join, wrap}
 use Rattle.int_kinds.specs.Arithmetic.{value}
 use Rattle.message_cells.specs.Message.{frame_of, size}
 use Rattle.write_format.specs.declared.piece.Piece.{Piece}
-use Rattle.vm_host.specs.Duration.{micros}
-use Rattle.vm_host.specs.Effect.{Effect, Line, Send, Stop, Set, Cancel}
-use Rattle.vm_host.specs.declared.outcome.Outcome.TheVariants.{Trapped}
-use Rattle.vm_host.specs.declared.outcome.TrapKind.TheVariants.{Index}
+use Rattle.run_effects.specs.Duration.{micros}
+use Rattle.run_effects.specs.Effect.{Effect, Line, Send, Stop, Set, Cancel}
+use Rattle.run_effects.specs.declared.outcome.Outcome.TheVariants.{Trapped}
+use Rattle.run_effects.specs.declared.outcome.TrapKind.TheVariants.{Index}
 use Rattle.control_flow.specs.World.{World, Run, Gives, Fails, after_effect, and_then, run_map, taking_turn_of}
 use Rattle.control_flow.specs.Control.{Breaks, Calls, Computes, Continues, Does, End, GoesOn, Returns, deciding, followed_by, going_on, leaving_switch, loop, looping, nothing, round}
 use Rattle.capl_tree.specs.declared.expr.Expr.{Expr, Row_of-Expr, end_of-Expr, more_of-Expr, items-the_row-Expr}

@@ -6,7 +6,7 @@ use Rattle.std.specs.Option.{option_map}
 use Rattle.std.proofs.lemmas.Option.{slice_get-map}
 use Rattle.dbc_reader.specs.declared.message.DbcMessage.{DbcMessage}
 use Rattle.capl_tree.specs.declared.file.Program.{Program}
-use Rattle.vm_host.specs.declared.event.Event.{Event}
+use Rattle.run_effects.specs.declared.event.Event.{Event}
 use Rattle.timer_queue.specs.Timers.{inactive}
 use Rattle.bytecode.specs.declared.code.Code.{Code}
 use Rattle.bytecode.specs.declared.code.Handler.{Handler}

@@ -14,8 +14,8 @@ use Rattle.int_kinds.specs.Kind.{Holds, wrap}
 use Rattle.dbc_reader.specs.declared.signals.DbcSignal.{DbcSignal}
 use Rattle.capl_tree.specs.declared.procedure.Head.{Head}
 use Rattle.capl_tree.specs.declared.procedure.Head.TheVariants as head
-use Rattle.vm_host.specs.declared.event.Event.{Event}
-use Rattle.vm_host.specs.declared.event.Event.TheVariants as event
+use Rattle.run_effects.specs.declared.event.Event.{Event}
+use Rattle.run_effects.specs.declared.event.Event.TheVariants as event
 use Rattle.bytecode.specs.Runs.{HoldKinds}
 use Rattle.stack_vm.specs.Frame.{message_of}
 use Rattle.node_rounds.specs.declared.occurrence.Occurrence.{Occurrence}

@@ -14,8 +14,8 @@ use Rattle.dbc_reader.specs.declared.message.DbcMessage.{DbcMessage}
 use Rattle.capl_tree.specs.declared.expr.Expr.{Expr}
 use Rattle.capl_tree.specs.declared.file.Program.{Program}
 use Rattle.capl_tree.specs.declared.statement.Stmt.{Stmt}
-use Rattle.vm_host.specs.Duration.{IsUnit, micros}
-use Rattle.vm_host.specs.Effect.{Effect, Set, Cancel}
+use Rattle.run_effects.specs.Duration.{IsUnit, micros}
+use Rattle.run_effects.specs.Effect.{Effect, Set, Cancel}
 use Rattle.control_flow.specs.World.{Run, Gives, Fails, run_map}
 use Rattle.control_flow.specs.Control.{Calls, End, number_given}
 use Rattle.timer_queue.specs.Timers.{IsDuration}

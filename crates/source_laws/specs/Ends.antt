@@ -1,6 +1,6 @@
 -- What it is that the machine runs an event procedure as its source means it.
 use Rattle.std.specs.Prelude.{◌≡◌, ◌≤◌, ℕ, ◌-◌, Bool, List, [], ◌++◌, length, ℤ}
-use Rattle.vm_host.specs.declared.outcome.Outcome.{Outcome}
+use Rattle.run_effects.specs.declared.outcome.Outcome.{Outcome}
 use Rattle.bytecode.specs.declared.code.Code.{Code}
 use Rattle.bytecode.specs.Machine.{Machine}
 use Rattle.bytecode.specs.Runs.{EndsIn, HoldKinds, IsStartOf}

@@ -8,9 +8,9 @@ use Rattle.int_kinds.specs.Kind.{Holds, wrap}
 use Rattle.bytecode.specs.declared.code.Code.{Code}
 use Rattle.bytecode.specs.declared.code.Fun.{Fun}
 use Rattle.bytecode.specs.declared.instr.Instr.TheVariants.{Load, Store, Elem, SetElem, Call}
-use Rattle.vm_host.specs.declared.outcome.Outcome.{Outcome}
-use Rattle.vm_host.specs.declared.outcome.Outcome.TheVariants.{Trapped}
-use Rattle.vm_host.specs.declared.outcome.TrapKind.TheVariants.{Index}
+use Rattle.run_effects.specs.declared.outcome.Outcome.{Outcome}
+use Rattle.run_effects.specs.declared.outcome.Outcome.TheVariants.{Trapped}
+use Rattle.run_effects.specs.declared.outcome.TrapKind.TheVariants.{Index}
 use Rattle.bytecode.specs.Machine.{Machine, Next, Goes, Ends, Stuck}
 use Rattle.bytecode.specs.Runs.{HoldKinds}
 use Rattle.bytecode.specs.Step.{goes_on, indexing, needing, reads, row, stores, taking_turn}

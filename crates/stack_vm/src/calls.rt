@@ -8,7 +8,7 @@ ghost use Rattle.stack_vm.specs.Inside.Step.{Does, DoesIn, IsReady};
 
 use crate::state::State;
 use bytecode::Code;
-use vm_host::Outcome;
+use run_effects::Outcome;
 
 /// Takes a turn.
 #[inline]

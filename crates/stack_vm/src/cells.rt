@@ -10,7 +10,7 @@ ghost use Rattle.stack_vm.specs.Inside.Step.{Does, DoesIn, IsReady};
 use crate::state::State;
 use bytecode::Code;
 use int_kinds::wrap;
-use vm_host::{Outcome, TrapKind};
+use run_effects::{Outcome, TrapKind};
 
 /// Gives the number in a cell.
 #[inline]

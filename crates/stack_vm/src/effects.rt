@@ -3,7 +3,7 @@
 ghost use Rattle.std.specs.Prelude.{◌≡◌, ◌^◌, ◌<◌, ◌≤◌, length, reverse, take, All, IfOk, IsErrOf, None, OnErr, OnOk};
 ghost use Rattle.bytecode.specs.declared.code.Code.{Code};
 ghost use Rattle.bytecode.specs.declared.instr.Instr.TheVariants.{Stop, Send, Set, Write, Cancel, Active, Now};
-ghost use Rattle.vm_host.specs.Duration.{micros};
+ghost use Rattle.run_effects.specs.Duration.{micros};
 ghost use Rattle.bytecode.specs.Verified.{IsVerified};
 ghost use Rattle.int_kinds.specs.Kind.{IsNumber};
 ghost use Rattle.stack_vm.specs.Inside.State.{HasSameRoom};

@@ -8,7 +8,7 @@ ghost use Rattle.stack_vm.specs.Inside.Step.{Does, IsReady};
 
 use crate::operands::is_equal;
 use crate::state::State;
-use vm_host::Outcome;
+use run_effects::Outcome;
 
 /// Goes to a place.
 #[inline]

@@ -10,8 +10,8 @@ ghost use Rattle.stack_vm.specs.Inside.Step.{Does, IsReady};
 use crate::cells::index;
 use crate::state::State;
 use int_kinds::{Kind, bits, residue, wrap};
+use run_effects::Outcome;
 use signal_codec::{Layout, get, put};
-use vm_host::Outcome;
 
 /// Gives the number of a kind that begins at a byte of a message's payload.
 #[inline]

@@ -14,7 +14,7 @@ use crate::state::State;
 use int_kinds::{
     BinOp, Kind, add, and, div, inv, mul, neg, or, rem, shl, shr, sub, truth, wrap, xor,
 };
-use vm_host::{Outcome, TrapKind};
+use run_effects::{Outcome, TrapKind};
 
 /// Gives a number.
 #[inline]

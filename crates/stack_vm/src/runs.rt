@@ -13,7 +13,8 @@ use crate::state::State;
 use crate::step::{NeedsHost, ask, step};
 use crate::{Memory, Meter};
 use bytecode::{Code, Verified};
-use vm_host::{Host, Outcome, RecordFault};
+use run_effects::Outcome;
+use vm_host::{Host, RecordFault};
 
 /// Runs a handler of verified code with so many turns, in the memory of this code.
 ///

@@ -1,10 +1,10 @@
 // The part of the machine's state that a run holds by itself.
 
+use run_effects::Outcome;
 use std::alloc::Global;
 use std::marker::Model;
 use std::mem;
 use texts::NoMemory;
-use vm_host::Outcome;
 
 /// A place of the code, the numbers on the stack, where open calls return to, the cells and the
 /// turns that are left.
@@ -45,7 +45,7 @@ impl Model for State {
 impl State {
     ghost use Rattle.std.specs.Prelude.{◌≡◌, ◌+◌, ◌-◌, ◌^◌, ◌<◌, ◌≤◌, ◌↔◌, [], ◌∷◌, drop, length, pos, replicate, reverse, slice_index, slice_index_or, slice_set, take, IfOk, IsTrue, MatchResult, OnErr, OnOk};
     ghost use Rattle.std.specs.List.{splice};
-    ghost use Rattle.vm_host.specs.declared.outcome.Outcome.TheVariants.{Cut};
+    ghost use Rattle.run_effects.specs.declared.outcome.Outcome.TheVariants.{Cut};
 
     /// A state of this many cells of 0, with room for so many numbers and calls.
     pub(crate) fn make(

@@ -9,7 +9,8 @@ ghost use Rattle.vm_host.specs.Host.{FaultsRise, HostStays};
 use crate::state::State;
 use crate::{calls, cells, effects, jumps, messages, operands};
 use bytecode::{Code, Instr};
-use vm_host::{Host, Outcome, RecordFault};
+use run_effects::Outcome;
+use vm_host::{Host, RecordFault};
 
 /// An instruction asks something of the host, which is not at hand.
 #[derive(Clone, Copy, Debug)]

@@ -8,8 +8,8 @@ use Rattle.write_format.specs.declared.argument.ArgKind.{ArgKind}
 use Rattle.write_format.specs.declared.piece.Piece.{Piece}
 use Rattle.write_format.specs.Format.{FormatText, elements_of as format_elements}
 use Rattle.write_format.specs.Line.{line_of}
-use Rattle.vm_host.specs.Duration.{micros}
-use Rattle.vm_host.specs.Effect as effect
+use Rattle.run_effects.specs.Duration.{micros}
+use Rattle.run_effects.specs.Effect as effect
 use Rattle.message_cells.specs.Message.{frame_of, message_of, with_message as with_message_at}
 use Rattle.control_flow.specs.World.{World, Gives, after_effect}
 use Rattle.control_flow.specs.Control.{Does, GoesOn}

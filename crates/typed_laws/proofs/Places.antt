@@ -7,8 +7,8 @@ use Rattle.int_kinds.specs.declared.kinds.Kind.{Kind}
 use Rattle.signal_codec.specs.declared.layout.Layout.{Layout}
 use Rattle.texts.specs.declared.text.Text.{Text}
 use Rattle.message_cells.specs.Message.{size}
-use Rattle.vm_host.specs.declared.outcome.Outcome.TheVariants.{Trapped}
-use Rattle.vm_host.specs.declared.outcome.TrapKind.TheVariants.{Index}
+use Rattle.run_effects.specs.declared.outcome.Outcome.TheVariants.{Trapped}
+use Rattle.run_effects.specs.declared.outcome.TrapKind.TheVariants.{Index}
 use Rattle.control_flow.specs.World.{World, Run, Gives, Fails, and_then}
 use Rattle.control_flow.specs.Control.{Computes}
 use Rattle.capl_tree.specs.declared.expr.Expr.{Expr}

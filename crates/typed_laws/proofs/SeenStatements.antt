@@ -5,7 +5,7 @@ use Rattle.std.specs.Prelude.{if◌then◌else◌, map}
 use Rattle.std.specs.Option.{option_map_or}
 use Rattle.int_kinds.specs.Kind.{wrap}
 use Rattle.write_format.specs.declared.piece.Piece.{Piece}
-use Rattle.vm_host.specs.Effect as effect
+use Rattle.run_effects.specs.Effect as effect
 use Rattle.message_cells.specs.Message.{frame_of}
 use Rattle.control_flow.specs.World.{World, Gives, after_effect, and_then, run_map, taking_turn}
 use Rattle.control_flow.specs.Control.{Calls, Computes, Does, GoesOn, Returns, deciding, do_loop, followed_by, for_loop, leaving_switch, number_given, while_loop}

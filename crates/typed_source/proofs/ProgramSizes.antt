@@ -6,8 +6,8 @@ use Rattle.std.specs.Option.{option_map_or}
 use Rattle.std.proofs.lemmas.Bool.{eqb-true}
 use Rattle.std.proofs.lemmas.List.Elements.{recursion_from_All}
 use Rattle.std.proofs.lemmas.List.Sums.{sum_by-cons}
-use Rattle.vm_host.specs.declared.event.Event.{Event}
-use Rattle.vm_host.specs.declared.event.Event.TheVariants as event
+use Rattle.run_effects.specs.declared.event.Event.{Event}
+use Rattle.run_effects.specs.declared.event.Event.TheVariants as event
 use Rattle.dbc_reader.specs.declared.message.DbcMessage.{DbcMessage}
 use Rattle.capl_tree.specs.declared.file.FileTree.{FileTree}
 use Rattle.capl_tree.specs.declared.file.Program.{Program}

@@ -11,8 +11,8 @@ use Rattle.int_kinds.specs.declared.operators.UnOp.{UnOp}
 use Rattle.int_kinds.specs.declared.operators.UnOp.TheVariants.{Minus, Plus, Not, Inv, Up, Down}
 use Rattle.int_kinds.specs.Kind.{wrap}
 use Rattle.int_kinds.specs.Arithmetic.{inverted, negated, truth, value}
-use Rattle.vm_host.specs.declared.outcome.Outcome.TheVariants.{Trapped}
-use Rattle.vm_host.specs.declared.outcome.TrapKind.TheVariants.{Index, ZeroDivisor}
+use Rattle.run_effects.specs.declared.outcome.Outcome.TheVariants.{Trapped}
+use Rattle.run_effects.specs.declared.outcome.TrapKind.TheVariants.{Index, ZeroDivisor}
 use Rattle.message_cells.specs.Message.{size}
 use Rattle.control_flow.specs.World.{World, Run, Gives, Fails, and_then, run_map}
 use Rattle.control_flow.specs.Control.{Calls, Computes, deciding}

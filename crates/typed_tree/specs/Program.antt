@@ -2,9 +2,9 @@
 -- limit of turns is this project's own.
 use Rattle.std.specs.Prelude.{ℕ, ◌-◌, List, [], slice_get}
 use Rattle.std.specs.Option.{option_map_or}
-use Rattle.vm_host.specs.Effect.{Effect}
-use Rattle.vm_host.specs.declared.outcome.Outcome.{Outcome}
-use Rattle.vm_host.specs.declared.outcome.Outcome.TheVariants.{Done}
+use Rattle.run_effects.specs.Effect.{Effect}
+use Rattle.run_effects.specs.declared.outcome.Outcome.{Outcome}
+use Rattle.run_effects.specs.declared.outcome.Outcome.TheVariants.{Done}
 use Rattle.control_flow.specs.World.{Run, Gives, Fails}
 use Rattle.control_flow.specs.Control.{Calls, Does, End, calls_by, in_order}
 use Rattle.typed_tree.specs.declared.program.THandler.{THandler}

@@ -3,9 +3,9 @@ use Rattle.std.specs.Prelude.{◌≡◌, ◌≢◌, ℕ, ◌<◌, ◌^◌, false
 use Rattle.std.specs.List.{AllByRecursion}
 use Rattle.write_format.specs.Arrays.{IsCharArray}
 use Rattle.write_format.specs.Format.{IsShort, char_arrays}
-use Rattle.vm_host.specs.declared.event.Selector.{Selector}
-use Rattle.vm_host.specs.Duration.{IsUnit}
-use Rattle.vm_host.specs.Event.{KeepsSelectors, KeepsTimers, key_of, selectors_of, timer_of}
+use Rattle.run_effects.specs.declared.event.Selector.{Selector}
+use Rattle.run_effects.specs.Duration.{IsUnit}
+use Rattle.run_effects.specs.Event.{KeepsSelectors, KeepsTimers, key_of, selectors_of, timer_of}
 use Rattle.message_cells.specs.Cells.{BeginWithEvent, IsHeldStart}
 use Rattle.typed_tree.specs.declared.program.TFun.{TFun}
 use Rattle.typed_tree.specs.declared.program.THandler.{THandler}

@@ -4,8 +4,8 @@ use Rattle.std.specs.List.{list_any}
 use Rattle.std.specs.Option.{option_map_or}
 use Rattle.std.specs.Ordering.{int_eq}
 use Rattle.write_format.specs.Format.{FormatText, rendered}
-use Rattle.vm_host.specs.Duration.{micros}
-use Rattle.vm_host.specs.Effect as effect
+use Rattle.run_effects.specs.Duration.{micros}
+use Rattle.run_effects.specs.Effect as effect
 use Rattle.message_cells.specs.Message.{frame_of, message_of, with_message}
 use Rattle.control_flow.specs.World.{World, Run, Gives, and_then, run_map, after_effect}
 use Rattle.control_flow.specs.Control.{Calls, Computes, Does, GoesOn, Breaks, Continues, Returns, deciding, for_loop, do_loop, followed_by, leaving_switch, nothing, while_loop}

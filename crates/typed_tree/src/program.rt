@@ -3,7 +3,7 @@
 use crate::statement::TStmt;
 use int_kinds::Kind;
 use items::Items;
-use vm_host::Event;
+use run_effects::Event;
 use write_format::Format;
 
 /// A function.

@@ -1,7 +1,7 @@
 -- What a host is to a run of code: a state that takes effects.
 use Rattle.std.specs.Prelude.{◌≡◌, ℕ, ◌≤◌, Bool, false, IsTrue, List, length}
 use Rattle.texts.specs.Fault.{HasRisen}
-use Rattle.vm_host.specs.Effect.{Effect}
+use Rattle.run_effects.specs.Effect.{Effect}
 
 -- what the states of a host mean
 pub record HostMeaning (S : Type 0) : Type 1 where

@@ -1,8 +1,8 @@
 // The host of a run.
 
 ghost use Rattle.std.specs.Prelude.{◌≡◌, ◌^◌, ◌<◌, true, false, IsTrue, length, slice_set, slice_index_or, OnOk, OnErr, IsOk, IsErrOf};
-ghost use Rattle.vm_host.specs.Effect.{Line, Send, Set, Cancel};
-ghost use Rattle.vm_host.specs.Effect as effect;
+ghost use Rattle.run_effects.specs.Effect.{Line, Send, Set, Cancel};
+ghost use Rattle.run_effects.specs.Effect as effect;
 ghost use Rattle.vm_host.specs.Host.{FaultsRise, HostMeaning, HostStays, TakesUnlessClosed};
 
 use can_frame::Frame;

@@ -1,7 +1,7 @@
 -- The run of a handler by a node: the machine's run, and what its effects come to.
 use Rattle.std.specs.Prelude.{◌≡◌, ◌⊎◌, ℕ, ◌-◌, Bool, List, []}
 use Rattle.can_frame.specs.Frame.{FrameFields}
-use Rattle.vm_host.specs.declared.outcome.Outcome.{Outcome}
+use Rattle.run_effects.specs.declared.outcome.Outcome.{Outcome}
 use Rattle.run_records.specs.Record.{RecordMeaning}
 use Rattle.timer_queue.specs.Timers.{active_timers}
 use Rattle.bytecode.specs.declared.code.Code.{Code}

@@ -1,7 +1,7 @@
 -- What the host of a task does with effects, over the values of its parts.
 use Rattle.std.specs.Prelude.{◌≡◌, ◌⊎◌, ℕ, Bool, true, ◌||◌, List, All}
 use Rattle.can_frame.specs.Frame.{FrameFields}
-use Rattle.vm_host.specs.Effect.{Effect, Line, Send, Stop}
+use Rattle.run_effects.specs.Effect.{Effect, Line, Send, Stop}
 use Rattle.run_records.specs.declared.record.Noted.TheVariants as entry
 use Rattle.run_records.specs.Record.{RecordMeaning, RefusesEntry, TakesEntry}
 use Rattle.timer_queue.specs.Timers.{Timers}

@@ -1,9 +1,9 @@
 -- Tables of the procedures of code.
 use Rattle.std.specs.Prelude.{◌≡◌, ℕ, ◌+◌, ◌<◌, ◌^◌, Bool, List, [], ◌∷◌, ◌++◌, Option, None, Some, IfSome, IfNone, length, map, slice_index_or}
-use Rattle.vm_host.specs.declared.event.Event.{Event}
-use Rattle.vm_host.specs.declared.event.Event.TheVariants as event
-use Rattle.vm_host.specs.declared.event.Selector.{Selector}
-use Rattle.vm_host.specs.Event.{selectors_of}
+use Rattle.run_effects.specs.declared.event.Event.{Event}
+use Rattle.run_effects.specs.declared.event.Event.TheVariants as event
+use Rattle.run_effects.specs.declared.event.Selector.{Selector}
+use Rattle.run_effects.specs.Event.{selectors_of}
 use Rattle.bytecode.specs.Verified.{IsVerified}
 use Rattle.msg_select.specs.declared.selector.MessageSelector.{MessageSelector}
 use Rattle.msg_select.specs.Selection.{IsChosen, NoneHolds}

@@ -1,6 +1,6 @@
 -- The tests by which a procedure is sought.
 use Rattle.std.specs.Prelude.{Bool}
-use Rattle.vm_host.specs.declared.event.Event.{Event}
+use Rattle.run_effects.specs.declared.event.Event.{Event}
 use Rattle.node_run.specs.declared.wanted.Wanted.{Wanted}
 use Rattle.node_run.specs.declared.wanted.Wanted.TheVariants.{PreStart, Start, Stop, AnyKey}
 use Rattle.node_rounds.specs.Procedures.{is_any_key, is_pre_start, is_start, is_stop}

@@ -1,8 +1,8 @@
 -- Numbers as indices.
 use Rattle.std.specs.Prelude.{ℕ, nat_lt, if◌then◌else◌, ℤ, pos, negsuc, Result, Ok, Err}
-use Rattle.vm_host.specs.declared.outcome.Outcome.{Outcome}
-use Rattle.vm_host.specs.declared.outcome.Outcome.TheVariants.{Trapped}
-use Rattle.vm_host.specs.declared.outcome.TrapKind.TheVariants.{Index}
+use Rattle.run_effects.specs.declared.outcome.Outcome.{Outcome}
+use Rattle.run_effects.specs.declared.outcome.Outcome.TheVariants.{Trapped}
+use Rattle.run_effects.specs.declared.outcome.TrapKind.TheVariants.{Index}
 
 -- a number as an index below a length, or the trap that ends the run
 abbrev pub index_of : ℤ → ℕ → Result ℕ Outcome

@@ -1,6 +1,6 @@
 -- The part of the machine's state that a run holds by itself.
 use Rattle.std.specs.Prelude.{◌≡◌, ℕ, Bool, List, ℤ}
-use Rattle.vm_host.specs.Effect.{Effect}
+use Rattle.run_effects.specs.Effect.{Effect}
 use Rattle.bytecode.specs.Machine.{Machine}
 
 -- the place of the next instruction; the numbers on the stack, the top first; where each open call returns

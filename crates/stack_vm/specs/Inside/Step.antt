@@ -2,9 +2,9 @@
 use Rattle.std.specs.Prelude.{◌≡◌, ◌≢◌, ℕ, ◌+◌, ◌^◌, ◌<◌, ◌≤◌, Bool, List, ◌++◌, length, Option, Some, None, ⊤}
 use Rattle.std.specs.List.{AllByRecursion}
 use Rattle.int_kinds.specs.Kind.{IsNumber}
-use Rattle.vm_host.specs.Effect.{Effect}
+use Rattle.run_effects.specs.Effect.{Effect}
 use Rattle.vm_host.specs.Host.{HostMeaning}
-use Rattle.vm_host.specs.declared.outcome.Outcome.{Outcome}
+use Rattle.run_effects.specs.declared.outcome.Outcome.{Outcome}
 use Rattle.bytecode.specs.declared.code.Code.{Code}
 use Rattle.bytecode.specs.declared.instr.Instr.{Instr}
 use Rattle.bytecode.specs.declared.instr.Instr.TheVariants.{Write, Send, Stop, Set, Cancel, Active, Now}

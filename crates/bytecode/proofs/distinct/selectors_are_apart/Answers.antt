@@ -3,10 +3,10 @@ use Rattle.std.proofs.Common.{rules, ◌≤◌, List, sym, subst}
 use Rattle.std.specs.Prelude.{All, AllPairs}
 use Rattle.std.specs.List.Sorted.{IsNonDecreasingBy}
 use Rattle.std.proofs.lemmas.List.Sorted.{All-permutation, IsNonDecreasingBy-from_sort_by_key}
-use Rattle.vm_host.specs.Event.{AreApart}
+use Rattle.run_effects.specs.Event.{AreApart}
 use Rattle.bytecode.proofs.ListPairs.{AllPairs-permutation, AllPairs-permuted}
 use Rattle.bytecode.proofs.SelectorRanks.{AreApart-turned}
-use Rattle.vm_host.specs.declared.event.Selector.{Selector}
+use Rattle.run_effects.specs.declared.event.Selector.{Selector}
 use Rattle.bytecode.proofs.distinct.selectors_are_apart.Goals as goal
 
 pub ranks_are_apart-requires-clause-ranks : goal.ranks_are_apart-requires-clause-ranks

@@ -1,7 +1,7 @@
 -- Where the ranks are known, the keys decide.
 use Rattle.std.proofs.Common.{◌≤◌, List, subst}
 use Rattle.std.specs.Prelude.{All}
-use Rattle.vm_host.specs.declared.event.Selector.{Selector}
+use Rattle.run_effects.specs.declared.event.Selector.{Selector}
 use Rattle.bytecode.proofs.tables.keeps_selectors.Goals as goal
 
 pub returns : goal.returns

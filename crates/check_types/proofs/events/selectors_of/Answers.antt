@@ -1,7 +1,7 @@
 -- One more selector.
 use Rattle.std.proofs.Common.{◌∙◌, ◌++◌, ◌∷◌, [], ap, sym}
 use Rattle.std.specs.Global.{Vec}
-use Rattle.vm_host.specs.declared.event.Selector.{Selector}
+use Rattle.run_effects.specs.declared.event.Selector.{Selector}
 use Rattle.capl_meaning.specs.ProcedureRules.{selector_of}
 use Rattle.check_types.proofs.MadeLemmas.{kept_more, none_more}
 use Rattle.check_types.proofs.events.selectors_of.Goals as goal

@@ -1,7 +1,7 @@
 -- A timer that is cancelled.
 use Rattle.std.proofs.Common.{◌+◌, ℕ, Bool, true, false, List, refl}
 use Rattle.std.specs.Prelude.{slice_set}
-use Rattle.vm_host.specs.Effect as effect
+use Rattle.run_effects.specs.Effect as effect
 use Rattle.bytecode.specs.declared.instr.Instr.TheVariants.{Cancel}
 use Rattle.stack_vm.specs.Inside.State.{RunState, machine}
 use Rattle.stack_vm.proofs.HostRows.{does_unless_closed, timer_row}

@@ -1,7 +1,7 @@
 -- A message that is sent.
 use Rattle.std.proofs.Common.{◌+◌, ℕ, Bool, true, false, List, subst, refl}
 use Rattle.can_frame.specs.Frame.{FrameFields}
-use Rattle.vm_host.specs.Effect as effect
+use Rattle.run_effects.specs.Effect as effect
 use Rattle.vm_host.specs.Host.{TakesUnlessClosed}
 use Rattle.bytecode.specs.declared.instr.Instr.TheVariants.{Send}
 use Rattle.message_cells.specs.Message.{frame_of}

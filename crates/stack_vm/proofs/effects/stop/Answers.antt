@@ -1,6 +1,6 @@
 -- The wish to stop the measurement.
 use Rattle.std.proofs.Common.{◌+◌, true, false, refl}
-use Rattle.vm_host.specs.Effect as effect
+use Rattle.run_effects.specs.Effect as effect
 use Rattle.bytecode.specs.declared.instr.Instr.TheVariants.{Stop}
 use Rattle.stack_vm.specs.Inside.State.{RunState}
 use Rattle.stack_vm.proofs.HostRows.{does_unless_closed}

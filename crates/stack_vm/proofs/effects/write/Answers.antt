@@ -1,7 +1,7 @@
 -- A line that is written.
 use Rattle.std.proofs.Common.{◌≡◌, ◌≤◌, ◌+◌, ℕ, Bool, List, length, drop, slice_get, Option, Some, arith, ap, sym, ◌∙◌, subst, refl}
 use Rattle.std.specs.Option.{option_map_or}
-use Rattle.vm_host.specs.Effect as effect
+use Rattle.run_effects.specs.Effect as effect
 use Rattle.write_format.specs.Format.{FormatText, numbers_taken}
 use Rattle.bytecode.specs.declared.instr.Instr.TheVariants.{Write}
 use Rattle.stack_vm.specs.Inside.State.{RunState, machine}

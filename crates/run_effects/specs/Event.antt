@@ -1,9 +1,9 @@
 -- What the event procedures of a program react to (CAPL manual, event procedures): selectors of frames,
 -- timers and keys.
 use Rattle.std.specs.Prelude.{◌≡◌, ◌≢◌, ℕ, ◌<◌, ◌≤◌, List, [], Option, Some, None, All, AllPairs}
-use Rattle.vm_host.specs.declared.event.Event.{Event}
-use Rattle.vm_host.specs.declared.event.Event.TheVariants.{Message, Timer, Key}
-use Rattle.vm_host.specs.declared.event.Selector.{Selector}
+use Rattle.run_effects.specs.declared.event.Event.{Event}
+use Rattle.run_effects.specs.declared.event.Event.TheVariants.{Message, Timer, Key}
+use Rattle.run_effects.specs.declared.event.Selector.{Selector}
 
 -- the selectors of a message procedure: rank, least and greatest key
 abbrev pub selectors_of : Event → List Selector

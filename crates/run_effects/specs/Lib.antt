@@ -1,0 +1,4 @@
+-- The definitions of this crate.
+pub mod Effect
+pub mod Event
+pub mod Duration
