@@ -1,4 +1,10 @@
-// Calls of the laws on the code of typed trees.
+// Calls of the laws on typed trees and their code.
+
+#[test]
+fn trees_have_laws() {
+    typed_tree::laws::no_turns_are_added();
+    typed_tree::laws::turns_left_are_enough();
+}
 
 #[test]
 fn code_has_laws() {

@@ -10,7 +10,5 @@ pub use variable::first_values;
 mod message;
 mod payload;
 mod starts;
-#[cfg(test)]
-mod tests;
 mod value;
 mod variable;

@@ -24,12 +24,3 @@ pub fn turns_left_are_enough()
     ensures calls { (s : Setting) (n f : ℕ) (w : World Memory) → w.turns ≤ n →
         calls_of s n f w ≡ calls_of s w.turns f w }
 {}
-
-#[cfg(test)]
-mod tests {
-    #[test]
-    fn laws_can_be_called() {
-        super::no_turns_are_added();
-        super::turns_left_are_enough();
-    }
-}
