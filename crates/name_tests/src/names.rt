@@ -1,59 +1,21 @@
 // What check_names says that names mean, and noted offences.
 
 use capl_meaning::Offence;
-use capl_tree::{Decl, DeclType, Expr, Head, Param, Proc, Program, Sel, Stmt, TopItem};
+use capl_tree::{DeclType, Expr, Sel};
 use check_names::{Names, laws, note, note_type, selector_of};
 use dbc_reader::read;
-use int_kinds::Kind;
-use items::Items;
-use reader_tests::forms::{declaration, program_of, variable};
+use parser_tests::sources::program;
 use run_effects::Selector;
 use std::alloc::Global;
 use std::test::Fail;
-use texts::{Rule, Text};
+use texts::Rule;
 
-/// `long NAME;`, by its first token and that of the name.
-fn long(alloc: Global, name: &[u8], first: u32, at: u32) -> Result<Decl, Fail> {
-    let what = DeclType::Number {
-        kind: Kind::Long,
-        fixed: false,
-    };
-    declaration(alloc, what, variable(alloc, name, at)?, first)
-}
-
-/// `long f(long b) { { long INNER; } }`
-fn function(alloc: Global, inner: &[u8]) -> Result<TopItem, Fail> {
-    let local = Stmt::Decl(long(alloc, inner, 14, 15)?);
-    let block = Stmt::Block(Items::from_list(vec![in alloc; local]?));
-    let parameter = Param {
-        kind: Kind::Long,
-        name: Text::make(alloc, b"b")?,
-        at: 10,
-    };
-    let head = Head::Function {
-        kind: Some(Kind::Long),
-        name: Text::make(alloc, b"f")?,
-        params: Items::from_list(vec![in alloc; parameter]?),
-        at: 7,
-    };
-    Ok(TopItem::Proc(Proc {
-        head,
-        body: Items::from_list(vec![in alloc; block]?),
-        at: 6,
-    }))
-}
-
-/// `variables { long a; } long f(long b) { { long INNER; } }`
-fn program(alloc: Global, inner: &[u8]) -> Result<Program, Fail> {
-    let global = long(alloc, b"a", 2, 3)?;
-    let globals = TopItem::Variables(Items::from_list(vec![in alloc; global]?));
-    let function = function(alloc, inner)?;
-    program_of(alloc, vec![in alloc; globals, function]?)
-}
+/// A global, a function with a parameter, and a variable of its block.
+static DECLARED: &str = "variables { long a; } long f(long b) { { long c; } }";
 
 #[test]
 fn names_mean_what_is_declared_before(rt: HostRuntime) -> Result<(), Fail> {
-    let program = program(rt.alloc(), b"c")?;
+    let program = program(rt.alloc(), DECLARED)?;
     let names = Names::build(rt.alloc(), &program, None)?;
     assert_eq!(rt; names.global(b"a"), Some(0));
     assert_eq!(rt; names.global(b"c"), None);
@@ -68,7 +30,7 @@ fn names_mean_what_is_declared_before(rt: HostRuntime) -> Result<(), Fail> {
 
 #[test]
 fn variables_and_functions_are_in_order(rt: HostRuntime) -> Result<(), Fail> {
-    let program = program(rt.alloc(), b"c")?;
+    let program = program(rt.alloc(), DECLARED)?;
     let names = Names::build(rt.alloc(), &program, None)?;
     assert_eq!(rt; names.variables().len(), 3);
     let wanted = [(0, 3, b'a'), (1, 10, b'b'), (1, 15, b'c')];
@@ -83,7 +45,7 @@ fn variables_and_functions_are_in_order(rt: HostRuntime) -> Result<(), Fail> {
 
 #[test]
 fn messages_are_those_of_the_database(rt: HostRuntime) -> Result<(), Fail> {
-    let program = program(rt.alloc(), b"c")?;
+    let program = program(rt.alloc(), DECLARED)?;
     let base = read(rt.alloc(), b"BO_ 5 M: 8 N\n")?;
     let names = Names::build(rt.alloc(), &program, Some(&base))?;
     let message = names.message(b"M").ok_or("M is there")?;
@@ -92,9 +54,9 @@ fn messages_are_those_of_the_database(rt: HostRuntime) -> Result<(), Fail> {
     Ok(())
 }
 
-/// The first of what the names of the program break, where the inner local has this name.
-fn first(alloc: Global, inner: &[u8]) -> Result<Option<Offence>, Fail> {
-    let program = program(alloc, inner)?;
+/// The first of what the names of a source break.
+fn first(alloc: Global, source: &str) -> Result<Option<Offence>, Fail> {
+    let program = program(alloc, source)?;
     let names = Names::build(alloc, &program, None)?;
     Ok(names.first(alloc, &program)?)
 }
@@ -109,15 +71,17 @@ fn a_name_is_declared_once(rt: HostRuntime) -> Result<(), Fail> {
             number: 10,
         },
     };
-    assert_eq!(rt; first(rt.alloc(), b"c")?, None);
-    assert_eq!(rt; first(rt.alloc(), b"a")?, None);
-    assert_eq!(rt; first(rt.alloc(), b"b")?, Some(again));
+    let hidden = "variables { long a; } long f(long b) { { long a; } }";
+    let taken = "variables { long a; } long f(long b) { { long b; } }";
+    assert_eq!(rt; first(rt.alloc(), DECLARED)?, None);
+    assert_eq!(rt; first(rt.alloc(), hidden)?, None);
+    assert_eq!(rt; first(rt.alloc(), taken)?, Some(again));
     Ok(())
 }
 
 #[test]
 fn selectors_have_keys(rt: HostRuntime) -> Result<(), Fail> {
-    let program = program(rt.alloc(), b"c")?;
+    let program = program(rt.alloc(), DECLARED)?;
     let names = Names::build(rt.alloc(), &program, None)?;
     let number = |value| Expr::Num {
         value: Some(value),
@@ -140,7 +104,7 @@ fn selectors_have_keys(rt: HostRuntime) -> Result<(), Fail> {
 
 #[test]
 fn an_identifier_is_small(rt: HostRuntime) -> Result<(), Fail> {
-    let program = program(rt.alloc(), b"c")?;
+    let program = program(rt.alloc(), DECLARED)?;
     let names = Names::build(rt.alloc(), &program, None)?;
     let what = DeclType::ById {
         value: Some(0x800),

@@ -1,7 +1,7 @@
 // Scopes, sorts, formats and constants of check_sorts.
 
 use capl_meaning::{Builtin, MessageField, Sort};
-use capl_tree::{DeclType, Declr, Expr, Init, Program, TopItem};
+use capl_tree::Expr;
 use check_names::Names;
 use check_sorts::{
     Callee, Constants, Held, Member, Scope, member_named, sort_of_binary, sort_of_builtin,
@@ -9,8 +9,7 @@ use check_sorts::{
 };
 use dbc_reader::read;
 use int_kinds::{BinOp, Kind};
-use items::{Boxed, Items};
-use reader_tests::forms::{declaration, number, program_of, variable};
+use parser_tests::sources::{number, program};
 use signal_codec::Layout;
 use std::alloc::Global;
 use std::test::Fail;
@@ -22,71 +21,13 @@ fn name(alloc: Global, name: &[u8], at: u32) -> Result<Expr, Fail> {
     Ok(Expr::Name { name, at })
 }
 
-/// `variables { WHAT VARIABLE; }`
-fn variables(alloc: Global, what: DeclType, variable: Declr) -> Result<TopItem, Fail> {
-    let at = variable.at;
-    let decl = declaration(alloc, what, variable, at)?;
-    Ok(TopItem::Variables(Items::from_list(vec![in alloc; decl]?)))
-}
-
-/// `variables { const long a = 5; }`
-fn constant(alloc: Global) -> Result<TopItem, Fail> {
-    let constant = Declr {
-        name: Text::make(alloc, b"a")?,
-        at: 4,
-        size: None,
-        init: Some(Init::One(number(5, 6))),
-    };
-    let long = DeclType::Number {
-        kind: Kind::Long,
-        fixed: true,
-    };
-    variables(alloc, long, constant)
-}
-
-/// `variables { byte b[a + 1]; }`
-fn array(alloc: Global) -> Result<TopItem, Fail> {
-    let size = Expr::Binary {
-        op: BinOp::Add,
-        left: Boxed::new(alloc, name(alloc, b"a", 13)?)?,
-        right: Boxed::new(alloc, number(1, 15))?,
-        at: 13,
-    };
-    let array = Declr {
-        name: Text::make(alloc, b"b")?,
-        at: 11,
-        size: Some(size),
-        init: None,
-    };
-    let byte = DeclType::Number {
-        kind: Kind::Byte,
-        fixed: false,
-    };
-    variables(alloc, byte, array)
-}
-
-/// `variables { message M m; }`
-fn message(alloc: Global) -> Result<TopItem, Fail> {
-    let by_name = DeclType::ByName {
-        name: Text::make(alloc, b"M")?,
-        at: 21,
-    };
-    variables(alloc, by_name, variable(alloc, b"m", 22)?)
-}
-
-/// `variables { const long a = 5; } variables { byte b[a + 1]; } variables { message M m; }`
-fn program(alloc: Global) -> Result<Program, Fail> {
-    let mut parts = Vec::new(alloc);
-    parts.push(constant(alloc)?)?;
-    parts.push(array(alloc)?)?;
-    parts.push(message(alloc)?)?;
-    program_of(alloc, parts)
-}
+/// A constant, an array and a message of the database.
+static DECLARED: &str = "variables { const long a = 5; byte b[a + 1]; message M m; }";
 
 #[test]
 fn constants_and_lengths(rt: HostRuntime) -> Result<(), Fail> {
     let alloc = rt.alloc();
-    let program = program(alloc)?;
+    let program = program(alloc, DECLARED)?;
     let names = Names::build(alloc, &program, None)?;
     let constants = Constants::build(alloc, &names)?;
     assert_eq!(rt; constants.elements(&names, 0), 0);
@@ -102,12 +43,8 @@ fn constants_and_lengths(rt: HostRuntime) -> Result<(), Fail> {
 #[test]
 fn names_and_calls(rt: HostRuntime) -> Result<(), Fail> {
     let alloc = rt.alloc();
-    let program = program(alloc)?;
-    let base = read(
-        alloc,
-        b"BO_ 5 M: 8 N\n SG_ V : 0|33@1+ (1,0) [0|1] \"\" N\n",
-    )?;
-    let names = Names::build(alloc, &program, Some(&base))?;
+    let program = program(alloc, DECLARED)?;
+    let names = Names::build(alloc, &program, None)?;
     let scope = Scope::outside(&names, 0);
     assert_eq!(rt; scope.variable(b"b", 30), Some(1));
     assert_eq!(rt; scope.sort_of_name(b"b", 30), Sort::Array(Kind::Byte));
@@ -117,6 +54,19 @@ fn names_and_calls(rt: HostRuntime) -> Result<(), Fail> {
     assert_eq!(rt; scope.callee(b"a"), Callee::Unknown);
     assert_eq!(rt; scope.array_in(&name(alloc, b"b", 30)?), Some(1));
     assert_eq!(rt; scope.timer_in(&name(alloc, b"b", 30)?), None);
+    Ok(())
+}
+
+#[test]
+fn messages_and_their_members(rt: HostRuntime) -> Result<(), Fail> {
+    let alloc = rt.alloc();
+    let program = program(alloc, DECLARED)?;
+    let base = read(
+        alloc,
+        b"BO_ 5 M: 8 N\n SG_ V : 0|33@1+ (1,0) [0|1] \"\" N\n",
+    )?;
+    let names = Names::build(alloc, &program, Some(&base))?;
+    let scope = Scope::outside(&names, 0);
     assert!(rt; scope.is_message_place(&name(alloc, b"m", 30)?));
     assert!(rt; !scope.is_number_place(&name(alloc, b"a", 30)?));
     let message = name(alloc, b"m", 30)?;

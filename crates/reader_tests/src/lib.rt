@@ -2,14 +2,14 @@
 //! of sources: a module for each crate that is tested.
 //!
 //! They stand here, above those crates, so that each of those is proved without them.
-//! [`forms`] has parts of trees for the tests of the crates that check programs, too.
 #![tactic(auto)]
 
 #[cfg(test)]
 mod declarations;
 #[cfg(test)]
 mod expressions;
-pub mod forms;
+#[cfg(test)]
+mod forms;
 #[cfg(test)]
 mod nesting;
 #[cfg(test)]

@@ -2,33 +2,15 @@
 
 ghost use Rattle.type_statements.specs.Tables.{AreTables};
 
-use capl_tree::{Expr, Stmt};
+use capl_tree::Stmt;
 use check_names::Names;
 use check_sorts::Scope;
-use items::Items;
-use reader_tests::forms::number;
+use parser_tests::sources::{expression, program};
 use std::alloc::Global;
 use std::process::Abort;
 use std::test::Fail;
-use texts::Text;
 use type_statements::{StatementTables, make_alone, make_body, make_statement};
 use typed_tree::TStmt;
-
-/// `write("%d", 7)`
-fn writing(alloc: Global) -> Result<Expr, Fail> {
-    let format = Expr::Str {
-        text: Text::make(alloc, b"%d")?,
-        at: 2,
-    };
-    let mut args = Vec::new(alloc);
-    args.push(format)?;
-    args.push(number(7, 4))?;
-    Ok(Expr::Call {
-        name: Text::make(alloc, b"write")?,
-        args: Items::from_list(args),
-        at: 0,
-    })
-}
 
 /// What the calls make of a `break`, of two statements and of a `write`, outside of procedures.
 pub(crate) fn check_made(
@@ -47,8 +29,9 @@ pub(crate) fn check_made(
     let made = make_body(alloc, scope, tables, &mut formats, body.as_slice())?;
     assert_eq!(rt; made.len(), 2);
     assert_eq!(rt; formats.len(), 0);
-    let write = writing(alloc)?;
-    let made = make_alone(alloc, scope, tables, &mut formats, &write)?;
+    let program = program(alloc, "f() { write(\"%d\", 7); }")?;
+    let write = expression(&program)?;
+    let made = make_alone(alloc, scope, tables, &mut formats, write)?;
     assert!(rt; matches!(&made, TStmt::Write { format: 0, .. }));
     assert_eq!(rt; formats.len(), 1);
     Ok(())

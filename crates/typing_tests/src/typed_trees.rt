@@ -4,13 +4,11 @@ ghost use Rattle.type_expressions.specs.Made.{AreTreeTables};
 
 use super::statements::check_made;
 use capl_meaning::Sort;
-use capl_tree::{Decl, DeclType, Expr, Program, TopItem};
 use check_calls::Calls;
 use check_names::Names;
 use check_sorts::{Constants, Scope};
 use int_kinds::{BinOp, Kind};
-use items::{Boxed, Items};
-use reader_tests::forms::{declaration, number, program_of, undeclared, variable};
+use parser_tests::sources::{expression, number, program, undeclared};
 use std::alloc::Global;
 use std::process::Abort;
 use std::test::Fail;
@@ -20,29 +18,10 @@ use type_expressions::{
 use type_statements::StatementTables;
 use typed_tree::TExpr;
 
-/// A declaration of a variable of a type, by the token of its name.
-fn declared(alloc: Global, what: DeclType, name: &[u8], at: u32) -> Result<Decl, Fail> {
-    declaration(alloc, what, variable(alloc, name, at)?, at)
-}
-
-/// `variables { message * m; msTimer t; byte b; }`
-fn program(alloc: Global) -> Result<Program, Fail> {
-    let byte = DeclType::Number {
-        kind: Kind::Byte,
-        fixed: false,
-    };
-    let mut variables = Vec::new(alloc);
-    variables.push(declared(alloc, DeclType::Any, b"m", 4)?)?;
-    variables.push(declared(alloc, DeclType::Millis, b"t", 7)?)?;
-    variables.push(declared(alloc, byte, b"b", 10)?)?;
-    let variables = TopItem::Variables(Items::from_list(variables));
-    program_of(alloc, vec![in alloc; variables]?)
-}
-
 #[test]
 fn variables_lie_one_behind_the_other(rt: HostRuntime) -> Result<(), Fail> {
     let alloc = rt.alloc();
-    let program = program(alloc)?;
+    let program = program(alloc, "variables { message * m; msTimer t; byte b; }")?;
     let names = Names::build(alloc, &program, None)?;
     let constants = Constants::build(alloc, &names)?;
     let layout = Layout::build(alloc, &names, &constants)?.ok_or("it has few cells")?;
@@ -57,23 +36,14 @@ fn variables_lie_one_behind_the_other(rt: HostRuntime) -> Result<(), Fail> {
     Ok(())
 }
 
-/// `1 + 3000000000`
-fn sum(alloc: Global) -> Result<Expr, Fail> {
-    Ok(Expr::Binary {
-        op: BinOp::Add,
-        left: Boxed::new(alloc, number(1, 0))?,
-        right: Boxed::new(alloc, number(3_000_000_000, 0))?,
-        at: 0,
-    })
-}
-
-/// What the calls make of the sum, where it stands outside of procedures.
+/// What the calls make of `1 + 3000000000`, where it stands outside of procedures.
 fn check_sum(rt: &impl Abort, alloc: Global, names: &Names, tables: &TreeTables) -> Result<(), Fail>
     requires { AreTreeTables names.now tables.now }
 {
     let scope = Scope::outside(names, 0);
-    let sum = sum(alloc)?;
-    let made = make_expression(alloc, scope, tables, &sum)?;
+    let program = program(alloc, "f() { 1 + 3000000000; }")?;
+    let sum = expression(&program)?;
+    let made = make_expression(alloc, scope, tables, sum)?;
     assert_eq!(rt; made.sort, Sort::Number(Kind::Dword));
     let is_sum = matches!(
         made.tree,
@@ -84,7 +54,7 @@ fn check_sum(rt: &impl Abort, alloc: Global, names: &Names, tables: &TreeTables)
         }
     );
     assert!(rt; is_sum);
-    let made = make_place(alloc, scope, tables, &sum)?;
+    let made = make_place(alloc, scope, tables, sum)?;
     assert!(rt; made.place.is_none());
     Ok(())
 }
