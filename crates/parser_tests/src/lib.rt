@@ -1,7 +1,8 @@
-//! Tests of the parser: sources with their trees, written as text, sources that have none, and calls of the
-//! laws on readers. `sources` has the trees of short sources, for tests of what stands above the parser.
+//! Tests of the parser: sources with their trees, written as text, sources that have none, what sources
+//! weigh, and calls of the laws on readers.
 //!
-//! They stand here, above those crates, so that each of those is proved without them.
+//! They stand here, above those crates, so that each of those is proved without them. `sources` has the trees
+//! of short sources, for tests of what stands above the parser.
 #![tactic(auto)]
 
 #[cfg(test)]
@@ -9,3 +10,5 @@ mod laws;
 #[cfg(test)]
 mod parser;
 pub mod sources;
+#[cfg(test)]
+mod weights;

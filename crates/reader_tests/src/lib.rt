@@ -1,5 +1,5 @@
-//! Tests of the calls that read expressions and declarations and tell how deep tokens nest, and of the trees
-//! of sources: a module for each crate that is tested.
+//! Tests of the calls that read expressions and declarations and tell how deep tokens nest: a module for each
+//! crate that is tested.
 //!
 //! They stand here, above those crates, so that each of those is proved without them.
 #![tactic(auto)]
@@ -9,10 +9,6 @@ mod declarations;
 #[cfg(test)]
 mod expressions;
 #[cfg(test)]
-mod forms;
-#[cfg(test)]
 mod nesting;
 #[cfg(test)]
 mod tokens;
-#[cfg(test)]
-mod trees;
