@@ -1,0 +1,8 @@
+-- The waits so far.
+use Rattle.std.proofs.Common.{take}
+use Rattle.std.specs.List.{AllZip}
+use Rattle.load_bound.specs.Waits.{IsFound}
+use Rattle.load_bound.proofs.found.find.Given as goal
+
+abbrev pub invariant-loop-place : goal.invariant-loop-place
+invariant-loop-place l = AllZip (IsFound l.bit l.streams) (take l.place l.streams) l.waits.items
