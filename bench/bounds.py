@@ -1,19 +1,19 @@
 #!/usr/bin/env python3
-"""Waiting bounds beside the exact worst case, for the message set of the SAE benchmark.
+"""Waiting bounds beside the exact worst case, for 17 messages in the style of the SAE benchmark.
 
     bounds.py
 
-The set is that of Tindell and Burns (Guaranteeing message latencies on Controller Area
-Network, 1994), the 17 messages into which they put the signals of the SAE benchmark for
-class C, strongest first: data bytes, and the least time between requests in milliseconds.
-For each it prints, at three bit rates and in microseconds, the longest wait from the request
-to the start of the frame that can occur, without jitter, and the bound that `find` gives.
+The set is like the one into which Tindell and Burns (Guaranteeing message latencies on
+Controller Area Network, 1994) put the signals of the SAE benchmark for class C, strongest
+first: data bytes, and the least time between requests in milliseconds. It was written down
+without that paper at hand, and is not claimed to be its set.
+For each message it prints, at three bit rates and in microseconds, the longest wait from the
+request to the start of the frame by the exact analysis, without jitter, and the bound that
+`find` of load_bound gives.
 
 The exact one is the queuing delay of Davis, Burns, Bril and Lukkien (Controller Area Network
 schedulability analysis: refuted, revisited and revised, 2007): the greatest over all
-instances of the message in its busy period. The set was written down without that paper at
-hand; its responses at 125 kbit/s, which are these delays and the frame, are 1416, 2016, 2536
-.. microseconds.
+instances of the message in its busy period.
 
 Nothing here calls the program: the bound is computed again from its definition.
 """

@@ -60,9 +60,9 @@ fn waits_are_accepted_from_the_least_good_one_on(rt: HostRuntime) {
     }
 }
 
-// The messages of the SAE benchmark at 250,000 bits a second, by bench/bounds.py.
+// The messages of bench/bounds.py at 250,000 bits a second, and their bounds by it.
 #[test]
-fn waits_of_the_benchmark(rt: HostRuntime) -> Result<(), Fail> {
+fn waits_of_messages_of_a_car(rt: HostRuntime) -> Result<(), Fail> {
     let streams = [
         standard(1, 1, 1_000_000),
         standard(2, 2, 5000),
@@ -72,10 +72,23 @@ fn waits_of_the_benchmark(rt: HostRuntime) -> Result<(), Fail> {
         standard(6, 2, 5000),
         standard(7, 6, 10_000),
         standard(8, 1, 10_000),
+        standard(9, 2, 10_000),
+        standard(10, 2, 10_000),
+        standard(11, 1, 100_000),
+        standard(12, 4, 100_000),
+        standard(13, 1, 100_000),
+        standard(14, 1, 100_000),
+        standard(15, 3, 1_000_000),
+        standard(16, 1, 1_000_000),
+        standard(17, 1, 1_000_000),
     ];
     assert!(rt; are_streams(&streams));
     let waits = find(rt.alloc(), &streams, 4)?;
-    let bounds = [460, 980, 1580, 2100, 2700, 3220, 3820, 4740].map(|wait| Some(wait));
+    let bounds = [
+        460, 980, 1580, 2100, 2700, 3220, 3820, 4740, 6680, 7280, 7880, 8400, 9160, 9680, 12_940,
+        13_620, 14_140,
+    ]
+    .map(|wait| Some(wait));
     assert_eq!(rt; waits.as_slice(), bounds.as_slice());
     assert!(rt; accept(&streams, 4, &bounds));
     Ok(())

@@ -11,3 +11,4 @@ pub mod CountLemmas
 pub mod IdentLemmas
 pub mod TrackLemmas
 pub mod LineLemmas
+pub mod StartLemmas

@@ -1,5 +1,7 @@
 -- Steps of arithmetic that the lemmas on the timeline take.
-use Rattle.std.proofs.Common.{◌≡◌, ℕ, ◌+◌, ◌*◌, ◌/◌, ◌<◌, ◌≤◌, true, leb, inl, inr, arith}
+use Rattle.std.proofs.Common.{◌≡◌, ℕ, ◌+◌, ◌*◌, ◌/◌, ◌<◌, ◌≤◌, true, leb, inl, inr, arith, nat_cmp}
+use Rattle.std.specs.Prelude.{max}
+use Rattle.std.specs.Ordering.{ord_max}
 use Rattle.std.proofs.Math.Nat.{mul-le-mul_right}
 use Rattle.std.proofs.lemmas.Bool.{cases_lt}
 use Rattle.std.proofs.lemmas.Bool.Decides.{nat_tests}
@@ -28,6 +30,10 @@ zero_le a = omega arith
 -- the test of an order that holds
 pub leb_from : (a b : ℕ) → a ≤ b → leb a b ≡ true
 leb_from a b h = grind (arith, nat_tests)
+
+-- the greater of two numbers by their order
+pub greatest : (a b : ℕ) → ord_max nat_cmp a b ≡ max a b
+greatest a b = grind (arith, nat_tests)
 
 -- ---- limits
 -- a bound at an earlier moment holds at a later one

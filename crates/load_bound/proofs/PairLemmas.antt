@@ -1,5 +1,5 @@
 -- Two lists in one order: what holds of each pair.
-use Rattle.std.proofs.Common.{◌≡◌, ℕ, zero, suc, ◌+◌, ◌<◌, ◌≤◌, List, [], ◌∷◌, ◌++◌, length, get_or, take, take_all, refl, sym, ap, subst, ◌∙◌, inl, inr, arith, add-one}
+use Rattle.std.proofs.Common.{◌≡◌, ℕ, zero, suc, ◌+◌, ◌<◌, ◌≤◌, List, [], ◌∷◌, ◌++◌, length, get_or, take, take_all, set, replicate, refl, sym, ap, subst, ◌∙◌, inl, inr, arith, add-one}
 use Rattle.std.specs.Prelude.{Option, None, Some, IfSome, IsSome, IsTrue, Bool, true, ◌⊎◌}
 use Rattle.std.specs.List.{All, AllZip, Contains}
 use Rattle.std.proofs.lemmas.List.Elements.{All-nil, All-cons, All-head, All-tail}
@@ -54,6 +54,18 @@ module _ {A B : Type 0} (R : A → B → Type 0) where
   -- all items of the first list
   pub zip_all_taken : (xs : List A) (ys : List B) (i : ℕ) → length xs ≤ i → AllZip R (take i xs) ys → AllZip R xs ys
   zip_all_taken xs ys i past h = subst (λ zs. AllZip R zs ys) (take_all i xs past) h
+
+-- one item of the second list is another
+pub zip_set : {A B : Type 0} (R : A → B → Type 0) (xs : List A) (ys : List B) (i : ℕ) (d : A) (y : B) → AllZip R xs ys → i < length xs → R (get_or xs i d) y → AllZip R xs (set ys i y)
+zip_set R [] ys i d y h low here = absurd (omega arith)
+zip_set R (x ∷ xs) [] i d y h low here = absurd h
+zip_set R (x ∷ xs) (z ∷ ys) zero d y h low here = (here, h.1)
+zip_set R (x ∷ xs) (z ∷ ys) (suc i) d y h low here = (h.0, zip_set R xs ys i d y h.1 (omega arith) here)
+
+-- what holds with one item
+pub zip_same : {A B : Type 0} (R : A → B → Type 0) (y : B) → ((x : A) → R x y) → (xs : List A) → AllZip R xs (replicate (length xs) y)
+zip_same R y h [] = tt
+zip_same R y h (x ∷ xs) = (h x, zip_same R y h xs)
 
 -- what follows from two facts of each pair for the first list
 pub zip_both : {A B : Type 0} (P Q : A → B → Type 0) (S : A → Type 0) → ((x : A) (y : B) → P x y → Q x y → S x) → (xs : List A) (ys : List B) → AllZip P xs ys → AllZip Q xs ys → All S xs

@@ -7,7 +7,8 @@ use Rattle.std.proofs.lemmas.List.Sums.{sum_by-append, sum_by_push, sum_by-le-su
 use Rattle.std.proofs.Math.Nat.{mul-le-mul, div-zero, div-mul-le_self}
 use Rattle.load_bound.specs.declared.stream.Stream.{Stream}
 use Rattle.load_bound.specs.Streams.{frame_time, blocking, is_stronger}
-use Rattle.load_bound.specs.Waits.{most_frames, interference, IsGood}
+use Rattle.load_bound.specs.Waits.{most_frames, interference}
+use Rattle.load_bound.specs.Inside.Starts.{IsLow}
 
 -- the time that frames of one stronger stream take
 abbrev pub stream_time : ℕ → ℕ → Stream → ℕ
@@ -34,6 +35,6 @@ interference-le bit streams s v w le =
     sum_by-le-sum_by (stream_time bit v) (stream_time bit w) (filter (λ r. is_stronger r s) streams)
     (λ r. let more = times-le v w r.apart le in mul-le-mul (omega arith) (omega arith))
 
--- a wait that all good ones reach, and what it takes, is not above them
-pub good-reaches : (bit : ℕ) (streams : List Stream) (s : Stream) (v w : ℕ) → IsGood bit streams s v → w ≤ v → blocking bit streams + interference bit streams s w ≤ v
-good-reaches bit streams s v w good le = let enough = good.enough in let more = interference-le bit streams s w v le in omega arith
+-- what a low takes is a low
+pub low_next : (bit : ℕ) (streams : List Stream) (s : Stream) (low : ℕ) → IsLow bit streams s low → IsLow bit streams s (blocking bit streams + interference bit streams s low)
+low_next bit streams s low h = λ w enough. let more = interference-le bit streams s low w (h w enough) in omega (arith, enough, more)

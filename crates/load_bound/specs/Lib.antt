@@ -4,3 +4,4 @@ pub mod Waits
 pub mod Timeline
 pub mod Kept
 pub mod Written
+pub mod Inside

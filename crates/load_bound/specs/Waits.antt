@@ -1,5 +1,5 @@
 -- Good waits of a stream: bounds on the time from the request of a frame to its start.
-use Rattle.std.specs.Prelude.{◌≡◌, ℕ, ◌+◌, ◌*◌, ◌/◌, ◌<◌, ◌≤◌, ◌⊎◌, List, Option, None, Some, All, IsTrue, IsSome, IfSome}
+use Rattle.std.specs.Prelude.{ℕ, ◌+◌, ◌*◌, ◌/◌, ◌<◌, ◌≤◌, List, Option, None, Some, All, IsTrue, IsSome, IfSome}
 use Rattle.std.specs.List.{AllZip, filter, sum_by}
 use Rattle.load_bound.specs.declared.stream.Stream.{Stream}
 use Rattle.load_bound.specs.Streams.{frame_time, blocking, is_stronger}
@@ -28,11 +28,6 @@ pub record IsLeastGood (bit : ℕ) (streams : List Stream) (s : Stream) (w : ℕ
   pub good : IsGood bit streams s w
   pub least : (v : ℕ) → IsGood bit streams s v → w ≤ v
 
--- the least good wait of a stream that has one, and nothing of one that has none
-abbrev pub IsOwnLeast : ℕ → List Stream → Stream → Option ℕ → Type 0
-IsOwnLeast bit streams s None = ¬ HasGood bit streams s
-IsOwnLeast bit streams s (Some w) = IsLeastGood bit streams s w
-
 -- the stream and each stronger one have a good wait
 pub record IsBounded (bit : ℕ) (streams : List Stream) (s : Stream) : Type 0 where
   pub own : HasGood bit streams s
@@ -46,12 +41,6 @@ IsFound bit streams s (Some w) = IsBounded bit streams s × IsLeastGood bit stre
 -- each stronger stream has been given a wait; `streams` and `waits` stand in one order
 abbrev pub StrongerHaveWaits : List Stream → List (Option ℕ) → Stream → Type 0
 StrongerHaveWaits streams waits s = AllZip (λ r v. IsTrue (is_stronger r s) → IsSome v) streams waits
-
--- the wait of a stream where each stronger one has one, else nothing
-abbrev pub IsBoundedWait : List Stream → List (Option ℕ) → Stream → Option ℕ → Option ℕ → Type 0
-IsBoundedWait streams waits s wait result =
-    (StrongerHaveWaits streams waits s × (result ≡ wait))
-    ⊎ ((¬ StrongerHaveWaits streams waits s) × (result ≡ None))
 
 -- the wait of a stream, if it is given, is good, and each stronger stream has one too
 abbrev pub IsAcceptedAt : ℕ → List Stream → List (Option ℕ) → Stream → Option ℕ → Type 0

@@ -13,7 +13,8 @@ use crate::waits::{is_good, stronger_have_waits};
 ///
 /// Where it is true, no frame waits longer than its stream's wait: in the timeline of any requests that
 /// keep to the streams, each frame of a stream with a wait begins at most that after its request, and
-/// while one has not begun, at most that has passed. Takes time quadratic in the number of streams.
+/// while one has not begun, at most that has passed. It takes time quadratic in the number of streams,
+/// and no memory.
 pub fn accept(streams: &[Stream], bit: u32, waits: &[Option<u64>]) -> bool
     requires streams { AreStreams streams.now }
     requires bit { IsBitTime bit }

@@ -20,6 +20,7 @@ pub use stream::Stream;
 mod accepted;
 mod found;
 mod line;
+mod starts;
 mod stream;
 mod times;
 mod waits;

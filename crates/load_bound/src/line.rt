@@ -9,7 +9,8 @@ use std::alloc::Global;
 use texts::{NoMemory, Text};
 
 /// The line of a stream's bound: `b IDENT W` and its line end, or `b IDENT none` where it has none.
-/// A standard identifier has three hexadecimal digits, an extended one eight.
+/// A standard identifier has three hexadecimal digits, an extended one eight. Takes the time and the
+/// memory of a short text.
 pub fn bound_line(alloc: Global, ident: Ident, wait: Option<u64>) -> Result<Text, NoMemory>
     ensures { IfOk result (λ line. line ≡ bound_line ident wait) }
 {

@@ -37,7 +37,7 @@ pub(crate) fn blocking(streams: &[Stream], bit: u32) -> u64
 }
 
 /// The arbitration key of data frames with this identifier.
-fn data_key(ident: Ident) -> u32
+pub(crate) fn data_key(ident: Ident) -> u32
     requires { IsIdent ident }
     ensures { (f : FrameFields) → f.ident ≡ ident → f.remote ≡ false → result ≡ arbitration_key f }
 {

@@ -1,14 +1,9 @@
 -- One more stream.
-use Rattle.std.proofs.Common.{◌≡◌, ℕ, ◌∙◌, arith, nat_cmp}
-use Rattle.std.specs.Prelude.{max}
-use Rattle.std.specs.Ordering.{ord_max}
-use Rattle.std.proofs.lemmas.Bool.Decides.{nat_tests}
+use Rattle.std.proofs.Common.{◌∙◌, arith}
 use Rattle.load_bound.proofs.KeyLemmas.{no_stream}
+use Rattle.load_bound.proofs.NumberLemmas.{greatest}
 use Rattle.load_bound.proofs.TimeLemmas.{blocking_more}
 use Rattle.load_bound.proofs.times.blocking.Goals as goal
-
-greatest : (a b : ℕ) → ord_max nat_cmp a b ≡ max a b
-greatest a b = grind (arith, nat_tests)
 
 pub loop-stream-preserved : goal.loop-stream-preserved
 loop-stream-preserved c =

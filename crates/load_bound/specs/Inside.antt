@@ -1,0 +1,2 @@
+-- What private functions say. No public clause speaks of it.
+pub mod Starts
