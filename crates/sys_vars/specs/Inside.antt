@@ -1,0 +1,3 @@
+-- What private functions cite.
+pub mod Declared
+pub mod Found
