@@ -15,8 +15,8 @@ pub record HostMeaning (S : Type 0) : Type 1 where
   pub faults : S → ℕ
   -- how it may stand after it took an effect: before, the effect, after
   pub takes : S → Effect → S → Type 0
-  -- how it may stand after it refused an effect: before, after
-  pub refuses : S → S → Type 0
+  -- how it may stand after it refused an effect: before, the effect, after
+  pub refuses : S → Effect → S → Type 0
 
 -- what every call keeps: the moment, whether the host is closed and how many timers it has. Faults never fall
 pub record HostStays {S : Type 0} (host : HostMeaning S) (before after : S) : Type 0 where

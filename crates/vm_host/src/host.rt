@@ -39,7 +39,7 @@ pub trait Host {
     /// Takes a line of `write`.
     fn line(&mut self, text: &[u8]) -> Result<(), RecordFault>
         ensures taken { OnOk result (meaning.takes self.old (Line text.now) self.new) }
-        ensures refused { OnErr result (meaning.refuses self.old self.new) }
+        ensures refused { OnErr result (meaning.refuses self.old (Line text.now) self.new) }
         ensures sink { IsErrOf result RecordFault.Sink → FaultsRise meaning self.old self.new }
         ensures stays { HostStays meaning self.old self.new }
         ensures timers_stay { meaning.active_timers self.new ≡ meaning.active_timers self.old };
@@ -47,7 +47,7 @@ pub trait Host {
     /// Takes a frame for the bus. A closed host lets it pass.
     fn send(&mut self, f: &Frame) -> Result<(), NoMemory>
         ensures taken { OnOk result (TakesUnlessClosed meaning self.old (Send f.now) self.new) }
-        ensures refused { OnErr result (meaning.refuses self.old self.new) }
+        ensures refused { OnErr result (meaning.refuses self.old (Send f.now) self.new) }
         ensures closed_answers { IsTrue (meaning.is_closed self.old) → IsOk result }
         ensures stays { HostStays meaning self.old self.new }
         ensures timers_stay { meaning.active_timers self.new ≡ meaning.active_timers self.old };

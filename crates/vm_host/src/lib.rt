@@ -2,7 +2,7 @@
 //!
 //! [`Host`] takes lines, frames, the wish to stop, and timers that are set or cancelled, and tells the moment
 //! and which timers are active. What a host does with an effect is the relation `takes`, and what a refused
-//! call leaves is `refuses`.
+//! effect leaves is `refuses`.
 #![tactic(auto)]
 
 pub use host::{Host, RecordFault};
