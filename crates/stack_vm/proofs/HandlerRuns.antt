@@ -1,5 +1,5 @@
 -- The run of a handler in a memory: how it begins, what it leaves, and how it is refused.
-use Rattle.std.proofs.Common.{◌≡◌, ◌<◌, ◌≤◌, ◌-◌, ℕ, List, [], length, get_or, slice_get, Option, Some, None, Result, Ok, Err, OnErr, refl, sym, ap, ◌∙◌, subst}
+use Rattle.std.proofs.Common.{◌≡◌, ◌<◌, ◌≤◌, ◌-◌, ℕ, List, [], ◌∷◌, ◌++◌, length, get_or, slice_get, Option, Some, None, Result, Ok, Err, OnErr, refl, sym, ap, ◌∙◌, subst}
 use Rattle.std.specs.Prelude.{IsSomeAnd, false}
 use Rattle.std.proofs.lemmas.Option.{get_or_from_slice_get, slice_get_within}
 use Rattle.vm_host.specs.Host.{HostMeaning}
@@ -137,14 +137,13 @@ module _ {S : Type 0} {host : HostMeaning S} {read code : Code} (same : read ≡
         start = machine_on host start before [];
         at = machine_on host there.at there.between there.comes.effects;
         between = there.between;
-        instr = there.instr;
+        effect = there.effect;
         begins = starts.begins;
         comes = there.comes.reached;
         timers = refl;
         taken = there.comes.taken;
-        first_effects = λ outcome end ends. effects_stay code (host.is_closed before) (host.moment before) (machine_on host start before [])
-            (machine_on host there.at there.between there.comes.effects) end outcome there.comes.reached ends;
-        is_there = there.is_there;
+        next_effect = λ outcome end ends. effects_stay code (host.is_closed before) (host.moment before) (machine_on host start before [])
+            (machine_on host there.next there.between (there.comes.effects ++ there.effect ∷ [])) end outcome there.goes_on ends;
         may_be = there.may_be;
         refusal = there.refusal;
       }

@@ -1,6 +1,6 @@
 -- The rows of instructions that a host takes.
-use Rattle.std.proofs.Common.{◌≡◌, ◌<◌, ◌≤◌, ◌+◌, ℕ, Bool, true, false, List, [], ◌∷◌, ◌++◌, length, reverse, take, get_or, slice_get, drop, Option, Some, None, refl, sym, ap, ◌∙◌, append-nil, le-leb}
-use Rattle.std.specs.Prelude.{ℤ, pos, nat_le, ◌&&◌, if◌then◌else◌}
+use Rattle.std.proofs.Common.{◌≡◌, ◌<◌, ◌≤◌, ◌+◌, ℕ, Bool, true, false, List, [], ◌∷◌, ◌++◌, length, reverse, take, get_or, slice_get, drop, Option, Some, None, Result, Ok, Err, OnErr, refl, sym, ap, ◌∙◌, append-nil, le-leb}
+use Rattle.std.specs.Prelude.{ℤ, pos, IsTrue, nat_le, ◌&&◌, if◌then◌else◌}
 use Rattle.std.specs.List.{list_all}
 use Rattle.std.proofs.lemmas.Option.{slice_get-get_or}
 use Rattle.write_format.specs.Format.{FormatText, char_arrays, numbers_taken, rendered}
@@ -15,7 +15,8 @@ use Rattle.message_cells.specs.Message.{frame_of, message_at}
 use Rattle.run_effects.specs.Duration.{micros}
 use Rattle.bytecode.specs.Step.{after_effect, after_set, goes_on, needing, row, unless, writes}
 use Rattle.stack_vm.specs.Inside.State.{RunState, machine}
-use Rattle.stack_vm.specs.Inside.Step.{DoesOn}
+use Rattle.stack_vm.specs.Inside.Step.{DoesOn, RefusesOn}
+use Rattle.stack_vm.specs.Runs.{IsRefusal, MayBeRefused}
 use Rattle.stack_vm.proofs.MessageRows.{cells_at}
 use Rattle.stack_vm.proofs.StepLemmas.{one_taken, same_room}
 
@@ -63,6 +64,28 @@ module _ {S : Type 0} (host : HostMeaning S) (code : Code) (instr : Instr) (befo
       either : (closed : Bool) → closed ≡ host.is_closed stands → DoesOn host code instr before stands None after stands_after
       either true c = does_quietly true (host.moment stands) c refl (leads true) (h.passed (sym c))
       either false c = does_effect effect active false (host.moment stands) c refl (leads false) (t (sym c)) (h.taken (sym c))
+
+-- an error is one of which something holds
+pub on_err : {T E P : Type 0} (r : Result T E) → P → OnErr r P
+on_err (Ok x) p = tt
+on_err (Err e) p = p
+
+-- a closed host refuses no such effect, so that an open one refused the effect of the row
+pub refuses_when_open : {S : Type 0} (host : HostMeaning S) (code : Code) (instr : Instr) (before : RunState) (stands : S) (there : RunState) (stands_after : S) (effect : Effect) →
+    ((closed : Bool) (effects : List Effect) → row code closed (host.moment stands) (machine before (host.active_timers stands) effects) instr before.stack
+    ≡ Goes (machine there (host.active_timers stands) (if closed then effects else effects ++ effect ∷ []))) →
+    (IsTrue (host.is_closed stands) → ⊥) → MayBeRefused effect → IsRefusal host stands effect stands_after → RefusesOn host code instr before stands stands_after
+refuses_when_open host code instr before stands there stands_after effect leads is_open may refusal = either (host.is_closed stands) refl
+  where
+    either : (closed : Bool) → closed ≡ host.is_closed stands → RefusesOn host code instr before stands stands_after
+    either true c = absurd (is_open (sym c))
+    either false c = record {
+      effect = effect;
+      next = there;
+      leads = λ effects. (λ i. row code (sym c i) (host.moment stands) (machine before (host.active_timers stands) effects) instr before.stack) ∙ leads false effects;
+      may_be = may;
+      refusal = refusal;
+    }
 
 -- a timer is set, unless the host is closed
 pub set_row : (code : Code) (closed : Bool) (moment : ℕ) (m : Machine) (timer unit : ℕ) (cyclic : Bool) (stack : List ℤ) → 1 ≤ length stack →

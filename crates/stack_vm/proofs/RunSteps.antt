@@ -16,9 +16,9 @@ use Rattle.bytecode.proofs.RunLemmas.{go_one_more, step_is_row}
 use Rattle.bytecode.proofs.VerifiedRuns.{IsSafeStep-step, fewer_left, held_at_end, stands_reached}
 use Rattle.stack_vm.specs.Inside.Runs.{ComesTo, EndsWith, HasRoomOn, IsRefused, machine_on}
 use Rattle.stack_vm.specs.Inside.State.{HasSameRoom, RunState}
-use Rattle.stack_vm.specs.Inside.Step.{DoesOn, IsReady, answered}
+use Rattle.stack_vm.specs.Inside.Step.{DoesOn, IsReady, RefusesOn, answered}
 use Rattle.stack_vm.specs.Memory.{HasRoomFor}
-use Rattle.stack_vm.specs.Runs.{IsRefusal, MayBeRefused, TakesAll}
+use Rattle.stack_vm.specs.Runs.{TakesAll}
 
 -- the run has come to where it begins
 pub comes_at_first : {S : Type 0} (host : HostMeaning S) (code : Code) (start : RunState) (before : S) → ComesTo host code start before start before
@@ -93,6 +93,24 @@ module _ {S : Type 0} {host : HostMeaning S} {code : Code} (verified : IsVerifie
           fits = λ after e. fits_next after (is_row ∙ e);
         }
 
+    -- a refusal in the state that the run has come to
+    pub refused_there : {X E : Type 0} (r : Result X E) {after : S} → RefusesOn host code instr s h after → OnErr r (IsRefused host code start before after)
+    refused_there (Ok x) refuses = tt
+    refused_there (Err e) refuses = record {
+      at = s;
+      between = h;
+      effect = refuses.effect;
+      next = refuses.next;
+      comes = comes;
+      goes_on = (
+        suc comes.reached.0,
+        next_step ∙ is_row ∙ (λ i. row code (sym comes.stays.closing i) (sym comes.stays.moment i) (machine_on host s h comes.effects) instr s.stack)
+            ∙ refuses.leads comes.effects,
+      );
+      may_be = refuses.may_be;
+      refusal = refuses.refusal;
+    }
+
     module _ {end : Option Outcome} {after : RunState} {h_after : S} (does : DoesOn host code instr s h end after h_after) where
       step_leads : step code (host.is_closed before) (host.moment before) (machine_on host s h comes.effects)
           ≡ answered end (machine_on host after h_after (comes.effects ++ does.new))
@@ -144,11 +162,3 @@ module _ {S : Type 0} {host : HostMeaning S} {code : Code} (verified : IsVerifie
         cells_then = held_at_end code verified (host.is_closed before) (host.moment before) (machine_on host s h comes.effects) stands outcome
             (machine_on host after h_after (comes.effects ++ does.new))
             (step_leads ∙ ap (λ (o : Option Outcome). answered o (machine_on host after h_after (comes.effects ++ does.new))) e)
-
--- a refusal in the state that the run has come to
-pub refused_there : {S X E : Type 0} (r : Result X E) {host : HostMeaning S} {code : Code} {start : RunState} {before : S} {at : RunState} {between : S} →
-    ComesTo host code start before at between → {instr : Instr} → slice_get code.instrs at.place ≡ Some instr → MayBeRefused instr →
-    {after : S} → IsRefusal host between after → OnErr r (IsRefused host code start before after)
-refused_there (Ok x) comes there may refusal = tt
-refused_there (Err e) {at = at} {between = between} comes {instr} there may refusal =
-    record { at = at; between = between; instr = instr; comes = comes; is_there = there; may_be = may; refusal = refusal }

@@ -11,7 +11,7 @@ use Rattle.bytecode.specs.declared.instr.Instr.{Instr}
 use Rattle.bytecode.specs.Machine.{Next}
 use Rattle.bytecode.specs.Step.{goes_on, row, taking_one, taking_two}
 use Rattle.stack_vm.specs.Inside.State.{HasSameRoom, RunState, machine}
-use Rattle.stack_vm.specs.Inside.Step.{Does, DoesIn, DoesOn, IsReady, answered}
+use Rattle.stack_vm.specs.Inside.Step.{Does, DoesIn, DoesOn, IsReady, RefusesOn, answered}
 
 -- ---- numbers on the stack
 
@@ -107,5 +107,10 @@ module _ {S : Type 0} (host : HostMeaning S) where
   does_on_as {code} {i} {j} {before} {end} {after} {stands} {stands_after} e d =
       subst (λ (k : Instr). DoesOn host code k before stands end after stands_after) (sym e) d
 
+  -- and is refused by any name
+  pub refuses_on_as : {code : Code} {i j : Instr} {s : RunState} {before after : S} → i ≡ j → RefusesOn host code j s before after →
+      RefusesOn host code i s before after
+  refuses_on_as {code} {i} {j} {s} {before} {after} e refused = subst (λ (k : Instr). RefusesOn host code k s before after) (sym e) refused
+
 -- what is known of an instruction by another name
-pub ruleset by_name = (ready_as, ready_some, does_on_as)
+pub ruleset by_name = (ready_as, ready_some, does_on_as, refuses_on_as)

@@ -1,11 +1,10 @@
 -- A run of a handler in a memory, on a host.
-use Rattle.std.specs.Prelude.{◌≡◌, ◌⊎◌, ℕ, ◌-◌, List, [], ◌∷◌, Some, slice_get}
-use Rattle.run_effects.specs.Effect.{Effect}
+use Rattle.std.specs.Prelude.{◌≡◌, ◌⊎◌, ℕ, ◌-◌, List, [], ◌∷◌, ◌++◌}
+use Rattle.can_frame.specs.Frame.{FrameFields}
+use Rattle.run_effects.specs.Effect.{Effect, Line, Send}
 use Rattle.vm_host.specs.Host.{HostMeaning}
 use Rattle.run_effects.specs.declared.outcome.Outcome.{Outcome}
 use Rattle.bytecode.specs.declared.code.Code.{Code}
-use Rattle.bytecode.specs.declared.instr.Instr.{Instr}
-use Rattle.bytecode.specs.declared.instr.Instr.TheVariants.{Write, Send}
 use Rattle.bytecode.specs.Laws.{BeginsWith}
 use Rattle.bytecode.specs.Machine.{Machine}
 use Rattle.bytecode.specs.Runs.{EndsIn, IsStartOf, Reaches}
@@ -43,30 +42,30 @@ pub record Runs {S : Type 0} (host : HostMeaning S) (code : Code) (handler turns
   pub taken : TakesAll host before end.effects after
   pub metered : AddsRun row (turns - end.turns) meter meter_after
 
--- an instruction that gives the host a line or a frame, which may be refused
-abbrev pub MayBeRefused : Instr → Type 0
-MayBeRefused instr = ((format : ℕ) × (instr ≡ Write format)) ⊎ ((at : ℕ) × (instr ≡ Send at))
+-- a line or a frame, which may be refused
+abbrev pub MayBeRefused : Effect → Type 0
+MayBeRefused effect =
+    ((text : List ℕ) × (effect ≡ Line text)) ⊎ ((frame : FrameFields) × (effect ≡ Send frame))
 
--- nothing was given to a host, since there was no memory for a line, or it refused what it was given
-abbrev pub IsRefusal : {S : Type 0} → HostMeaning S → S → S → Type 0
-IsRefusal {S} host before after = (after ≡ before) ⊎ host.refuses before after
+-- an effect was not given to a host, since there was no memory for a line, or the host refused it
+abbrev pub IsRefusal : {S : Type 0} → HostMeaning S → S → Effect → S → Type 0
+IsRefusal {S} host before effect after = (after ≡ before) ⊎ host.refuses before effect after
 
 -- A run of a handler was refused at a state that the machine comes to from where the handler begins, by a
--- line or a frame. The host has taken the effects up to there in order, and they begin the effects of the
--- whole run.
+-- line or a frame. The host has taken the effects up to there in order, and the next effect of the whole run
+-- is the one that was refused.
 pub record IsRunRefused {S : Type 0} (host : HostMeaning S) (code : Code) (handler turns : ℕ)
     (memory : MemoryState) (before after : S) : Type 0 where
   pub start : Machine
   pub at : Machine
   pub between : S
-  pub instr : Instr
+  pub effect : Effect
   pub begins : BeginsIn host code handler turns memory before start
   pub comes : Reaches code (host.is_closed before) (host.moment before) start at
   pub timers : host.active_timers between ≡ at.active
   pub taken : TakesAll host before at.effects between
-  pub first_effects : (outcome : Outcome) (end : Machine) →
+  pub next_effect : (outcome : Outcome) (end : Machine) →
       EndsIn code (host.is_closed before) (host.moment before) start outcome end →
-      BeginsWith end.effects at.effects
-  pub is_there : slice_get code.instrs at.place ≡ Some instr
-  pub may_be : MayBeRefused instr
-  pub refusal : IsRefusal host between after
+      BeginsWith end.effects (at.effects ++ effect ∷ [])
+  pub may_be : MayBeRefused effect
+  pub refusal : IsRefusal host between effect after

@@ -7,8 +7,7 @@ ghost use Rattle.run_effects.specs.Duration.{micros};
 ghost use Rattle.bytecode.specs.Verified.{IsVerified};
 ghost use Rattle.int_kinds.specs.Kind.{IsNumber};
 ghost use Rattle.stack_vm.specs.Inside.State.{HasSameRoom};
-ghost use Rattle.stack_vm.specs.Inside.Step.{DoesOn, IsReady};
-ghost use Rattle.stack_vm.specs.Runs.{IsRefusal};
+ghost use Rattle.stack_vm.specs.Inside.Step.{DoesOn, IsReady, RefusesOn};
 ghost use Rattle.vm_host.specs.Host.{FaultsRise, HostStays};
 ghost use Rattle.write_format.specs.Arrays.{HoldsBytes};
 ghost use Rattle.write_format.specs.Format.{char_arrays, numbers_taken, rendered};
@@ -100,7 +99,8 @@ pub(crate) fn send<H: Host>(state: &mut State, host: &mut H, at: u32) -> Result<
     requires { (code : Code) × IsReady code (Send at) state.old }
     ensures does { OnOk result ((code : Code) →
         DoesOn H.meaning code (Send at) state.old host.old None state.new host.new) }
-    ensures refused { OnErr result (H.meaning.refuses host.old host.new) }
+    ensures refused { OnErr result ((code : Code) →
+        RefusesOn H.meaning code (Send at) state.old host.old host.new) }
     ensures stays { OnErr result (state.new ≡ state.old) }
     ensures same_room { HasSameRoom state.old state.new }
     ensures host_stays { HostStays H.meaning host.old host.new }
@@ -121,7 +121,8 @@ pub(crate) fn write<H: Host>(
     requires ready { IsReady code.now (Write f) state.old }
     ensures does { OnOk result (
         DoesOn H.meaning code.now (Write f) state.old host.old None state.new host.new) }
-    ensures refused { OnErr result (IsRefusal H.meaning host.old host.new) }
+    ensures refused { OnErr result (
+        RefusesOn H.meaning code.now (Write f) state.old host.old host.new) }
     ensures sink { IsErrOf result RecordFault.Sink → FaultsRise H.meaning host.old host.new }
     ensures stays { OnErr result (state.new ≡ state.old) }
     ensures same_room { HasSameRoom state.old state.new }

@@ -30,8 +30,8 @@ use vm_host::{Host, RecordFault};
 ///
 /// What the host answered to the line of a `Write` or the frame of a `Send`, or `NoMemory` where
 /// there was none for a line. The host then stands where the effects before led, or where it refused
-/// this one. The effects before begin those of the whole run, and the meter is as before. `Sink`
-/// comes only where the host's faults rose.
+/// this one. The effects before and then this one begin those of the whole run, and the meter is as
+/// before. `Sink` comes only where the host's faults rose.
 pub fn run<H: Host>(
     code: &Verified,
     handler: u32,

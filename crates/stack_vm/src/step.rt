@@ -2,8 +2,7 @@
 
 ghost use Rattle.std.specs.Prelude.{◌≡◌, ◌≤◌, length, IfOk, IsErrOf, None, OnErr, OnOk};
 ghost use Rattle.bytecode.specs.Verified.{IsVerified};
-ghost use Rattle.stack_vm.specs.Inside.Step.{AsksHost, DoesIn, DoesOn, IsReady};
-ghost use Rattle.stack_vm.specs.Runs.{IsRefusal, MayBeRefused};
+ghost use Rattle.stack_vm.specs.Inside.Step.{AsksHost, DoesIn, DoesOn, IsReady, RefusesOn};
 ghost use Rattle.vm_host.specs.Host.{FaultsRise, HostStays};
 
 use crate::state::State;
@@ -86,8 +85,8 @@ pub(crate) fn ask<H: Host>(
     requires timers { length code.now.timers ≤ length (H.meaning.active_timers host.old) }
     ensures does { OnOk result (
         DoesOn H.meaning code.now instr.now state.old host.old None state.new host.new) }
-    ensures refused { OnErr result (IsRefusal H.meaning host.old host.new) }
-    ensures may_be { OnErr result (MayBeRefused instr.now) }
+    ensures refused { OnErr result (
+        RefusesOn H.meaning code.now instr.now state.old host.old host.new) }
     ensures sink { IsErrOf result RecordFault.Sink → FaultsRise H.meaning host.old host.new }
     ensures stays { OnErr result (state.new ≡ state.old) }
     ensures host_stays { HostStays H.meaning host.old host.new }

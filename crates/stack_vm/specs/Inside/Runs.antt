@@ -1,10 +1,9 @@
 -- A run from the state in which it begins.
-use Rattle.std.specs.Prelude.{List, [], Some, slice_get, ◌≡◌}
+use Rattle.std.specs.Prelude.{List, [], ◌∷◌, ◌++◌}
 use Rattle.run_effects.specs.Effect.{Effect}
 use Rattle.vm_host.specs.Host.{HostMeaning, HostStays}
 use Rattle.run_effects.specs.declared.outcome.Outcome.{Outcome}
 use Rattle.bytecode.specs.declared.code.Code.{Code}
-use Rattle.bytecode.specs.declared.instr.Instr.{Instr}
 use Rattle.bytecode.specs.Machine.{Machine}
 use Rattle.bytecode.specs.Runs.{EndsIn, Reaches}
 use Rattle.stack_vm.specs.Memory.{HasRoomFor}
@@ -39,13 +38,16 @@ pub record EndsWith {S : Type 0} (host : HostMeaning S) (code : Code) (start : R
       outcome (machine_on host s after effects)
   pub taken : TakesAll host before effects after
 
--- the run was refused at an instruction with an effect that may be: the host took the effects up to there
+-- the run was refused at a line or a frame: the host took the effects up to there, and the machine goes on to
+-- a state that has the refused one too
 pub record IsRefused {S : Type 0} (host : HostMeaning S) (code : Code) (start : RunState) (before after : S) :
     Type 0 where
   pub at : RunState
   pub between : S
-  pub instr : Instr
+  pub effect : Effect
+  pub next : RunState
   pub comes : ComesTo host code start before at between
-  pub is_there : slice_get code.instrs at.place ≡ Some instr
-  pub may_be : MayBeRefused instr
-  pub refusal : IsRefusal host between after
+  pub goes_on : Reaches code (host.is_closed before) (host.moment before) (machine_on host start before [])
+      (machine_on host next between (comes.effects ++ effect ∷ []))
+  pub may_be : MayBeRefused effect
+  pub refusal : IsRefusal host between effect after

@@ -1,5 +1,5 @@
 -- One step of a run, as the machine's table has it.
-use Rattle.std.specs.Prelude.{◌≡◌, ◌≢◌, ℕ, ◌+◌, ◌^◌, ◌<◌, ◌≤◌, Bool, List, ◌++◌, length, Option, Some, None, ⊤}
+use Rattle.std.specs.Prelude.{◌≡◌, ◌≢◌, ℕ, ◌+◌, ◌^◌, ◌<◌, ◌≤◌, Bool, List, [], ◌∷◌, ◌++◌, length, Option, Some, None, ⊤}
 use Rattle.std.specs.List.{AllByRecursion}
 use Rattle.int_kinds.specs.Kind.{IsNumber}
 use Rattle.run_effects.specs.Effect.{Effect}
@@ -14,7 +14,7 @@ use Rattle.bytecode.specs.Runs.{HoldKinds}
 use Rattle.bytecode.specs.Shape.{shape_of}
 use Rattle.bytecode.specs.Step.{row}
 use Rattle.stack_vm.specs.Memory.{HasRoomFor}
-use Rattle.stack_vm.specs.Runs.{TakesAll}
+use Rattle.stack_vm.specs.Runs.{IsRefusal, MayBeRefused, TakesAll}
 use Rattle.stack_vm.specs.Inside.State.{HasSameRoom, RunState, machine}
 
 -- the machine goes on, or ends with an outcome
@@ -56,6 +56,18 @@ pub record DoesOn {S : Type 0} (host : HostMeaning S) (code : Code) (instr : Ins
       row code (host.is_closed before) (host.moment before) (machine s (host.active_timers before) effects)
       instr s.stack ≡ answered end (machine s_after (host.active_timers after) (effects ++ new))
   pub taken : TakesAll host before new after
+
+-- the row of an instruction leads from a state and a host to a state with one effect more, a line or a frame,
+-- which was refused
+pub record RefusesOn {S : Type 0} (host : HostMeaning S) (code : Code) (instr : Instr) (s : RunState)
+    (before after : S) : Type 0 where
+  pub effect : Effect
+  pub next : RunState
+  pub leads : (effects : List Effect) →
+      row code (host.is_closed before) (host.moment before) (machine s (host.active_timers before) effects)
+      instr s.stack ≡ Goes (machine next (host.active_timers before) (effects ++ effect ∷ []))
+  pub may_be : MayBeRefused effect
+  pub refusal : IsRefusal host before effect after
 
 -- What an instruction asks of the state is there: numbers on the stack, cells that their kinds hold, what
 -- it names, the next place, and, on some host with the timers of the code, a row that is not stuck and room

@@ -69,9 +69,10 @@ ask-requires-clause-ready g c =
 
 pub returns-in_err-ask-in-Err-clause-refused : goal.returns-in_err-ask-in-Err-clause-refused
 returns-in_err-ask-in-Err-clause-refused g c =
-    let below = place_there c.requires.verified c.requires.starts.1 c.requires.room c.loop-outcome.invariant in
-    let there = item_read c.args.code.now.instrs c.as_slice-instrs.ensures c.place.ensures below (Push (pos 0)) in
-    refused_there c.from_residual.result c.loop-outcome.invariant there c.in_err-ask-in-Err.ensures.may_be c.in_err-ask-in-Err.ensures.refused
+    let comes = comes_as c.in-Err.ensures.stays c.loop-outcome.invariant in
+    let below = place_there c.requires.verified c.requires.starts.1 c.requires.room comes in
+    let there = item_read c.args.code.now.instrs c.as_slice-instrs.ensures (c.place.ensures ∙ ap (λ (s : RunState). s.place) (sym c.in-Err.ensures.stays)) below (Push (pos 0)) in
+    refused_there c.requires.verified c.requires.starts.1 c.requires.room comes there c.from_residual.result c.in_err-ask-in-Err.ensures.refused
 
 pub returns-in_err-ask-in-Err-clause-cells_held : goal.returns-in_err-ask-in-Err-clause-cells_held
 returns-in_err-ask-in-Err-clause-cells_held g c =
