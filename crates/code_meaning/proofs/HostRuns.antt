@@ -1,5 +1,5 @@
 -- A run of the machine in a memory and on a host leaves them as the typed tree says, or is refused on its way there.
-use Rattle.std.proofs.Common.{◌≡◌, ℕ, List, Some, slice_get, sym, ap, ◌∙◌, subst}
+use Rattle.std.proofs.Common.{◌≡◌, ℕ, List, [], ◌∷◌, ◌++◌, Some, slice_get, sym, ap, ◌∙◌, subst}
 use Rattle.run_effects.specs.Effect.{Effect}
 use Rattle.vm_host.specs.Host.{HostMeaning}
 use Rattle.run_effects.specs.declared.outcome.Outcome.{Outcome}
@@ -61,9 +61,10 @@ module _ {S : Type 0} (host : HostMeaning S) (typed : Typed) (code : Code) (soun
       let same = ending_meant r.start r.begins ended.0 ended.1 ended.2 in
       record {
         first = r.at.effects;
+        effect = r.effect;
         between = r.between;
         taken = r.taken;
-        begins = subst (λ (effects : List Effect). BeginsWith effects r.at.effects) (ap (λ (end : Ending). end.effects) same)
-            (r.first_effects ended.0 ended.1 ended.2);
+        begins = subst (λ (effects : List Effect). BeginsWith effects (r.at.effects ++ r.effect ∷ [])) (ap (λ (end : Ending). end.effects) same)
+            (r.next_effect ended.0 ended.1 ended.2);
         refusal = r.refusal;
       }

@@ -1,5 +1,5 @@
 -- How a run of an event procedure leaves a memory and a host, by its ending.
-use Rattle.std.specs.Prelude.{◌≡◌, ℕ, List}
+use Rattle.std.specs.Prelude.{◌≡◌, ℕ, List, [], ◌∷◌, ◌++◌}
 use Rattle.run_effects.specs.Effect.{Effect}
 use Rattle.vm_host.specs.Host.{HostMeaning}
 use Rattle.run_effects.specs.declared.outcome.Outcome.{Outcome}
@@ -35,7 +35,8 @@ pub record EndsOnHost {S : Type 0} (host : HostMeaning S) (ending : Ending) (row
 pub record IsRefusedOnHost {S : Type 0} (host : HostMeaning S) (ending : Ending) (before after : S) : Type 0
   where
     pub first : List Effect
+    pub effect : Effect
     pub between : S
     pub taken : TakesAll host before first between
-    pub begins : BeginsWith ending.effects first
-    pub refusal : IsRefusal host between after
+    pub begins : BeginsWith ending.effects (first ++ effect ∷ [])
+    pub refusal : IsRefusal host between effect after

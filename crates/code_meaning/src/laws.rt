@@ -61,7 +61,7 @@ pub fn code_means_its_tree()
 /// Where the machine has run an event procedure of this code in a memory and on a host, they stand
 /// as the typed tree says: the memory has the cells, the host the timers and the effects in order,
 /// and the meter one run more with the turns that it took. Where the run was refused, the effects
-/// that the host took are the first ones that the tree says.
+/// that the host took are the first ones that the tree says, and the one that was refused is the next.
 pub fn machine_runs_its_tree<H: Host>()
     ensures runs { (typed : Typed) (code : Code) → IsSound typed → IsCodeOf typed code →
         (number turns row : ℕ) (handler : THandler) → slice_get typed.handlers number ≡ Some handler →
