@@ -41,12 +41,12 @@ kept_by_run f {host} each {before} {after} r = kept_by_all f host each before r.
 -- and so does a run that was refused, where a refusal keeps it too
 pub kept_by_refused_run : {S A : Type 0} (f : S → A) {host : HostMeaning S}
     (each : (before : S) (effect : Effect) (after : S) → host.takes before effect after → f after ≡ f before)
-    (refused : (before after : S) → host.refuses before after → f after ≡ f before)
+    (refused : (before : S) (effect : Effect) (after : S) → host.refuses before effect after → f after ≡ f before)
     {code : Code} {handler turns : ℕ} {memory : MemoryState} {before after : S}
     → IsRunRefused host code handler turns memory before after → f after ≡ f before
 kept_by_refused_run f {host} each refused {before} {after} r =
     let k = kept_by_all f host each before r.at.effects r.between r.taken in
-    elim r.refusal as (λ _. f after ≡ f before) [ inl same ↦ ap f same ∙ k | inr gone ↦ refused r.between after gone ∙ k ]
+    elim r.refusal as (λ _. f after ≡ f before) [ inl same ↦ ap f same ∙ k | inr gone ↦ refused r.between r.effect after gone ∙ k ]
 
 -- effects on a host are effects on its parts
 taken_along : {S B R : Type 0} (f : S → Parts B R) (host : HostMeaning S) (after_request : B → ℕ → FrameFields → B) (meaning : RecordMeaning R)
@@ -85,7 +85,7 @@ runs_along f {host} after_request meaning active moment each {code} {before} {ou
 pub refused_along : {S B R : Type 0} (f : S → Parts B R) {host : HostMeaning S} (after_request : B → ℕ → FrameFields → B) (meaning : RecordMeaning R)
     (active : (s : S) → host.active_timers s ≡ active_timers (f s).timers) (moment : (s : S) → host.moment s ≡ (f s).moment)
     (each : (before : S) (effect : Effect) (after : S) → host.takes before effect after → PartsTake after_request meaning (f before) effect (f after))
-    (refused : (before after : S) → host.refuses before after → PartsRefuse meaning (f before) (f after))
+    (refused : (before : S) (effect : Effect) (after : S) → host.refuses before effect after → PartsRefuse meaning (f before) effect (f after))
     {code : Code} {handler turns : ℕ} {memory : MemoryState} {before after : S}
     → IsRunRefused host code handler turns memory before after
     → RefusesHandler after_request meaning code (host.is_closed before) handler turns memory (f before) (f after)
@@ -93,12 +93,13 @@ refused_along f {host} after_request meaning active moment each refused {code} {
   start = r.start;
   at = r.at;
   between = f r.between;
+  effect = r.effect;
   begins = begins_along f host active r.begins;
   come_to = come_to after_request meaning (f before) r.at.effects (f r.between) (taken_along f host after_request meaning each before r.at.effects r.between r.taken);
-  first_effects = λ outcome last ends.
-      r.first_effects outcome last (subst (λ m. EndsIn code (host.is_closed before) m r.start outcome last) (sym (moment before)) ends);
-  refusal = elim r.refusal as (λ _. ((f after).into ≡ (f r.between).into) ⊎ PartsRefuse meaning (f r.between) (f after))
-      [ inl same ↦ inl (ap (λ s. (f s).into) same) | inr gone ↦ inr (refused r.between after gone) ];
+  next_effect = λ outcome last ends.
+      r.next_effect outcome last (subst (λ m. EndsIn code (host.is_closed before) m r.start outcome last) (sym (moment before)) ends);
+  refusal = elim r.refusal as (λ _. ((f after).into ≡ (f r.between).into) ⊎ PartsRefuse meaning (f r.between) r.effect (f after))
+      [ inl same ↦ inl (ap (λ s. (f s).into) same) | inr gone ↦ inr (refused r.between r.effect after gone) ];
 }
 
 -- parts with the same values

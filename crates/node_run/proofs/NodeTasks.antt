@@ -1,5 +1,5 @@
 -- The run of a handler by a node is its next task.
-use Rattle.std.proofs.Common.{◌≡◌, ◌-◌, ◌≤◌, arith, ℕ, ◌+◌, Bool, true, false, List, [], ◌∷◌, ◌++◌, inl, inr, ◌⊎◌, Option, None, Some, refl, ap, sym, subst, ◌∙◌, slice_get}
+use Rattle.std.proofs.Common.{◌≡◌, ◌-◌, ◌≤◌, arith, ℕ, ◌+◌, Bool, true, false, List, [], ◌∷◌, ◌++◌, inl, inr, ◌⊎◌, Option, None, Some, append-nil, refl, ap, sym, subst, ◌∙◌, slice_get}
 use Rattle.std.specs.Prelude.{ℤ, IsErrAnd, IsErrOf, IsSome, Result, Ok, Err}
 use Rattle.texts.specs.Fault.{HasRisen}
 use Rattle.vm_host.specs.declared.host.RecordFault.{RecordFault}
@@ -42,7 +42,7 @@ use Rattle.node_rounds.proofs.MovingTimers.{count_at_begin}
 use Rattle.node_run.specs.Code.{CodeMemory, EndsByCode, by_code, cells_with_this, code_reaction}
 use Rattle.node_run.specs.Inside.Agenda.{IsNextTaken, next_in}
 use Rattle.node_run.specs.Inside.Handler.{BeginsHere, RefusesHandler, RunsHandler}
-use Rattle.node_run.specs.Inside.Host.{Parts, parts}
+use Rattle.node_run.specs.Inside.Host.{Parts, PartsRefuse, parts}
 use Rattle.node_run.specs.Node.{BeginTask, DoesTask, IsMetered, IsTaskRefused, NodeInRound}
 
 -- ---- lists
@@ -146,6 +146,33 @@ lines_begin_task node trigger rest handler memory before start effects run first
     first p.end.outcome e.last (subst (λ (m : Machine). EndsIn node.doing.node.memory.code (is_closed trigger.occurrence) node.moment m p.end.outcome e.last) same e.ends) in
     subst (λ ls. BeginsWith ls (lines_of effects)) (sym (ap (λ (t : Task). t.lines) n.is_task ∙ ap (λ (d : Done (NodeState CodeMemory)). d.lines) p.is))
     (lines_begin p.end.effects effects (halt_lines p.end.outcome) (subst (λ es. BeginsWith es effects) (sym e.effects) begins))
+
+-- the lines of the next task are those of the end of its run, and then the line that tells a halt
+pub lines_of_task : {B R : Type 0} (node : NodeInRound) (trigger : Trigger) (rest : Rest) (handler : ℕ) (memory : MemoryState) (before : Parts B R) (start : Machine) (outcome : Outcome) (last : Machine)
+    → IsNextRun node trigger rest handler memory before start → EndsIn node.doing.node.memory.code (is_closed trigger.occurrence) node.moment start outcome last
+    → BeginTask node (lines_of last.effects ++ halt_lines outcome)
+lines_of_task node trigger rest handler memory before start outcome last run ends task after n =
+    let p = procedure_of node trigger rest handler run.next run.runs task after n in
+    let e = subst (λ (t : Timers). EndsByCode node.doing.node.memory handler trigger.occurrence node.moment (active_timers t) p.end) (sym run.fires) p.ends in
+    let same : e.start ≡ start =
+    same_start node.doing.node.memory.code handler node.doing.node.memory.turns memory before start node.doing.node.memory trigger.occurrence node.moment p.end
+    run.begins e refl refl run.this in
+    let once = one_end node.doing.node.memory.code (is_closed trigger.occurrence) node.moment start p.end.outcome outcome e.last last
+    (subst (λ (m : Machine). EndsIn node.doing.node.memory.code (is_closed trigger.occurrence) node.moment m p.end.outcome e.last) same e.ends) ends in
+    let effects : p.end.effects ≡ last.effects = e.effects ∙ ap (λ (m : Machine). m.effects) once.1 in (
+      [],
+      ap (λ (t : Task). t.lines) n.is_task ∙ ap (λ (d : Done (NodeState CodeMemory)). d.lines) p.is
+          ∙ ap (λ (es : List Effect). lines_of es ++ halt_lines p.end.outcome) effects ∙ ap (λ (o : Outcome). lines_of last.effects ++ halt_lines o) once.0
+          ∙ sym (append-nil (lines_of last.effects ++ halt_lines outcome)),
+    )
+
+-- the lines of effects and then one line more are those of the effects and this line
+line_next : (node : NodeInRound) (effects : List Effect) (text : List ℕ) → BeginTask node (lines_of (effects ++ Line text ∷ [])) → BeginTask node (lines_of effects ++ text ∷ [])
+line_next node effects text begins = subst (λ (ls : List (List ℕ)). BeginTask node ls) (lines_append effects (Line text ∷ [])) begins
+
+-- what begins with effects and one more begins with the effects
+without_next : (whole effects : List Effect) (effect : Effect) → BeginsWith whole (effects ++ effect ∷ []) → BeginsWith whole effects
+without_next whole effects effect begins = (effect ∷ begins.0, begins.1 ∙ append_assoc effects (effect ∷ []) begins.0)
 
 -- ---- a task that only takes a timer
 
@@ -285,9 +312,9 @@ module _ {B R : Type 0} (after_request : B → ℕ → FrameFields → B) (meani
     next_run = record { next = took.next; runs = runs.runs; begins = run.begins; this = runs.this; fires = took.fires }
 
     -- a refused line that tells a halt is the last one of the task
-    pub refused_halt : (into_after : R) (text : List ℕ) → RefusesEntry meaning between (entry.Line node.moment number text) into_after
+    pub refused_halt : (into_after : R) (text : List ℕ) → halt_lines outcome ≡ text ∷ [] → RefusesEntry meaning between (entry.Line node.moment number text) into_after
         → IsTaskRefused meaning number node into into_after meter meter_after
-    refused_halt into_after text refused = record {
+    refused_halt into_after text told refused = record {
       lines = lines_of run.last.effects;
       between = between;
       first_lines = lines_begin_task node trigger rest handler memory (parts number node.moment false bus into timers) run.start run.last.effects next_run
@@ -296,11 +323,22 @@ module _ {B R : Type 0} (after_request : B → ℕ → FrameFields → B) (meani
           (subst (λ b. EndsIn node.doing.node.memory.code b node.moment run.start outcome run.last) runs.closing run.ends) in
           subst (λ (m : Machine). BeginsWith m.effects run.last.effects) (sym once.1) (BeginsWith-self run.last.effects));
       taken = run.come_to.lines;
-      refusal = inr (text, refused);
+      refusal = inr (
+        text,
+        refused,
+        subst (λ (ls : List (List ℕ)). BeginTask node (lines_of run.last.effects ++ ls)) told
+            (lines_of_task node trigger rest handler memory (parts number node.moment false bus into timers) run.start outcome run.last next_run
+            (subst (λ b. EndsIn node.doing.node.memory.code b node.moment run.start outcome run.last) runs.closing run.ends)),
+      );
       metered = inr (task_of trigger (done_with node trigger memory_after run.last outcome), (stands_after node rest memory_after timers_after (halts outcome)).doing, next_with (halts outcome) refl, metered_with);
     }
 
 -- ---- refusals
+
+-- a record was not asked, or refused the line of the task after these
+abbrev RefusesNext : {R : Type 0} → RecordMeaning R → ℕ → NodeInRound → List (List ℕ) → R → R → Type 0
+RefusesNext {R} meaning number node lines between after =
+    (after ≡ between) ⊎ ((text : List ℕ) × RefusesEntry meaning between (entry.Line node.moment number text) after × BeginTask node (lines ++ text ∷ []))
 
 -- a refused run is refused at the first lines of the task
 pub refused_run : {B R : Type 0} (after_request : B → ℕ → FrameFields → B) (meaning : RecordMeaning R) (number : ℕ) (node : NodeInRound) (bus : B) (into : R) (meter meter_after : List MeterRow)
@@ -318,23 +356,33 @@ refused_run {B} {R} after_request meaning number node bus into meter meter_after
     refused_own took runs run same = record {
       lines = lines_of run.at.effects;
       between = run.between.into;
-      first_lines = lines_begin_task node trigger rest handler memory (parts number node.moment false bus into timers) run.start run.at.effects
-          (record { next = took.next; runs = runs.runs; begins = run.begins; this = runs.this; fires = took.fires })
-          (λ outcome last ends. run.first_effects outcome last (subst (λ b. EndsIn node.doing.node.memory.code b node.moment run.start outcome last) (sym runs.closing) ends));
+      first_lines = begins run.at.effects (λ outcome last ends. without_next last.effects run.at.effects run.effect (next outcome last ends));
       taken = run.come_to.lines;
-      refusal = elim run.refusal as (λ _. (after.into ≡ run.between.into) ⊎ ((text : List ℕ) × RefusesEntry meaning run.between.into (entry.Line node.moment number text) after.into)) [
-        | inl same ↦ inl same
-        | inr refused ↦ elim refused as (λ _. (after.into ≡ run.between.into) ⊎ ((text : List ℕ) × RefusesEntry meaning run.between.into (entry.Line node.moment number text) after.into)) [
-          | inl same ↦ inl same
-          | inr line ↦ inr (
-            line.0,
-            subst (λ m. RefusesEntry meaning run.between.into (entry.Line m number line.0) after.into) run.come_to.moment
-                (subst (λ n. RefusesEntry meaning run.between.into (entry.Line run.between.moment n line.0) after.into) run.come_to.number line.1),
-          )
-        ]
-      ];
+      refusal = elim run.refusal as (λ _. RefusesNext meaning number node (lines_of run.at.effects) run.between.into after.into) [ inl same ↦ inl same | inr refused ↦ refused_next run.effect next refused ];
       metered = inl same;
     }
+      where
+        begins : (effects : List Effect) → AllBeginWith node.doing.node.memory.code (is_closed trigger.occurrence) node.moment run.start effects → BeginTask node (lines_of effects)
+        begins effects =
+            lines_begin_task node trigger rest handler memory (parts number node.moment false bus into timers) run.start effects
+            (record { next = took.next; runs = runs.runs; begins = run.begins; this = runs.this; fires = took.fires })
+
+        next : AllBeginWith node.doing.node.memory.code (is_closed trigger.occurrence) node.moment run.start (run.at.effects ++ run.effect ∷ [])
+        next outcome last ends =
+            run.next_effect outcome last (subst (λ b. EndsIn node.doing.node.memory.code b node.moment run.start outcome last) (sym runs.closing) ends)
+
+        refused_next : (effect : Effect) → AllBeginWith node.doing.node.memory.code (is_closed trigger.occurrence) node.moment run.start (run.at.effects ++ effect ∷ [])
+            → PartsRefuse meaning run.between effect after → RefusesNext meaning number node (lines_of run.at.effects) run.between.into after.into
+        refused_next (Line text) next refused = inr (
+          text,
+          subst (λ m. RefusesEntry meaning run.between.into (entry.Line m number text) after.into) run.come_to.moment
+              (subst (λ n. RefusesEntry meaning run.between.into (entry.Line run.between.moment n text) after.into) run.come_to.number refused),
+          line_next node run.at.effects text (begins (run.at.effects ++ Line text ∷ []) next),
+        )
+        refused_next (Send frame) next same = inl same
+        refused_next Stop next none = absurd none
+        refused_next (Set timer micros cyclic) next none = absurd none
+        refused_next (Cancel timer) next none = absurd none
 
 -- ---- what was taken
 

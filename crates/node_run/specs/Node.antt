@@ -1,5 +1,5 @@
 -- A node as contracts see it, and what its calls make of it.
-use Rattle.std.specs.Prelude.{◌≡◌, ◌⊎◌, ℕ, ◌+◌, ◌<◌, Bool, false, List, length, pos, replicate, MatchOption}
+use Rattle.std.specs.Prelude.{◌≡◌, ◌⊎◌, ℕ, ◌+◌, ◌<◌, Bool, false, List, [], ◌∷◌, ◌++◌, length, pos, replicate, MatchOption}
 use Rattle.can_frame.specs.Frame.{FrameFields}
 use Rattle.run_records.specs.declared.record.Noted.TheVariants as entry
 use Rattle.run_records.specs.Record.{RecordMeaning, RefusesEntry}
@@ -77,7 +77,7 @@ IsMeteredAtMost node before after = (after ≡ before) ⊎ ((task : Task) × (le
     × DoesNext code_reaction node.moment node.doing task left × IsMetered node.first_row task before after)
 
 -- A task of a node of a number ended by a fault: the record took the first of its lines in order, and then
--- refused a line, or was not asked. At most the run of this task was added to the meter.
+-- refused its next line, or was not asked. At most the run of this task was added to the meter.
 pub record IsTaskRefused {R : Type 0} (meaning : RecordMeaning R) (number : ℕ) (node : NodeInRound)
     (into into_after : R) (meter meter_after : List MeterRow) : Type 0 where
   pub lines : List (List ℕ)
@@ -85,5 +85,6 @@ pub record IsTaskRefused {R : Type 0} (meaning : RecordMeaning R) (number : ℕ)
   pub first_lines : BeginTask node lines
   pub taken : TakesEntries meaning into (line_entries node.moment number lines) between
   pub refusal : (into_after ≡ between)
-      ⊎ ((text : List ℕ) × RefusesEntry meaning between (entry.Line node.moment number text) into_after)
+      ⊎ ((text : List ℕ) × RefusesEntry meaning between (entry.Line node.moment number text) into_after
+      × BeginTask node (lines ++ text ∷ []))
   pub metered : IsMeteredAtMost node meter meter_after

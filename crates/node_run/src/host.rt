@@ -89,11 +89,12 @@ impl<'a, B: Bus, R: Record> Host for NodeHost<'a, B, R> {
           (parts before.number before.moment before.stops before.bus.now before.into.now before.timers.now)
           effect
           (parts after.number after.moment after.stops after.bus.now after.into.now after.timers.now);
-      refuses = λ before after. (after.bus.ghost_name ≡ before.bus.ghost_name)
+      refuses = λ before effect after. (after.bus.ghost_name ≡ before.bus.ghost_name)
           × (after.into.ghost_name ≡ before.into.ghost_name)
           × (after.timers.ghost_name ≡ before.timers.ghost_name)
           × PartsRefuse R.meaning
           (parts before.number before.moment before.stops before.bus.now before.into.now before.timers.now)
+          effect
           (parts after.number after.moment after.stops after.bus.now after.into.now after.timers.now);
     } };
 

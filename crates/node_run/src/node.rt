@@ -212,8 +212,9 @@ impl Node {
     ///
     /// # Errors
     ///
-    /// The record then has taken the first lines of the task, and the meter at most its run. `Record` comes
-    /// only where the record's faults rose in this call.
+    /// The record then has taken the first lines of the task and maybe refused the next one, and no other,
+    /// and the meter has at most the task's run. `Record` comes only where the record's faults rose in this
+    /// call.
     pub fn do_task<B: Bus, R: Record>(
         &mut self,
         number: u32,

@@ -1,6 +1,7 @@
 -- The run of a handler by a node: the machine's run, and what its effects come to.
-use Rattle.std.specs.Prelude.{◌≡◌, ◌⊎◌, ℕ, ◌-◌, Bool, List, []}
+use Rattle.std.specs.Prelude.{◌≡◌, ◌⊎◌, ℕ, ◌-◌, Bool, List, [], ◌∷◌, ◌++◌}
 use Rattle.can_frame.specs.Frame.{FrameFields}
+use Rattle.run_effects.specs.Effect.{Effect}
 use Rattle.run_effects.specs.declared.outcome.Outcome.{Outcome}
 use Rattle.run_records.specs.Record.{RecordMeaning}
 use Rattle.timer_queue.specs.Timers.{active_timers}
@@ -35,16 +36,18 @@ pub record RunsHandler {B R : Type 0} (after_request : B → ℕ → FrameFields
   pub come_to : ComeTo after_request meaning before last.effects after
   pub metered : AddsRun row (turns - last.turns) meter meter_after
 
--- the run of a handler was refused: the parts come to what the first of its effects come to, and then a line
--- was refused or the record was not asked
+-- the run of a handler was refused: the parts come to what the first of its effects come to, and then the
+-- next one was refused or not given to them
 pub record RefusesHandler {B R : Type 0} (after_request : B → ℕ → FrameFields → B) (meaning : RecordMeaning R)
     (code : Code) (closed : Bool) (handler turns : ℕ) (memory : MemoryState) (before after : Parts B R) :
     Type 0 where
   pub start : Machine
   pub at : Machine
   pub between : Parts B R
+  pub effect : Effect
   pub begins : BeginsHere code handler turns memory before start
   pub come_to : ComeTo after_request meaning before at.effects between
-  pub first_effects : (outcome : Outcome) (last : Machine) →
-      EndsIn code closed before.moment start outcome last → BeginsWith last.effects at.effects
-  pub refusal : (after.into ≡ between.into) ⊎ PartsRefuse meaning between after
+  pub next_effect : (outcome : Outcome) (last : Machine) →
+      EndsIn code closed before.moment start outcome last →
+      BeginsWith last.effects (at.effects ++ effect ∷ [])
+  pub refusal : (after.into ≡ between.into) ⊎ PartsRefuse meaning between effect after

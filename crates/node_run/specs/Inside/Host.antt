@@ -1,5 +1,5 @@
 -- What the host of a task does with effects, over the values of its parts.
-use Rattle.std.specs.Prelude.{◌≡◌, ◌⊎◌, ℕ, Bool, true, ◌||◌, List, All}
+use Rattle.std.specs.Prelude.{◌≡◌, ℕ, Bool, true, ◌||◌, List, All}
 use Rattle.can_frame.specs.Frame.{FrameFields}
 use Rattle.run_effects.specs.Effect.{Effect, Line, Send, Stop}
 use Rattle.run_records.specs.declared.record.Noted.TheVariants as entry
@@ -36,11 +36,13 @@ PartsTake {B} {R} after_request meaning before effect after =
     IsTimerEffect before.timers.count effect
     × (after ≡ record before { timers = timers_after_one before.moment before.timers effect })
 
--- how the record stands after parts refused an effect
-abbrev pub PartsRefuse : {B R : Type 0} → RecordMeaning R → Parts B R → Parts B R → Type 0
-PartsRefuse {B} {R} meaning before after = (after.into ≡ before.into)
-    ⊎ ((text : List ℕ)
-    × RefusesEntry meaning before.into (entry.Line before.moment before.number text) after.into)
+-- how the record stands after parts refused an effect: it refused exactly this line, or stands as it was
+-- where a frame was refused; nothing else is refused
+abbrev pub PartsRefuse : {B R : Type 0} → RecordMeaning R → Parts B R → Effect → Parts B R → Type 0
+PartsRefuse {B} {R} meaning before (Line text) after =
+    RefusesEntry meaning before.into (entry.Line before.moment before.number text) after.into
+PartsRefuse {B} {R} meaning before (Send frame) after = after.into ≡ before.into
+PartsRefuse {B} {R} meaning before effect after = ⊥
 
 -- what parts come to by effects in order
 pub record ComeTo {B R : Type 0} (after_request : B → ℕ → FrameFields → B) (meaning : RecordMeaning R)

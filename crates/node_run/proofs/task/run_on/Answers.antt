@@ -27,19 +27,19 @@ returns-clause-as_many g c =
     sym (length-active_timers c.run.new.host.timers.now) ∙ c.in_ok-outcome.ensures.host_stays.timers ∙ length-active_timers c.args.host.now.timers.now
 
 pub returns-in_err-outcome-clause-same_bus : goal.returns-in_err-outcome-clause-same_bus
-returns-in_err-outcome-clause-same_bus g c = kept_by_refused_run (λ h. h.bus.ghost_name) (λ b e a t. t.0) (λ b a t. t.0) c.in_err-outcome.ensures.refused
+returns-in_err-outcome-clause-same_bus g c = kept_by_refused_run (λ h. h.bus.ghost_name) (λ b e a t. t.0) (λ b e a t. t.0) c.in_err-outcome.ensures.refused
 
 pub returns-in_err-outcome-clause-same_record : goal.returns-in_err-outcome-clause-same_record
-returns-in_err-outcome-clause-same_record g c = kept_by_refused_run (λ h. h.into.ghost_name) (λ b e a t. t.1) (λ b a t. t.1) c.in_err-outcome.ensures.refused
+returns-in_err-outcome-clause-same_record g c = kept_by_refused_run (λ h. h.into.ghost_name) (λ b e a t. t.1) (λ b e a t. t.1) c.in_err-outcome.ensures.refused
 
 pub returns-in_err-outcome-clause-same_timers : goal.returns-in_err-outcome-clause-same_timers
-returns-in_err-outcome-clause-same_timers g c = kept_by_refused_run (λ h. h.timers.ghost_name) (λ b e a t. t.2) (λ b a t. t.2) c.in_err-outcome.ensures.refused
+returns-in_err-outcome-clause-same_timers g c = kept_by_refused_run (λ h. h.timers.ghost_name) (λ b e a t. t.2) (λ b e a t. t.2) c.in_err-outcome.ensures.refused
 
 pub returns-in_err-outcome-clause-refused : goal.returns-in_err-outcome-clause-refused
 returns-in_err-outcome-clause-refused g c =
     on_err c.from_residual.result
     (refused_along (λ h. parts h.number h.moment h.stops h.bus.now h.into.now h.timers.now) g.B.Bus.after_request g.R.Record.meaning
-    (λ s. refl) (λ s. refl) (λ b e a t. t.3) (λ b a t. t.3) c.in_err-outcome.ensures.refused)
+    (λ s. refl) (λ s. refl) (λ b e a t. t.3) (λ b e a t. t.3) c.in_err-outcome.ensures.refused)
 
 pub returns-in_err-outcome-clause-as_many : goal.returns-in_err-outcome-clause-as_many
 returns-in_err-outcome-clause-as_many g c =

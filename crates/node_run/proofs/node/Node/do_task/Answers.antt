@@ -37,12 +37,13 @@ returns-in_err-line-clause-refused g c =
     let taken = took c.args.self.now _ c.take_next.result c.unwrap-trigger.result c.take_next.new.rest c.take_next.new.timers
     c.self.view_is c.requires.has_task c.unwrap-trigger.ensures c.take_next.ensures.next in
     let runs : Runs _ c.unwrap-trigger.result c.in-Some.handler c.is_closed-closed.result c.set_this.new.memory = record { runs = c.in-Some.is; this = c.set_this.ensures.cells; closing = c.is_closed-closed.ensures } in
+    let told : halt_lines c.in_ok-outcome.outcome ≡ c.in-Some-halt_text.text.now ∷ [] = search rules in
     on_err c.from_residual-in_err-line.result
     (refused_at c.self.view_is
     (refused_halt g.B.Bus.after_request g.R.Record.meaning c.args.number _ c.args.bus.now c.args.into.now c.args.meter.now c.unwrap-trigger.result c.take_next.new.rest c.take_next.new.timers
     c.in-Some.handler c.is_closed-closed.result c.set_this.new.memory c.run_handler.new.memory taken runs c.in_ok-outcome.outcome c.in_ok-outcome.stop c.run_handler.new.bus c.run_handler.new.into
     c.run_handler.new.timers c.run_handler.new.meter _ c.code.ensures.same c.in_ok-outcome.ensures.ends
-    c.line.new.self c.in-Some-halt_text.text.now c.in_err-line.ensures.refused))
+    c.line.new.self c.in-Some-halt_text.text.now told c.in_err-line.ensures.refused))
 
 pub returns-in_err-line-clause-fault : goal.returns-in_err-line-clause-fault
 returns-in_err-line-clause-fault g c of =
