@@ -1,11 +1,11 @@
 // A bus that keeps its requests in a heap.
 
-ghost use Rattle.std.specs.Prelude.{◌≡◌, ◌+◌, ◌-◌, ◌^◌, ◌<◌, ◌≤◌, ◌∷◌, Some, OnOk, OnErr};
+ghost use Rattle.std.specs.Prelude.{◌≡◌, ◌+◌, ◌-◌, ◌<◌, ◌≤◌, ◌∷◌, Some, OnOk, OnErr};
 ghost use Rattle.std.specs.Ordering.{nat_cmp};
 ghost use Rattle.std.specs.BTreeMap.{Updates};
 ghost use Rattle.std.specs.List.Sorted.{IsPermutation};
 ghost use Rattle.can_bus.specs.Waiting.{members};
-ghost use Rattle.can_bus.specs.Bus.{new_bus, is_free, BitTakesTime, after_request, next_moment, ended, after_finish, after_arbitration};
+ghost use Rattle.can_bus.specs.Bus.{new_bus, is_free, one_channel};
 ghost use Rattle.bus_heap.specs.Heap.{IsInHeapOrder};
 ghost use Rattle.bus_heap.specs.Inside.Heap.{IsHeap};
 
@@ -86,19 +86,7 @@ impl HeapBus {
 }
 
 impl Bus for HeapBus {
-    ghost nodes = { λ _. 2 ^ 32 };
-
-    ghost sound = { BitTakesTime };
-
-    ghost after_request = { after_request };
-
-    ghost next_moment = { next_moment };
-
-    ghost ended = { ended };
-
-    ghost after_finish = { after_finish };
-
-    ghost after_arbitration = { after_arbitration };
+    ghost meaning = { one_channel };
 
     fn request(&mut self, node: u32, f: &Frame) -> Result<(), NoMemory> {
         let number = self.next.get(&node).copied().unwrap_or(0);
@@ -155,12 +143,14 @@ impl Bus for HeapBus {
     }
 
     ghost use Rattle.can_bus.proofs.RequestsCommute.{RequestsCommute-bus};
-    ghost use Rattle.can_bus.proofs.SoundStays.{SoundStays-bus};
+    ghost use Rattle.can_bus.proofs.SoundStays.{SoundStays-bus, NodesStay-bus};
     ghost use Rattle.can_bus.proofs.DueLater.{DueLater-bus, DueLaterFromNothing-bus};
 
     ghost requests_commute = { RequestsCommute-bus };
 
     ghost sound_stays = { SoundStays-bus };
+
+    ghost nodes_stay = { NodesStay-bus };
 
     ghost due_later = { DueLater-bus };
 

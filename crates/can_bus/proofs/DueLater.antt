@@ -14,7 +14,7 @@ use Rattle.can_bus.specs.declared.transmission.Transmission.{Transmission}
 use Rattle.can_bus.specs.declared.bus.Ended.{Ended}
 use Rattle.can_bus.specs.Waiting.{Requests, name_cmp, winner, IsWinner}
 use Rattle.can_bus.specs.Transmission.{time_on_wire}
-use Rattle.can_bus.specs.Bus.{BusState, BitTakesTime, next_moment, moment_of, next_number, last_number, after_request, with_ranks, with_request, transmission_with_rank, after_finish, winner_at, with_transmission, after_arbitration}
+use Rattle.can_bus.specs.Bus.{BusState, BitTakesTime, next_moment, moment_of, next_number, last_number, after_request, with_ranks, with_request, transmission_with_rank, after_finish, winner_at, with_transmission, after_arbitration, one_channel}
 use Rattle.can_bus.specs.Laws.{Follows, DueLater, DueLaterFromNothing}
 use Rattle.can_bus.specs.Laws.Follows.{nothing, request, finish}
 use Rattle.can_bus.proofs.Winner.{winner_law}
@@ -91,7 +91,7 @@ clear_request s node f now h =
       | false ↦ h
     ]
 
-clear_follows : (s : BusState) (now : ℕ) (t : BusState) → Follows after_request after_finish now s t → IsClear now s → IsClear now t
+clear_follows : (s : BusState) (now : ℕ) (t : BusState) → Follows one_channel now s t → IsClear now s → IsClear now t
 clear_follows s now t nothing h = h
 clear_follows s now t (request u node frame rest) h = clear_request u node frame now (clear_follows s now u rest h)
 clear_follows s now t (finish u rest) h = clear_again u now (clear_follows s now u rest h)
@@ -140,10 +140,10 @@ later_arbitration s now h =
     ] refl
 
 -- ---- the laws of the bus
-pub DueLater-bus : DueLater BitTakesTime next_moment after_request after_finish after_arbitration
+pub DueLater-bus : DueLater one_channel
 DueLater-bus s t now timed due follows =
     later_arbitration t now (clear_follows (after_finish s now) now t follows (clear_finish s now timed due))
 
 -- the same where nothing is due
-pub DueLaterFromNothing-bus : DueLaterFromNothing BitTakesTime next_moment after_request after_finish after_arbitration
+pub DueLaterFromNothing-bus : DueLaterFromNothing one_channel
 DueLaterFromNothing-bus s t now timed due follows = later_arbitration t now (clear_follows s now t follows (clear_nothing s now timed due))

@@ -11,7 +11,7 @@ use Rattle.can_frame.specs.Frame.{FrameFields}
 use Rattle.can_bus.specs.declared.waiting.Waiting.{Waiting}
 use Rattle.can_bus.specs.declared.transmission.Transmission.{Transmission}
 use Rattle.can_bus.specs.Waiting.{RequestName, name_cmp, name_of, entry_of, request_at, members}
-use Rattle.can_bus.specs.Bus.{BusState, next_number, last_number, rank, with_rank, transmission_with_rank, with_ranks, after_request}
+use Rattle.can_bus.specs.Bus.{BusState, next_number, last_number, rank, with_rank, transmission_with_rank, with_ranks, after_request, one_channel}
 use Rattle.can_bus.specs.Laws.{RequestsCommute}
 use Rattle.can_bus.proofs.Requests.{name_cmp_total, name_cmp-IsAntisymmetric, ties, entries-retain_keys}
 use Rattle.can_bus.proofs.NextNumbers.{get-insert_same, get-insert_other}
@@ -254,7 +254,7 @@ wires a b c d same None = refl
 wires a b c d same (Some w) = ap Some (same w)
 
 -- the law of the bus
-pub RequestsCommute-bus : RequestsCommute after_request
+pub RequestsCommute-bus : RequestsCommute one_channel
 RequestsCommute-bus s m n f g apart =
     let back : n ≢ m = λ e. apart (sym e) in
     let one : BusState = after_request (after_request s m f) n g in

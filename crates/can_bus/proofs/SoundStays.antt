@@ -1,11 +1,11 @@
--- No call changes the time of a bit, so a sound bus stays sound.
+-- No call changes the time of a bit, so a sound bus stays sound. No call changes the number of nodes.
 use Rattle.std.proofs.Common.{◌≡◌, ℕ, ◌≤◌, true, false, cond, eqb, refl, sym, ap, subst}
 use Rattle.std.specs.Prelude.{None, Some, is_some}
 use Rattle.std.specs.Option.{option_map_or}
 use Rattle.can_frame.specs.Frame.{FrameFields}
 use Rattle.can_bus.specs.Transmission.{time_on_wire}
-use Rattle.can_bus.specs.Bus.{BusState, BitTakesTime, next_number, last_number, with_ranks, with_request, after_request, ended, after_finish, winner_at, with_transmission, after_arbitration}
-use Rattle.can_bus.specs.Laws.{SoundStays}
+use Rattle.can_bus.specs.Bus.{BusState, BitTakesTime, next_number, last_number, with_ranks, with_request, after_request, ended, after_finish, winner_at, with_transmission, after_arbitration, one_channel}
+use Rattle.can_bus.specs.Laws.{SoundStays, NodesStay}
 use Rattle.can_bus.proofs.RankLemmas.{with_ranks-is}
 
 -- a request leaves the time of a bit
@@ -32,10 +32,14 @@ bit-after_arbitration s now =
 takes_time : (s t : BusState) → t.bit ≡ s.bit → BitTakesTime s → BitTakesTime t
 takes_time s t same h = subst (λ n. 1 ≤ n) (sym same) h
 
--- the law of the bus
-pub SoundStays-bus : SoundStays BitTakesTime after_request after_finish after_arbitration
+-- the laws of the bus
+pub SoundStays-bus : SoundStays one_channel
 SoundStays-bus = record {
   request = λ s node f. takes_time s (after_request s node f) (bit-after_request s node f);
   finish = λ s now. takes_time s (after_finish s now) (bit-after_finish s now);
   arbitrate = λ s now. takes_time s (after_arbitration s now) (bit-after_arbitration s now);
 }
+
+-- and it has its nodes, whatever comes
+pub NodesStay-bus : NodesStay one_channel
+NodesStay-bus = record { request = λ s node f. refl; finish = λ s now. refl; arbitrate = λ s now. refl }

@@ -8,6 +8,7 @@ use Rattle.can_frame.specs.Frame.{FrameFields}
 use Rattle.can_bus.specs.declared.waiting.Waiting.{Waiting}
 use Rattle.can_bus.specs.declared.transmission.Transmission.{Transmission}
 use Rattle.can_bus.specs.declared.bus.Ended.{Ended}
+use Rattle.can_bus.specs.Meaning.{BusMeaning}
 use Rattle.can_bus.specs.Transmission.{time_on_wire, intermission}
 use Rattle.can_bus.specs.Waiting.{Requests, name_of, requests_of, members, winner}
 
@@ -124,3 +125,15 @@ moment_of None waiting free = if len waiting == 0 then None else Some free
 -- the end of the frame on the wire, else where a request waits the moment from which the bus is free
 abbrev pub next_moment : BusState → Option ℕ
 next_moment s = moment_of s.wire s.waiting s.free
+
+-- the bus of one channel without errors, whose nodes have numbers of 32 bits
+abbrev pub one_channel : BusMeaning BusState
+one_channel = record {
+  nodes = λ _. 2 ^ 32;
+  sound = BitTakesTime;
+  after_request = after_request;
+  next_moment = next_moment;
+  ended = ended;
+  after_finish = after_finish;
+  after_arbitration = after_arbitration;
+}

@@ -2,6 +2,7 @@
 pub mod Order
 pub mod Waiting
 pub mod Transmission
+pub mod Meaning
 pub mod Bus
 pub mod Ranks
 pub mod Codes

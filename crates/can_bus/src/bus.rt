@@ -1,9 +1,8 @@
 // The calls of any bus, and what it keeps.
 
-ghost use Rattle.std.specs.Prelude.{◌≡◌, ℕ, ◌<◌, ◌≤◌, ◌^◌, Option, OnOk, OnErr};
-ghost use Rattle.can_frame.specs.Frame.{FrameFields};
-ghost use Rattle.can_bus.specs.declared.bus.Ended.{Ended};
-ghost use Rattle.can_bus.specs.Laws.{RequestsCommute, SoundStays, DueLater, DueLaterFromNothing};
+ghost use Rattle.std.specs.Prelude.{◌≡◌, ◌<◌, ◌≤◌, ◌^◌, OnOk, OnErr};
+ghost use Rattle.can_bus.specs.Meaning.{BusMeaning};
+ghost use Rattle.can_bus.specs.Laws.{RequestsCommute, SoundStays, NodesStay, DueLater, DueLaterFromNothing};
 
 use can_frame::Frame;
 use texts::NoMemory;
@@ -22,70 +21,52 @@ pub struct Ended {
 /// and proves the laws below of these meanings. The laws speak of sound buses, and each bus that
 /// calls make is sound.
 pub trait Bus {
-    /// How many nodes it serves: their numbers are below this. No call changes it.
-    ghost nodes: { Self → ℕ };
-
-    /// What holds of each bus that calls make.
-    ghost sound: { Self → Type 0 };
-
-    /// The bus after a request of this node.
-    ghost after_request: { Self → ℕ → FrameFields → Self };
-
-    /// The next moment at which something is due, if there is one.
-    ghost next_moment: { Self → Option ℕ };
-
-    /// The frame that a call of `finish` at this moment gives, if it gives one.
-    ghost ended: { Self → ℕ → Option Ended };
-
-    /// The bus after a call of `finish` at this moment.
-    ghost after_finish: { Self → ℕ → Self };
-
-    /// The bus after arbitration at this moment.
-    ghost after_arbitration: { Self → ℕ → Self };
+    /// What its states mean: how many nodes it serves, what is due next and what ends, and the bus
+    /// after each call.
+    ghost meaning: { BusMeaning Self };
 
     /// The node requests that the frame be sent. Where there is no memory for it, nothing changes.
     fn request(&mut self, node: u32, f: &Frame) -> Result<(), NoMemory>
-        requires { node < nodes self.old }
-        ensures ok { OnOk result (self.new ≡ after_request self.old node f.now) }
+        requires { node < meaning.nodes self.old }
+        ensures ok { OnOk result (self.new ≡ meaning.after_request self.old node f.now) }
         ensures err { OnErr result (self.new ≡ self.old) }
-        ensures nodes { nodes self.new ≡ nodes self.old }
-        ensures sound { sound self.new };
+        ensures sound { meaning.sound self.new };
 
     /// The next moment at which something is due: a frame ends, or a request that waits may begin.
     /// `None` where nothing waits and the wire is empty.
     fn next_time(&self) -> Option<u64>
-        ensures moment { result ≡ next_moment self.now }
-        ensures sound { sound self.now };
+        ensures moment { result ≡ meaning.next_moment self.now }
+        ensures sound { meaning.sound self.now };
 
     /// Takes what ends at this moment off the wire and gives the frame that was sent, or `None` where
     /// no further one ends.
     ///
     /// It may be called again at one moment: a bus may hold back a second frame that ends at it.
     fn finish(&mut self, now: u64) -> Option<Ended>
-        ensures frame { result ≡ ended self.old now }
-        ensures state { self.new ≡ after_finish self.old now }
-        ensures nodes { nodes self.new ≡ nodes self.old }
-        ensures sound { sound self.new };
+        ensures frame { result ≡ meaning.ended self.old now }
+        ensures state { self.new ≡ meaning.after_finish self.old now }
+        ensures sound { meaning.sound self.new };
 
     /// Where the wire is empty, the bus is free and a request waits, the winner begins at this
     /// moment, which is at most 2^63 microseconds.
     fn arbitrate(&mut self, now: u64)
         requires { now ≤ 2 ^ 63 }
-        ensures state { self.new ≡ after_arbitration self.old now }
-        ensures nodes { nodes self.new ≡ nodes self.old }
-        ensures sound { sound self.new };
+        ensures state { self.new ≡ meaning.after_arbitration self.old now }
+        ensures sound { meaning.sound self.new };
 
     /// Requests of two different nodes give one bus in either order.
-    ghost requests_commute: { RequestsCommute after_request };
+    ghost requests_commute: { RequestsCommute meaning };
 
     /// What each call makes of a sound bus is sound.
-    ghost sound_stays: { SoundStays sound after_request after_finish after_arbitration };
+    ghost sound_stays: { SoundStays meaning };
+
+    /// What each call makes of a bus serves as many nodes.
+    ghost nodes_stay: { NodesStay meaning };
 
     /// Where nothing was due before a moment on a sound bus, and then come `finish` at it, any requests
     /// and further calls of `finish`, and last `arbitrate`, what is due next is later than the moment.
-    ghost due_later: { DueLater sound next_moment after_request after_finish after_arbitration };
+    ghost due_later: { DueLater meaning };
 
     /// The same where nothing is due, with no call of `finish` before the requests.
-    ghost due_later_from_nothing: { DueLaterFromNothing sound next_moment after_request after_finish
-        after_arbitration };
+    ghost due_later_from_nothing: { DueLaterFromNothing meaning };
 }
