@@ -26,7 +26,7 @@ pub(crate) struct NodeHost<'a, B: Bus, R: Record> {
     pub(crate) into: &'a mut R,
     /// The node's timers.
     pub(crate) timers: &'a mut TimerQueue,
-    ghost serves: { number < B.nodes bus.now },
+    ghost serves: { number < B.meaning.nodes bus.now },
     ghost in_time: { moment ≤ 2 ^ 63 },
 }
 
@@ -40,7 +40,7 @@ impl<'a, B: Bus, R: Record> NodeHost<'a, B, R> {
         into: &'a mut R,
         timers: &'a mut TimerQueue,
     ) -> NodeHost<'a, B, R>
-        requires serves { number < B.nodes bus.old }
+        requires serves { number < B.meaning.nodes bus.old }
         requires in_time { moment ≤ 2 ^ 63 }
         ensures same_bus { result.bus.ghost_name ≡ bus.entry.ghost_name }
         ensures same_record { result.into.ghost_name ≡ into.entry.ghost_name }
@@ -85,7 +85,7 @@ impl<'a, B: Bus, R: Record> Host for NodeHost<'a, B, R> {
       takes = λ before effect after. (after.bus.ghost_name ≡ before.bus.ghost_name)
           × (after.into.ghost_name ≡ before.into.ghost_name)
           × (after.timers.ghost_name ≡ before.timers.ghost_name)
-          × PartsTake B.after_request R.meaning
+          × PartsTake B.meaning.after_request R.meaning
           (parts before.number before.moment before.stops before.bus.now before.into.now before.timers.now)
           effect
           (parts after.number after.moment after.stops after.bus.now after.into.now after.timers.now);

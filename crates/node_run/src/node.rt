@@ -224,8 +224,8 @@ impl Node {
     ) -> Result<TaskEnd, TaskFault>
         requires has_task { IsSome (next_of code_reaction self.old.moment self.old.doing) }
         requires rows { HasRows meter.old self.old }
-        requires serves { number < B.nodes bus.old }
-        ensures does { IfOk result (λ end. DoesTask B.after_request R.meaning number
+        requires serves { number < B.meaning.nodes bus.old }
+        ensures does { IfOk result (λ end. DoesTask B.meaning.after_request R.meaning number
             self.old bus.old into.old meter.old end.stop self.new bus.new into.new meter.new) }
         ensures refused { OnErr result (IsTaskRefused R.meaning number
             self.old into.old into.new meter.old meter.new) }

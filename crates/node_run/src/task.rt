@@ -33,7 +33,7 @@ fn run_on<'a, B: Bus, R: Record>(
     ensures same_bus { host.new.bus.ghost_name ≡ host.old.bus.ghost_name }
     ensures same_record { host.new.into.ghost_name ≡ host.old.into.ghost_name }
     ensures same_timers { host.new.timers.ghost_name ≡ host.old.timers.ghost_name }
-    ensures ends { IfOk result (λ outcome. RunsHandler B.after_request R.meaning
+    ensures ends { IfOk result (λ outcome. RunsHandler B.meaning.after_request R.meaning
         code.now host.old.closed handler turns row memory.old
         (parts host.old.number host.old.moment host.old.stops
         host.old.bus.now host.old.into.now host.old.timers.now)
@@ -42,7 +42,7 @@ fn run_on<'a, B: Bus, R: Record>(
         host.new.bus.now host.new.into.now host.new.timers.now)
         meter.new) }
     ensures of_code { IsMemoryOf code.now memory.new }
-    ensures refused { OnErr result (RefusesHandler B.after_request R.meaning
+    ensures refused { OnErr result (RefusesHandler B.meaning.after_request R.meaning
         code.now host.old.closed handler turns memory.old
         (parts host.old.number host.old.moment host.old.stops
         host.old.bus.now host.old.into.now host.old.timers.now)
@@ -78,13 +78,14 @@ pub(crate) fn run_handler<B: Bus, R: Record>(
     requires memory { IsMemoryOf code.now memory.old }
     requires timers { length code.now.timers ≤ timers.old.count }
     requires row { row < length meter.old }
-    requires serves { number < B.nodes bus.old }
+    requires serves { number < B.meaning.nodes bus.old }
     requires in_time { now ≤ 2 ^ 63 }
-    ensures ends { IfOk result (λ ended. RunsHandler B.after_request R.meaning
+    ensures ends { IfOk result (λ ended. RunsHandler B.meaning.after_request R.meaning
         code.now closed handler turns row memory.old (parts number now false bus.old into.old timers.old)
         meter.old ended.0 memory.new (parts number now ended.1 bus.new into.new timers.new) meter.new) }
     ensures of_code { IsMemoryOf code.now memory.new }
-    ensures refused { OnErr result ((n m : ℕ) × (stops : Bool) × RefusesHandler B.after_request R.meaning
+    ensures refused { OnErr result ((n m : ℕ) × (stops : Bool)
+        × RefusesHandler B.meaning.after_request R.meaning
         code.now closed handler turns memory.old (parts number now false bus.old into.old timers.old)
         (parts n m stops bus.new into.new timers.new)) }
     ensures meter_stays { OnErr result (meter.new ≡ meter.old) }

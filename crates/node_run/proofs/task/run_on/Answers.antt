@@ -19,7 +19,7 @@ returns-clause-same_timers g c = kept_by_run (λ h. h.timers.ghost_name) (λ b e
 
 pub returns-clause-ends : goal.returns-clause-ends
 returns-clause-ends g c =
-    runs_along (λ h. parts h.number h.moment h.stops h.bus.now h.into.now h.timers.now) g.B.Bus.after_request g.R.Record.meaning
+    runs_along (λ h. parts h.number h.moment h.stops h.bus.now h.into.now h.timers.now) g.B.Bus.meaning.after_request g.R.Record.meaning
     (λ s. refl) (λ s. refl) (λ b e a t. t.3) c.in_ok-outcome.ensures.ends
 
 pub returns-clause-as_many : goal.returns-clause-as_many
@@ -38,7 +38,7 @@ returns-in_err-outcome-clause-same_timers g c = kept_by_refused_run (λ h. h.tim
 pub returns-in_err-outcome-clause-refused : goal.returns-in_err-outcome-clause-refused
 returns-in_err-outcome-clause-refused g c =
     on_err c.from_residual.result
-    (refused_along (λ h. parts h.number h.moment h.stops h.bus.now h.into.now h.timers.now) g.B.Bus.after_request g.R.Record.meaning
+    (refused_along (λ h. parts h.number h.moment h.stops h.bus.now h.into.now h.timers.now) g.B.Bus.meaning.after_request g.R.Record.meaning
     (λ s. refl) (λ s. refl) (λ b e a t. t.3) (λ b e a t. t.3) c.in_err-outcome.ensures.refused)
 
 pub returns-in_err-outcome-clause-as_many : goal.returns-in_err-outcome-clause-as_many

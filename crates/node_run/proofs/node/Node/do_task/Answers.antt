@@ -17,7 +17,7 @@ returns-in_default-clause-does g c =
     let taken = took c.args.self.now _ c.take_next.result c.unwrap-trigger.result c.take_next.new.rest c.take_next.new.timers
     c.self.view_is c.requires.has_task c.unwrap-trigger.ensures c.take_next.ensures.next in
     does_at c.self.view_is
-    (does_without g.B.Bus.after_request g.R.Record.meaning c.args.number _ c.args.bus.now c.args.into.now c.args.meter.now
+    (does_without g.B.Bus.meaning.after_request g.R.Record.meaning c.args.number _ c.args.bus.now c.args.into.now c.args.meter.now
     c.unwrap-trigger.result c.take_next.new.rest c.take_next.new.timers taken.next c.in_default.is taken.fires _ refl)
 
 pub returns-in_err-outcome-clause-refused : goal.returns-in_err-outcome-clause-refused
@@ -27,7 +27,7 @@ returns-in_err-outcome-clause-refused g c =
     let run = c.in_err-outcome.ensures.refused in
     on_err c.from_residual.result
     (refused_at c.self.view_is
-    (refused_run g.B.Bus.after_request g.R.Record.meaning c.args.number _ c.args.bus.now c.args.into.now c.args.meter.now c.run_handler.new.meter
+    (refused_run g.B.Bus.meaning.after_request g.R.Record.meaning c.args.number _ c.args.bus.now c.args.into.now c.args.meter.now c.run_handler.new.meter
     c.unwrap-trigger.result c.take_next.new.rest c.take_next.new.timers c.in-Some.handler c.is_closed-closed.result c.set_this.new.memory _ taken
     (record { runs = c.in-Some.is; this = c.set_this.ensures.cells; closing = c.is_closed-closed.ensures })
     _ c.code.ensures.same run.3 c.in_err-outcome.ensures.meter_stays))
@@ -40,7 +40,7 @@ returns-in_err-line-clause-refused g c =
     let told : halt_lines c.in_ok-outcome.outcome ≡ c.in-Some-halt_text.text.now ∷ [] = search rules in
     on_err c.from_residual-in_err-line.result
     (refused_at c.self.view_is
-    (refused_halt g.B.Bus.after_request g.R.Record.meaning c.args.number _ c.args.bus.now c.args.into.now c.args.meter.now c.unwrap-trigger.result c.take_next.new.rest c.take_next.new.timers
+    (refused_halt g.B.Bus.meaning.after_request g.R.Record.meaning c.args.number _ c.args.bus.now c.args.into.now c.args.meter.now c.unwrap-trigger.result c.take_next.new.rest c.take_next.new.timers
     c.in-Some.handler c.is_closed-closed.result c.set_this.new.memory c.run_handler.new.memory taken runs c.in_ok-outcome.outcome c.in_ok-outcome.stop c.run_handler.new.bus c.run_handler.new.into
     c.run_handler.new.timers c.run_handler.new.meter _ c.code.ensures.same c.in_ok-outcome.ensures.ends
     c.line.new.self c.in-Some-halt_text.text.now told c.in_err-line.ensures.refused))
@@ -58,7 +58,7 @@ returns-in_ok-line-clause-does g c =
     let runs : Runs _ c.unwrap-trigger.result c.in-Some.handler c.is_closed-closed.result c.set_this.new.memory = record { runs = c.in-Some.is; this = c.set_this.ensures.cells; closing = c.is_closed-closed.ensures } in
     let told : halt_lines c.in_ok-outcome.outcome ≡ c.in-Some-halt_text.text.now ∷ [] = search rules in
     does_at c.self.view_is
-    (does_with g.B.Bus.after_request g.R.Record.meaning c.args.number _ c.args.bus.now c.args.into.now c.args.meter.now c.unwrap-trigger.result c.take_next.new.rest c.take_next.new.timers
+    (does_with g.B.Bus.meaning.after_request g.R.Record.meaning c.args.number _ c.args.bus.now c.args.into.now c.args.meter.now c.unwrap-trigger.result c.take_next.new.rest c.take_next.new.timers
     c.in-Some.handler c.is_closed-closed.result c.set_this.new.memory c.run_handler.new.memory taken runs c.in_ok-outcome.outcome c.in_ok-outcome.stop c.run_handler.new.bus c.run_handler.new.into
     c.run_handler.new.timers c.run_handler.new.meter _ c.code.ensures.same c.in_ok-outcome.ensures.ends
     c.line.new.self true (subst (λ ls. TakesEntries g.R.Record.meaning c.run_handler.new.into (line_entries c.self.inside.moment c.args.number ls) c.line.new.self) (sym told)
@@ -72,7 +72,7 @@ returns-in_default-halt_text-clause-does g c =
     let told : halt_lines c.in_ok-outcome.outcome ≡ [] = search rules in
     let running = not_halted c.args.self.now _ c.self.view_is c.requires.has_task in
     does_at c.self.view_is
-    (does_with g.B.Bus.after_request g.R.Record.meaning c.args.number _ c.args.bus.now c.args.into.now c.args.meter.now c.unwrap-trigger.result c.take_next.new.rest c.take_next.new.timers
+    (does_with g.B.Bus.meaning.after_request g.R.Record.meaning c.args.number _ c.args.bus.now c.args.into.now c.args.meter.now c.unwrap-trigger.result c.take_next.new.rest c.take_next.new.timers
     c.in-Some.handler c.is_closed-closed.result c.set_this.new.memory c.run_handler.new.memory taken runs c.in_ok-outcome.outcome c.in_ok-outcome.stop c.run_handler.new.bus c.run_handler.new.into
     c.run_handler.new.timers c.run_handler.new.meter _ c.code.ensures.same c.in_ok-outcome.ensures.ends
     c.run_handler.new.into c.self.inside.is_halted (subst (λ ls. TakesEntries g.R.Record.meaning c.run_handler.new.into (line_entries c.self.inside.moment c.args.number ls) c.run_handler.new.into) (sym told) refl)
