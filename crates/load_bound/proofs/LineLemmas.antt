@@ -8,7 +8,7 @@ use Rattle.std.proofs.lemmas.List.Elements.{All-nil, All-cons, All-head, All-tai
 use Rattle.can_frame.specs.Frame.{FrameFields, IsIdent}
 use Rattle.can_bus.specs.declared.waiting.Waiting.{Waiting}
 use Rattle.can_bus.specs.Transmission.{time_on_wire, intermission}
-use Rattle.can_bus.specs.Bus.{BusState, new_bus, BitTakesTime, after_request, ended, after_finish, winner_at, with_transmission, after_arbitration, next_moment}
+use Rattle.can_bus.specs.Bus.{BusState, new_bus, BitTakesTime, after_request, ended, after_finish, winner_at, with_transmission, after_arbitration, next_moment, one_channel}
 use Rattle.can_bus.specs.Laws.{Follows}
 use Rattle.can_bus.specs.Laws.Follows.{nothing, request}
 use Rattle.can_bus.proofs.SoundStays.{bit-after_request}
@@ -49,7 +49,7 @@ pub record IsAt (bit : ℕ) (streams : List Stream) (waits : List (Option ℕ)) 
 pub record IsAsked (bit : ℕ) (streams : List Stream) (waits : List (Option ℕ)) (base : BusState) (t : ℕ) (line : Line) : Type 0 where
   pub at : IsAt bit streams waits line.bus t line.to_come line.made line.begun
   pub now_is : line.now ≡ t
-  pub follows : Follows after_request after_finish t base line.bus
+  pub follows : Follows one_channel t base line.bus
 
 -- what holds of the line after an instant
 pub record IsKept (bit : ℕ) (streams : List Stream) (waits : List (Option ℕ)) (line : Line) : Type 0 where
@@ -280,7 +280,7 @@ module _ (bit : ℕ) (streams : List Stream) (waits : List (Option ℕ)) (bit_ti
 
   -- ---- an instant
   asked : (base : BusState) (t : ℕ) (requests : List FrameAt) (line : Line) → IsAt bit streams waits line.bus t requests line.made line.begun → line.now ≡ t
-      → Follows after_request after_finish t base line.bus → IsAsked bit streams waits base t (with_requests t requests line)
+      → Follows one_channel t base line.bus → IsAsked bit streams waits base t (with_requests t requests line)
   asked base t [] line h now_is follows = record { at = h; now_is = now_is; follows = follows }
   asked base t (r ∷ requests) line h now_is follows =
       elim (eqb_tells r.moment t) [
