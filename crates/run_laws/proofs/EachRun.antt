@@ -9,6 +9,7 @@ use Rattle.std.proofs.lemmas.List.Elements.{All-cons, All-head, All-nil, All-tai
 use Rattle.can_frame.specs.Frame.{FrameFields}
 use Rattle.can_bus.specs.declared.bus.Ended.{Ended}
 use Rattle.can_bus.specs.Laws.{DueLater, DueLaterFromNothing, Follows, SoundStays, nothing, request}
+use Rattle.can_bus.specs.Meaning.{BusMeaning}
 use Rattle.scenario.specs.declared.scenario.KeyItem.{KeyItem}
 use Rattle.replay_node.specs.declared.replay.Request.{Request}
 use Rattle.timer_queue.specs.declared.setting.Setting.{Setting}
@@ -21,7 +22,7 @@ use Rattle.node_rounds.specs.Entries.{after_requests}
 use Rattle.node_rounds.specs.Reaction.{NodeState, NoneOverdue, next_due}
 use Rattle.node_rounds.specs.Round.{Task, rest_of}
 use Rattle.capl_meaning.specs.Offences.{offences_of}
-use Rattle.sim_core.specs.Bus.{BusMeaning, after_all_tasks, after_tasks}
+use Rattle.sim_core.specs.Bus.{after_all_tasks, after_tasks}
 use Rattle.sim_core.specs.Moments.{keys_after, keys_at, least, next_key, next_request, next_timer, requests_after, requests_at}
 use Rattle.sim_core.specs.Run.{AreInstants, AreParts, EndsAt, IsInstant, IsRun, Passed, RunState, after_instant, ask_stop, next_moment, quiet_round, seen_by}
 use Rattle.source_laws.specs.Source.{SourceMemory, by_source_reaction}
@@ -138,14 +139,12 @@ module _ {B : Type 0} (bus : BusMeaning B) (P : B → Type 0) (each : (b : B) (n
 
 -- ---- instants
 
-module _ {B : Type 0} (bus : BusMeaning B) (sound : B → Type 0) (stays : SoundStays sound bus.after_request bus.after_finish bus.after_arbitration)
-    (goes_on : DueLater sound bus.next_moment bus.after_request bus.after_finish bus.after_arbitration)
-    (begins : DueLaterFromNothing sound bus.next_moment bus.after_request bus.after_finish bus.after_arbitration) where
+module _ {B : Type 0} (bus : BusMeaning B) (stays : SoundStays bus) (goes_on : DueLater bus) (begins : DueLaterFromNothing bus) where
   -- how a run stands after an instant: all that is to come comes later
   record Stands (s : RunState (NodeState SourceMemory) B) : Type 0 where
     good : AllByRecursion (IsGood s.moment) s.nodes
     later : AllByRecursion (IsLater s.moment) s.nodes
-    sound_bus : sound s.bus
+    sound_bus : bus.sound s.bus
     bus_later : IfSome (bus.next_moment s.bus) (λ m. s.moment < m)
     next_key_later : IfSome (next_key s.keys) (λ m. s.moment < m)
     next_request_later : IfSome (next_request s.requests) (λ m. s.moment < m)
@@ -178,13 +177,13 @@ module _ {B : Type 0} (bus : BusMeaning B) (sound : B → Type 0) (stays : Sound
       let parts = parts_there rounds.Moment now ended (keys_at now s.keys) 0 s.nodes (good_until s.moment now s.nodes stands.good bound.1) in
       let finished : B = bus.after_finish s.bus now in
       let t : B = after_requests bus.after_request (after_all_tasks bus.after_request finished 0 parts.tasks) (length parts.afters) (requests_at now s.requests) in
-      let follows : Follows bus.after_request bus.after_finish now finished t =
-      by_requests bus (Follows bus.after_request bus.after_finish now finished) (λ b node frame h. request b node frame h) (length parts.afters) (requests_at now s.requests)
+      let follows : Follows bus now finished t =
+      by_requests bus (Follows bus now finished) (λ b node frame h. request b node frame h) (length parts.afters) (requests_at now s.requests)
       (after_all_tasks bus.after_request finished 0 parts.tasks)
-      (by_all bus (Follows bus.after_request bus.after_finish now finished) (λ b node frame h. request b node frame h) 0 parts.tasks finished nothing) in
-      let sound_t : sound t =
-      by_requests bus sound stays.request (length parts.afters) (requests_at now s.requests) (after_all_tasks bus.after_request finished 0 parts.tasks)
-      (by_all bus sound stays.request 0 parts.tasks finished (stays.finish s.bus now stands.sound_bus)) in
+      (by_all bus (Follows bus now finished) (λ b node frame h. request b node frame h) 0 parts.tasks finished nothing) in
+      let sound_t : bus.sound t =
+      by_requests bus bus.sound stays.request (length parts.afters) (requests_at now s.requests) (after_all_tasks bus.after_request finished 0 parts.tasks)
+      (by_all bus bus.sound stays.request 0 parts.tasks finished (stays.finish s.bus now stands.sound_bus)) in
       record {
         passed = record { moment = now; ended = ended; tasks = parts.tasks };
         after = after_instant bus now (ask_stop parts.tasks) parts.afters (after_all_tasks bus.after_request finished 0 parts.tasks) s.keys s.requests;
@@ -270,22 +269,22 @@ module _ {B : Type 0} (bus : BusMeaning B) (sound : B → Type 0) (stays : Sound
       by_stop until s stands (λ now later in_time one. let at = one.moment in instants_there fuel until one.after one.stands (omega (arith, later, few, at))) s.stops refl
 
   -- nodes that are good and have no active timer have a run from a new bus
-  pub run_there : (until : ℕ) (nodes : List (NodeState SourceMemory)) → AllByRecursion (IsGood 0) nodes → AllByRecursion (IsLater 0) nodes → (b : B) → sound b → bus.next_moment b ≡ None
+  pub run_there : (until : ℕ) (nodes : List (NodeState SourceMemory)) → AllByRecursion (IsGood 0) nodes → AllByRecursion (IsLater 0) nodes → (b : B) → bus.sound b → bus.next_moment b ≡ None
       → (keys : List KeyItem) (requests : List Request) → (passed : List Passed) × (final : List (NodeState SourceMemory)) × IsRun by_source_reaction bus until nodes b keys requests passed final
   run_there until nodes good later b sound_b new keys requests =
       let pre = parts_there rounds.PreStart 0 None [] 0 nodes good in
       let start = parts_there rounds.Start 0 None (keys_at 0 keys) 0 pre.afters pre.good in
       let asked : B = after_all_tasks bus.after_request (after_all_tasks bus.after_request b 0 pre.tasks) 0 start.tasks in
       let t : B = after_requests bus.after_request asked (length start.afters) (requests_at 0 requests) in
-      let follows : Follows bus.after_request bus.after_finish 0 b t =
-      let each : (x : B) (node : ℕ) (frame : FrameFields) → Follows bus.after_request bus.after_finish 0 b x → Follows bus.after_request bus.after_finish 0 b (bus.after_request x node frame) =
+      let follows : Follows bus 0 b t =
+      let each : (x : B) (node : ℕ) (frame : FrameFields) → Follows bus 0 b x → Follows bus 0 b (bus.after_request x node frame) =
       λ x node frame h. request x node frame h in
-      by_requests bus (Follows bus.after_request bus.after_finish 0 b) each (length start.afters) (requests_at 0 requests) asked
-      (by_all bus (Follows bus.after_request bus.after_finish 0 b) each 0 start.tasks (after_all_tasks bus.after_request b 0 pre.tasks)
-      (by_all bus (Follows bus.after_request bus.after_finish 0 b) each 0 pre.tasks b nothing)) in
-      let sound_t : sound t =
-      by_requests bus sound stays.request (length start.afters) (requests_at 0 requests) asked
-      (by_all bus sound stays.request 0 start.tasks (after_all_tasks bus.after_request b 0 pre.tasks) (by_all bus sound stays.request 0 pre.tasks b sound_b)) in
+      by_requests bus (Follows bus 0 b) each (length start.afters) (requests_at 0 requests) asked
+      (by_all bus (Follows bus 0 b) each 0 start.tasks (after_all_tasks bus.after_request b 0 pre.tasks)
+      (by_all bus (Follows bus 0 b) each 0 pre.tasks b nothing)) in
+      let sound_t : bus.sound t =
+      by_requests bus bus.sound stays.request (length start.afters) (requests_at 0 requests) asked
+      (by_all bus bus.sound stays.request 0 start.tasks (after_all_tasks bus.after_request b 0 pre.tasks) (by_all bus bus.sound stays.request 0 pre.tasks b sound_b)) in
       let begun : RunState (NodeState SourceMemory) B = after_instant bus 0 (ask_stop pre.tasks || ask_stop start.tasks) start.afters asked keys requests in
       let stands : Stands begun = record {
         good = start.good;

@@ -1,13 +1,13 @@
 -- A source does one thing by a trigger, so it has one run at most.
 use Rattle.std.proofs.Common.{◌≡◌, ℕ, ◌+◌, ◌≤◌, Bool, true, false, List, [], ◌∷◌, ◌++◌, Option, None, Some, refl, ap, sym, subst, ◌∙◌, arith}
 use Rattle.can_bus.specs.declared.bus.Ended.{Ended}
+use Rattle.can_bus.specs.Meaning.{BusMeaning}
 use Rattle.scenario.specs.declared.scenario.KeyItem.{KeyItem}
 use Rattle.replay_node.specs.declared.replay.Request.{Request}
 use Rattle.node_rounds.specs.declared.round.Round.{Round}
 use Rattle.node_rounds.specs.declared.round.Round.TheVariants as rounds
 use Rattle.node_rounds.specs.Reaction.{Reacts}
 use Rattle.node_rounds.specs.Round.{Task}
-use Rattle.sim_core.specs.Bus.{BusMeaning}
 use Rattle.sim_core.specs.Run.{AreInstants, AreParts, EndsAt, IsInstant, IsRun, Passed, RunState, next_moment, quiet_round, seen_by}
 use Rattle.sim_core.proofs.Once.{IsOnce, begun_once, first_part, instant_once, is_part_once, no_part}
 

@@ -11,7 +11,6 @@ ghost use Rattle.node_rounds.specs.Reaction.{NodeState};
 ghost use Rattle.node_run.specs.Code.{CodeMemory, code_reaction};
 ghost use Rattle.node_run.specs.Node.{NodeInRound};
 ghost use Rattle.capl_meaning.specs.Offences.{offences_of};
-ghost use Rattle.sim_core.specs.Bus.{bus_by};
 ghost use Rattle.sim_core.specs.Run.{IsRun, Passed};
 ghost use Rattle.source_laws.specs.Source.{SourceMemory, by_source_reaction};
 ghost use Rattle.source_laws.specs.Stands.{StandsFor};
@@ -29,12 +28,10 @@ pub fn runs_of_code_are_runs_of_sources<B: Bus>()
         (nodes : List NodeInRound) → AreLoadedFor base turns programs nodes →
         (until : ℕ) (b : B) (keys : List KeyItem) (requests : List Request)
         (rounds : List Passed) (final : List (NodeState CodeMemory)) →
-        IsRun code_reaction
-        (bus_by B.after_request B.next_moment B.ended B.after_finish B.after_arbitration)
+        IsRun code_reaction B.meaning
         until (states_of nodes) b keys requests rounds final →
         (end : List (NodeState SourceMemory))
-        × IsRun by_source_reaction
-        (bus_by B.after_request B.next_moment B.ended B.after_finish B.after_arbitration)
+        × IsRun by_source_reaction B.meaning
         until (first_source_nodes base turns programs) b keys requests rounds end
         × AllZip (NodesAlike StandsFor) final end }
     ensures is_each_run { (base : List DbcMessage) (turns : ℕ) (programs : List Program)
@@ -42,11 +39,9 @@ pub fn runs_of_code_are_runs_of_sources<B: Bus>()
         (until : ℕ) (b : B) (keys : List KeyItem) (requests : List Request)
         (rounds others : List Passed) (final : List (NodeState CodeMemory))
         (end : List (NodeState SourceMemory)) →
-        IsRun code_reaction
-        (bus_by B.after_request B.next_moment B.ended B.after_finish B.after_arbitration)
+        IsRun code_reaction B.meaning
         until (states_of nodes) b keys requests rounds final →
-        IsRun by_source_reaction
-        (bus_by B.after_request B.next_moment B.ended B.after_finish B.after_arbitration)
+        IsRun by_source_reaction B.meaning
         until (first_source_nodes base turns programs) b keys requests others end →
         (rounds ≡ others) × AllZip (NodesAlike StandsFor) final end }
 {}
@@ -56,11 +51,9 @@ pub fn runs_of_code_are_runs_of_sources<B: Bus>()
 pub fn sources_have_one_run<B: Bus>()
     ensures { (until : ℕ) (nodes : List (NodeState SourceMemory)) (b : B) (keys : List KeyItem)
         (requests : List Request) (rounds others : List Passed) (final end : List (NodeState SourceMemory)) →
-        IsRun by_source_reaction
-        (bus_by B.after_request B.next_moment B.ended B.after_finish B.after_arbitration)
+        IsRun by_source_reaction B.meaning
         until nodes b keys requests rounds final →
-        IsRun by_source_reaction
-        (bus_by B.after_request B.next_moment B.ended B.after_finish B.after_arbitration)
+        IsRun by_source_reaction B.meaning
         until nodes b keys requests others end →
         (rounds ≡ others) × (final ≡ end) }
 {}
@@ -71,9 +64,8 @@ pub fn sources_have_a_run<B: Bus>()
     ensures { (base : List DbcMessage) (turns : ℕ) (programs : List Program) →
         All (λ program. offences_of base program ≡ []) programs →
         (until : ℕ) (b : B) (keys : List KeyItem) (requests : List Request) →
-        B.sound b → B.next_moment b ≡ None →
+        B.meaning.sound b → B.meaning.next_moment b ≡ None →
         (rounds : List Passed) × (final : List (NodeState SourceMemory))
-        × IsRun by_source_reaction
-        (bus_by B.after_request B.next_moment B.ended B.after_finish B.after_arbitration)
+        × IsRun by_source_reaction B.meaning
         until (first_source_nodes base turns programs) b keys requests rounds final }
 {}

@@ -2,6 +2,7 @@
 use Rattle.std.proofs.Common.{◌≡◌, ℕ, inr, Bool, List, [], ◌∷◌, ◌++◌, Option, refl, ap, sym, subst, ◌∙◌}
 use Rattle.can_frame.specs.Frame.{FrameFields}
 use Rattle.can_bus.specs.declared.bus.Ended.{Ended}
+use Rattle.can_bus.specs.Meaning.{BusMeaning}
 use Rattle.run_records.specs.declared.record.Noted.{Noted}
 use Rattle.run_records.specs.Record.{RecordMeaning, RefusesEntry}
 use Rattle.bytecode.specs.Laws.{BeginsWith}
@@ -15,7 +16,7 @@ use Rattle.node_rounds.specs.Reaction.{NodeState}
 use Rattle.node_rounds.specs.Round.{IsDone, IsPart, Task, at_begin}
 use Rattle.node_run.specs.Code.{CodeMemory, code_reaction}
 use Rattle.node_run.specs.Node.{NodeInRound}
-use Rattle.sim_core.specs.Bus.{BusMeaning, after_tasks}
+use Rattle.sim_core.specs.Bus.{after_tasks}
 use Rattle.sim_core.specs.Entries.{frame_entries, task_entries}
 use Rattle.sim_core.specs.Faults.{AddsAtMost}
 use Rattle.sim_core.specs.Moments.{keys_at}

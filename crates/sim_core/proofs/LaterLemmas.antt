@@ -5,6 +5,7 @@ use Rattle.std.specs.Option.{option_map, option_map_or}
 use Rattle.std.proofs.lemmas.Bool.Decides.{leb_tells}
 use Rattle.std.proofs.lemmas.List.Elements.{All-cons, All-nil, All-head, All-tail}
 use Rattle.can_frame.specs.Frame.{FrameFields}
+use Rattle.can_bus.specs.Meaning.{BusMeaning}
 use Rattle.can_bus.specs.Laws.{Follows}
 use Rattle.can_bus.specs.Laws.Follows.{request}
 use Rattle.scenario.specs.declared.scenario.KeyItem.{KeyItem}
@@ -174,16 +175,14 @@ keys_later now (key ∷ keys) = elim (leb_tells key.at now) as (λ _. IfSome (ne
 
 -- ---- the bus
 
-after_requests_follow : {B : Type 0} (after_request : B → ℕ → FrameFields → B) (after_finish : B → ℕ → B) (now : ℕ) (s t : B) (node : ℕ) (frames : List FrameFields)
-    → Follows after_request after_finish now s t → Follows after_request after_finish now s (after_requests after_request t node frames)
-after_requests_follow after_request after_finish now s t node [] follows = follows
-after_requests_follow after_request after_finish now s t node (frame ∷ frames) follows =
-    after_requests_follow after_request after_finish now s (after_request t node frame) node frames (request t node frame follows)
+after_requests_follow : {B : Type 0} (bus : BusMeaning B) (now : ℕ) (s t : B) (node : ℕ) (frames : List FrameFields) → Follows bus now s t
+    → Follows bus now s (after_requests bus.after_request t node frames)
+after_requests_follow bus now s t node [] follows = follows
+after_requests_follow bus now s t node (frame ∷ frames) follows = after_requests_follow bus now s (bus.after_request t node frame) node frames (request t node frame follows)
 
 -- the bus after tasks comes from the one before by requests
-pub after_tasks_follow : {B : Type 0} (after_request : B → ℕ → FrameFields → B) (after_finish : B → ℕ → B) (now : ℕ) (s t : B) (node : ℕ) (tasks : List Task)
-    → Follows after_request after_finish now s t → Follows after_request after_finish now s (after_tasks after_request t node tasks)
-after_tasks_follow after_request after_finish now s t node [] follows = follows
-after_tasks_follow after_request after_finish now s t node (task ∷ tasks) follows =
-    after_tasks_follow after_request after_finish now s (after_requests after_request t node task.requests) node tasks
-    (after_requests_follow after_request after_finish now s t node task.requests follows)
+pub after_tasks_follow : {B : Type 0} (bus : BusMeaning B) (now : ℕ) (s t : B) (node : ℕ) (tasks : List Task) → Follows bus now s t
+    → Follows bus now s (after_tasks bus.after_request t node tasks)
+after_tasks_follow bus now s t node [] follows = follows
+after_tasks_follow bus now s t node (task ∷ tasks) follows =
+    after_tasks_follow bus now s (after_requests bus.after_request t node task.requests) node tasks (after_requests_follow bus now s t node task.requests follows)

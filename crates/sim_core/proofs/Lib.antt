@@ -6,6 +6,7 @@ pub mod Meters
 pub mod TasksLeft
 pub mod TaskLoop
 pub mod InstantLemmas
+pub mod BusNodes
 pub mod LaterLemmas
 pub mod RunLemmas
 pub mod RunFaults

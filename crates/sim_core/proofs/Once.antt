@@ -4,6 +4,7 @@ use Rattle.std.specs.Prelude.{ℤ, ◌||◌}
 use Rattle.run_effects.specs.Effect.{Effect}
 use Rattle.run_effects.specs.declared.outcome.Outcome.{Outcome}
 use Rattle.can_bus.specs.declared.bus.Ended.{Ended}
+use Rattle.can_bus.specs.Meaning.{BusMeaning}
 use Rattle.scenario.specs.declared.scenario.KeyItem.{KeyItem}
 use Rattle.replay_node.specs.declared.replay.Request.{Request}
 use Rattle.bytecode.specs.declared.code.Fun.{Fun}
@@ -19,7 +20,7 @@ use Rattle.node_rounds.specs.declared.round.Seen.{Seen}
 use Rattle.node_rounds.specs.Reaction.{Done, DoesProcedure, NodeState, Reacts, RunEnd, is_closed, with_procedure, without_procedure}
 use Rattle.node_rounds.specs.Round.{Doing, DoesNext, IsDone, IsPart, PartOf, Rest, Task, at_begin, task_of}
 use Rattle.node_run.specs.Code.{CodeMemory, EndsByCode, by_code, code_reaction}
-use Rattle.sim_core.specs.Bus.{BusMeaning, after_all_tasks}
+use Rattle.sim_core.specs.Bus.{after_all_tasks}
 use Rattle.sim_core.specs.Moments.{keys_at}
 use Rattle.sim_core.specs.Run.{AreParts, IsBegun, IsInstant, Passed, RunState, after_instant, ask_stop, seen_by}
 

@@ -6,9 +6,9 @@ use Rattle.run_records.specs.declared.record.Noted.{Noted}
 use Rattle.run_records.specs.Record.{RecordMeaning}
 use Rattle.bytecode.specs.Laws.{BeginsWith}
 use Rattle.stack_vm.specs.declared.meter.MeterRow.{MeterRow}
-use Rattle.can_frame.specs.Frame.{FrameFields}
 use Rattle.can_bus.specs.Laws.{DueLater, DueLaterFromNothing}
 use Rattle.can_bus.specs.Laws.Follows.{nothing}
+use Rattle.can_bus.specs.Meaning.{BusMeaning}
 use Rattle.sim_core.proofs.LaterLemmas.{after_tasks_follow, least_at_most, least_later, next_due_later, next_due_on_time}
 use Rattle.scenario.specs.declared.scenario.KeyItem.{KeyItem}
 use Rattle.timer_queue.specs.Timers.{IsTimers, Timers}
@@ -20,7 +20,7 @@ use Rattle.node_rounds.specs.Reaction.{NodeState}
 use Rattle.node_rounds.specs.Round.{IsPart, Task}
 use Rattle.node_run.specs.Code.{CodeMemory, code_reaction}
 use Rattle.node_run.specs.Node.{NodeInRound}
-use Rattle.sim_core.specs.Bus.{BusMeaning, after_tasks}
+use Rattle.sim_core.specs.Bus.{after_tasks}
 use Rattle.sim_core.specs.Counts.{AddsTasks, tasks_of}
 use Rattle.sim_core.specs.Entries.{frame_entries, run_entries, task_entries}
 use Rattle.sim_core.specs.Faults.{AddsAtMost, BeginRuns, TakesFirst}
@@ -106,13 +106,13 @@ has_begun bus meaning until keys pressed first_row row node between after b b₁
 }
 
 -- after the tasks of moment 0 on a new bus, what is due next is later
-pub bus_is_later : {B : Type 0} (after_request : B → ℕ → FrameFields → B) (next_moment : B → Option ℕ) (after_finish after_arbitration : B → ℕ → B) (sound : B → Type 0)
-    → DueLaterFromNothing sound next_moment after_request after_finish after_arbitration → (b b₁ b₂ b₃ : B) (before_tasks start_tasks : List Task) → sound b → next_moment b ≡ None
-    → b₁ ≡ after_tasks after_request b 0 before_tasks → b₂ ≡ after_tasks after_request b₁ 0 start_tasks → b₃ ≡ after_arbitration b₂ 0 → IfSome (next_moment b₃) (λ due. 0 < due)
-bus_is_later {B} after_request next_moment after_finish after_arbitration sound law b b₁ b₂ b₃ before_tasks start_tasks is_sound none is₁ is₂ is₃ =
-    subst (λ (x : B). IfSome (next_moment x) (λ due. 0 < due)) (sym (is₃ ∙ ap (λ x. after_arbitration x 0) (is₂ ∙ ap (λ x. after_tasks after_request x 0 start_tasks) is₁)))
-    (law b (after_tasks after_request (after_tasks after_request b 0 before_tasks) 0 start_tasks) 0 is_sound none
-    (after_tasks_follow after_request after_finish 0 b (after_tasks after_request b 0 before_tasks) 0 start_tasks (after_tasks_follow after_request after_finish 0 b b 0 before_tasks nothing)))
+pub bus_is_later : {B : Type 0} (bus : BusMeaning B) → DueLaterFromNothing bus → (b b₁ b₂ b₃ : B) (before_tasks start_tasks : List Task) → bus.sound b → bus.next_moment b ≡ None
+    → b₁ ≡ after_tasks bus.after_request b 0 before_tasks → b₂ ≡ after_tasks bus.after_request b₁ 0 start_tasks → b₃ ≡ bus.after_arbitration b₂ 0
+    → IfSome (bus.next_moment b₃) (λ due. 0 < due)
+bus_is_later {B} bus law b b₁ b₂ b₃ before_tasks start_tasks is_sound none is₁ is₂ is₃ =
+    subst (λ (x : B). IfSome (bus.next_moment x) (λ due. 0 < due)) (sym (is₃ ∙ ap (λ x. bus.after_arbitration x 0) (is₂ ∙ ap (λ x. after_tasks bus.after_request x 0 start_tasks) is₁)))
+    (law b (after_tasks bus.after_request (after_tasks bus.after_request b 0 before_tasks) 0 start_tasks) 0 is_sound none
+    (after_tasks_follow bus 0 b (after_tasks bus.after_request b 0 before_tasks) 0 start_tasks (after_tasks_follow bus 0 b b 0 before_tasks nothing)))
 
 -- ---- faults at moment 0
 
@@ -359,12 +359,12 @@ later_next bus node b left now m next of_bus later of_keys =
     (least_later now (next_due code_reaction node) None (next_due_later now node later) tt) (least_later now (next_key left) None of_keys tt)))
 
 -- the bus after an instant has nothing due that is not later
-pub bus_goes_on : {B : Type 0} (bus : BusMeaning B) (sound : B → Type 0) → DueLater sound bus.next_moment bus.after_request bus.after_finish bus.after_arbitration → (b b₁ : B) (now : ℕ) (tasks : List Task)
-    → sound b → IfSome (bus.next_moment b) (λ due. now ≤ due) → b₁ ≡ bus.after_arbitration (after_tasks bus.after_request (bus.after_finish b now) 0 tasks) now
+pub bus_goes_on : {B : Type 0} (bus : BusMeaning B) → DueLater bus → (b b₁ : B) (now : ℕ) (tasks : List Task)
+    → bus.sound b → IfSome (bus.next_moment b) (λ due. now ≤ due) → b₁ ≡ bus.after_arbitration (after_tasks bus.after_request (bus.after_finish b now) 0 tasks) now
     → IfSome (bus.next_moment b₁) (λ due. now < due)
-bus_goes_on {B} bus sound law b b₁ now tasks is_sound due is =
+bus_goes_on {B} bus law b b₁ now tasks is_sound due is =
     subst (λ (x : B). IfSome (bus.next_moment x) (λ due. now < due)) (sym is)
-    (law b (after_tasks bus.after_request (bus.after_finish b now) 0 tasks) now is_sound due (after_tasks_follow bus.after_request bus.after_finish now (bus.after_finish b now) (bus.after_finish b now) 0 tasks nothing))
+    (law b (after_tasks bus.after_request (bus.after_finish b now) 0 tasks) now is_sound due (after_tasks_follow bus now (bus.after_finish b now) (bus.after_finish b now) 0 tasks nothing))
 
 -- ---- the end of a run
 

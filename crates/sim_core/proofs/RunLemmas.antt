@@ -5,6 +5,7 @@ use Rattle.std.specs.List.{list_any}
 use Rattle.std.proofs.lemmas.List.{append-nil}
 use Rattle.std.proofs.lemmas.Grind.{flat_map-append}
 use Rattle.can_bus.specs.declared.bus.Ended.{Ended}
+use Rattle.can_bus.specs.Meaning.{BusMeaning}
 use Rattle.run_records.specs.declared.record.Noted.{Noted}
 use Rattle.run_records.specs.Record.{RecordMeaning}
 use Rattle.stack_vm.specs.declared.meter.MeterRow.{MeterRow}
@@ -15,7 +16,7 @@ use Rattle.node_rounds.specs.Entries.{TakesEntries}
 use Rattle.node_rounds.specs.Reaction.{NodeState, Reacts}
 use Rattle.node_rounds.specs.Round.{IsPart, Task}
 use Rattle.node_run.specs.Code.{CodeMemory, code_reaction}
-use Rattle.sim_core.specs.Bus.{BusMeaning, after_tasks}
+use Rattle.sim_core.specs.Bus.{after_tasks}
 use Rattle.sim_core.specs.Counts.{AddsTasks, tasks_of}
 use Rattle.sim_core.specs.Entries.{frame_entries, round_entries, run_entries, task_entries}
 use Rattle.sim_core.specs.Moments.{keys_after, next_of_all}

@@ -3,6 +3,7 @@ use Rattle.std.proofs.Common.{◌≡◌, ℕ, ◌+◌, cond, Bool, List, [], ◌
 use Rattle.std.specs.List.{AllZip}
 use Rattle.std.proofs.lemmas.Slice.Zip.{AllZip-long}
 use Rattle.can_bus.specs.declared.bus.Ended.{Ended}
+use Rattle.can_bus.specs.Meaning.{BusMeaning}
 use Rattle.scenario.specs.declared.scenario.KeyItem.{KeyItem}
 use Rattle.replay_node.specs.declared.replay.Request.{Request}
 use Rattle.timer_queue.specs.Timers.{Timers, least_due}
@@ -12,7 +13,6 @@ use Rattle.node_rounds.specs.Follows.{Follows}
 use Rattle.node_rounds.specs.Reaction.{Reacts, next_due}
 use Rattle.node_rounds.specs.Round.{Task}
 use Rattle.node_rounds.proofs.FollowLemmas.{parts_follow}
-use Rattle.sim_core.specs.Bus.{BusMeaning}
 use Rattle.sim_core.specs.Moments.{least, next_key, next_request, next_timer, requests_at}
 use Rattle.sim_core.specs.Run.{AreInstants, AreParts, EndsAt, IsBegun, IsInstant, IsRun, Passed, RunState, after_instant, next_moment, seen_by}
 

@@ -2,6 +2,7 @@
 use Rattle.std.proofs.Common.{◌≡◌, ℕ, inl, inr, ◌⊎◌, List, [], ◌∷◌, ◌++◌, Option, None, Some, drop, length, take, refl, ap, sym, subst, ◌∙◌}
 use Rattle.std.specs.Option.{option_map, unwrap_or}
 use Rattle.std.proofs.lemmas.List.{append-nil, append_assoc, take-append-drop}
+use Rattle.can_bus.specs.Meaning.{BusMeaning}
 use Rattle.sim_outside.specs.Sink.{GrowsBy, GrowsByPrefix}
 use Rattle.run_records.specs.declared.record.Noted.{Noted}
 use Rattle.run_records.specs.declared.record.Noted.TheVariants as entry
@@ -12,7 +13,6 @@ use Rattle.scenario.specs.declared.scenario.KeyItem.{KeyItem}
 use Rattle.node_rounds.specs.Entries.{TakesEntries}
 use Rattle.node_rounds.specs.Reaction.{NodeState}
 use Rattle.node_run.specs.Code.{CodeMemory, code_reaction}
-use Rattle.sim_core.specs.Bus.{BusMeaning}
 use Rattle.sim_core.specs.Entries.{run_entries}
 use Rattle.sim_core.specs.Faults.{BeginRuns, IsLine}
 use Rattle.sim_core.specs.Outcome.{HasRun, IsRunRefused}

@@ -1,5 +1,6 @@
 -- What a run leaves that was ended by a fault.
 use Rattle.std.specs.Prelude.{◌≡◌, ◌⊎◌, ℕ, ◌+◌, ◌-◌, ◌^◌, ◌<◌, ◌≤◌, List, [], ◌∷◌, ◌++◌, length, Some, slice_get, ⊤}
+use Rattle.can_bus.specs.Meaning.{BusMeaning}
 use Rattle.run_records.specs.declared.record.Noted.{Noted}
 use Rattle.run_records.specs.declared.record.Noted.TheVariants as entry
 use Rattle.run_records.specs.Record.{RecordMeaning, RefusesEntry}
@@ -10,7 +11,6 @@ use Rattle.replay_node.specs.declared.replay.Request.{Request}
 use Rattle.node_rounds.specs.Entries.{TakesEntries}
 use Rattle.node_rounds.specs.Reaction.{Reacts}
 use Rattle.node_rounds.specs.Round.{Task}
-use Rattle.sim_core.specs.Bus.{BusMeaning}
 use Rattle.sim_core.specs.Counts.{row_with, tasks_of}
 use Rattle.sim_core.specs.Entries.{run_entries}
 use Rattle.sim_core.specs.Run.{IsRun, Passed}

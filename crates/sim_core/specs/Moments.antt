@@ -2,10 +2,10 @@
 -- of the log that is replayed. Both stand by moment.
 use Rattle.std.specs.Prelude.{ℕ, nat_le, if◌then◌else◌, List, [], ◌∷◌, Option, None, Some, min}
 use Rattle.can_frame.specs.Frame.{FrameFields}
+use Rattle.can_bus.specs.Meaning.{BusMeaning}
 use Rattle.scenario.specs.declared.scenario.KeyItem.{KeyItem}
 use Rattle.replay_node.specs.declared.replay.Request.{Request}
 use Rattle.node_rounds.specs.Reaction.{Reacts, next_due}
-use Rattle.sim_core.specs.Bus.{BusMeaning}
 
 -- the lesser of two moments, where there are any
 abbrev pub least : Option ℕ → Option ℕ → Option ℕ

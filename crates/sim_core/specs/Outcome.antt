@@ -1,5 +1,6 @@
 -- What the run of a node by its code comes to.
 use Rattle.std.specs.Prelude.{◌≡◌, ℕ, List, [], ◌∷◌}
+use Rattle.can_bus.specs.Meaning.{BusMeaning}
 use Rattle.run_records.specs.Record.{RecordMeaning}
 use Rattle.stack_vm.specs.declared.meter.MeterRow.{MeterRow}
 use Rattle.scenario.specs.declared.scenario.KeyItem.{KeyItem}
@@ -7,7 +8,6 @@ use Rattle.node_rounds.specs.Entries.{TakesEntries}
 use Rattle.node_rounds.specs.Reaction.{NodeState}
 use Rattle.node_run.specs.Code.{CodeMemory, code_reaction}
 use Rattle.node_run.specs.Node.{NodeInRound, loaded}
-use Rattle.sim_core.specs.Bus.{BusMeaning}
 use Rattle.sim_core.specs.Counts.{AddsTasks, tasks_of}
 use Rattle.sim_core.specs.Entries.{run_entries}
 use Rattle.sim_core.specs.Faults.{BeginRuns, MeteredWithin, TakesFirst}

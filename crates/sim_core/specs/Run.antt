@@ -5,6 +5,7 @@ use Rattle.std.specs.Prelude.{◌≡◌, ℕ, ◌+◌, ◌<◌, ◌≤◌, ◌==
 use Rattle.std.specs.List.{list_any}
 use Rattle.std.specs.Option.{option_map}
 use Rattle.can_bus.specs.declared.bus.Ended.{Ended}
+use Rattle.can_bus.specs.Meaning.{BusMeaning}
 use Rattle.scenario.specs.declared.scenario.KeyItem.{KeyItem}
 use Rattle.replay_node.specs.declared.replay.Request.{Request}
 use Rattle.node_rounds.specs.declared.round.Round.{Round}
@@ -13,7 +14,7 @@ use Rattle.node_rounds.specs.declared.round.Seen.{Seen}
 use Rattle.node_rounds.specs.Entries.{after_requests}
 use Rattle.node_rounds.specs.Reaction.{Reacts}
 use Rattle.node_rounds.specs.Round.{IsPart, Task}
-use Rattle.sim_core.specs.Bus.{BusMeaning, after_all_tasks}
+use Rattle.sim_core.specs.Bus.{after_all_tasks}
 use Rattle.sim_core.specs.Moments.{keys_after, keys_at, next_of_all, requests_after, requests_at}
 
 -- a round that has passed: its moment, the frame that ended at it, and the tasks of each node in order

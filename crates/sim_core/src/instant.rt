@@ -8,7 +8,6 @@ ghost use Rattle.node_rounds.specs.Entries.{TakesEntries};
 ghost use Rattle.node_rounds.specs.Round.{IsDone};
 ghost use Rattle.node_run.specs.Code.{code_reaction};
 ghost use Rattle.node_run.specs.Node.{HasRows};
-ghost use Rattle.sim_core.specs.Bus.{bus_by};
 ghost use Rattle.sim_core.specs.Entries.{frame_entries};
 ghost use Rattle.sim_core.specs.Run.{seen_by};
 ghost use Rattle.sim_core.specs.Inside.Rounds.{DoesInstant, DoesPart, IsInstantRefused, IsOnTime, IsRoundRefused};
@@ -37,10 +36,10 @@ pub(crate) fn do_round<B: Bus, R: Record>(
     requires done { IsDone code_reaction node.old.moment node.old.doing }
     requires in_time { now ≤ 2 ^ 63 }
     requires rows { HasRows meter.old node.old }
-    requires serves { (b : B) → 0 < B.nodes b }
+    requires serves { 0 < B.meaning.nodes bus.old }
     requires timers { IsTimers node.old.doing.node.timers }
     requires on_time { IsOnTime now node.old.doing.node }
-    ensures part { IfOk result (λ stops. DoesPart B.after_request R.meaning round now seen keys.now
+    ensures part { IfOk result (λ stops. DoesPart B.meaning.after_request R.meaning round now seen keys.now
         node.old.first_row node.old.doing.node bus.old into.old meter.old
         stops node.new.doing.node bus.new into.new meter.new) }
     ensures done { OnOk result (IsDone code_reaction node.new.moment node.new.doing) }
@@ -100,16 +99,14 @@ pub(crate) fn do_instant<B: Bus, R: Record>(
     requires done { IsDone code_reaction node.old.moment node.old.doing }
     requires in_time { now ≤ 2 ^ 63 }
     requires rows { HasRows meter.old node.old }
-    requires serves { (b : B) → 0 < B.nodes b }
+    requires serves { 0 < B.meaning.nodes bus.old }
     requires timers { IsTimers node.old.doing.node.timers }
     requires on_time { IsOnTime now node.old.doing.node }
-    ensures instant { IfOk result (λ stops. DoesInstant
-        (bus_by B.after_request B.next_moment B.ended B.after_finish B.after_arbitration)
+    ensures instant { IfOk result (λ stops. DoesInstant B.meaning
         R.meaning now keys.now node.old.first_row node.old.doing.node bus.old into.old meter.old
         stops node.new.doing.node bus.new into.new meter.new) }
     ensures done { OnOk result (IsDone code_reaction node.new.moment node.new.doing) }
-    ensures refused { OnErr result (IsInstantRefused
-        (bus_by B.after_request B.next_moment B.ended B.after_finish B.after_arbitration)
+    ensures refused { OnErr result (IsInstantRefused B.meaning
         R.meaning now keys.now node.old.first_row node.old.doing.node bus.old
         into.old into.new meter.old meter.new) }
     ensures fault { IsErrOf result TaskFault.Record → RecordFaultsRise R.meaning into.old into.new }

@@ -6,7 +6,6 @@ ghost use Rattle.scenario.specs.declared.scenario.KeyItem.{KeyItem};
 ghost use Rattle.replay_node.specs.declared.replay.Request.{Request};
 ghost use Rattle.node_rounds.specs.Follows.{NodesAlike};
 ghost use Rattle.node_rounds.specs.Reaction.{NodeState, reaction_of};
-ghost use Rattle.sim_core.specs.Bus.{bus_by};
 ghost use Rattle.sim_core.specs.Run.{IsRun, Passed};
 
 use can_bus::Bus;
@@ -18,12 +17,10 @@ pub fn equal_runs<P: RunnerPair, B: Bus>()
         (keys : List KeyItem) (requests : List Request)
         (rounds : List Passed) (final : List (NodeState P.First)) →
         AllZip (NodesAlike P.related) nodes others →
-        IsRun (reaction_of P.first)
-        (bus_by B.after_request B.next_moment B.ended B.after_finish B.after_arbitration)
+        IsRun (reaction_of P.first) B.meaning
         until nodes b keys requests rounds final →
         (end : List (NodeState P.Second))
-        × IsRun (reaction_of P.second)
-        (bus_by B.after_request B.next_moment B.ended B.after_finish B.after_arbitration)
+        × IsRun (reaction_of P.second) B.meaning
         until others b keys requests rounds end
         × AllZip (NodesAlike P.related) final end }
 {}

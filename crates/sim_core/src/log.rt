@@ -3,7 +3,6 @@
 ghost use Rattle.std.specs.Prelude.{◌≡◌, ℕ, ◌<◌, ◌≤◌, ◌^◌, None, Some, OnOk, OnErr, IsErrOf};
 ghost use Rattle.texts.specs.Fault.{HasRisen};
 ghost use Rattle.node_run.specs.Node.{HasRows};
-ghost use Rattle.sim_core.specs.Bus.{bus_by};
 ghost use Rattle.sim_core.specs.Outcome.{IsNew};
 ghost use Rattle.sim_core.specs.Show.{BeginsShown, HasShown, IsShownInPart, log_piece};
 
@@ -74,25 +73,22 @@ fn run_log<'n, 'a, B: Bus, S: Sink>(
     meter: &mut Meter,
 ) -> Result<(), TaskFault>
     requires new_node { IsNew node.old }
-    requires new_bus { B.next_moment bus.old ≡ None }
-    requires sound_bus { B.sound bus.old }
-    requires serves { (b : B) → 0 < B.nodes b }
+    requires new_bus { B.meaning.next_moment bus.old ≡ None }
+    requires sound_bus { B.meaning.sound bus.old }
+    requires serves { 1 < B.meaning.nodes bus.old }
     requires rows { HasRows meter.old node.old }
     requires in_time { until ≤ 2 ^ 63 }
     ensures same_sink { into.new.sink.ghost_name ≡ into.old.sink.ghost_name }
-    ensures shows { OnOk result (HasShown
-        (bus_by B.after_request B.next_moment B.ended B.after_finish B.after_arbitration)
+    ensures shows { OnOk result (HasShown B.meaning
         (log_piece into.old.interface.now into.old.epoch) until keys.now node.old.first_row
         node.old.doing.node bus.old
         (S.written into.old.sink.now) (S.written into.new.sink.now) meter.old meter.new
         node.new.doing.node) }
-    ensures refused { OnErr result (IsShownInPart
-        (bus_by B.after_request B.next_moment B.ended B.after_finish B.after_arbitration)
+    ensures refused { OnErr result (IsShownInPart B.meaning
         (log_piece into.old.interface.now into.old.epoch) until keys.now node.old.first_row
         node.old.doing.node bus.old
         (S.written into.old.sink.now) (S.written into.new.sink.now) meter.old meter.new) }
-    ensures begins { OnErr result (BeginsShown
-        (bus_by B.after_request B.next_moment B.ended B.after_finish B.after_arbitration)
+    ensures begins { OnErr result (BeginsShown B.meaning
         (log_piece into.old.interface.now into.old.epoch) until keys.now node.old.doing.node bus.old
         (S.written into.old.sink.now) (S.written into.new.sink.now)) }
     ensures fault { IsErrOf result TaskFault.Record →
@@ -123,22 +119,19 @@ pub fn play_log<B: Bus, S: Sink>(
     meter: &mut Meter,
 ) -> Result<(), TaskFault>
     requires new_node { IsNew node.old }
-    requires new_bus { B.next_moment bus.old ≡ None }
-    requires sound_bus { B.sound bus.old }
-    requires serves { (b : B) → 0 < B.nodes b }
+    requires new_bus { B.meaning.next_moment bus.old ≡ None }
+    requires sound_bus { B.meaning.sound bus.old }
+    requires serves { 1 < B.meaning.nodes bus.old }
     requires rows { HasRows meter.old node.old }
     requires in_time { until ≤ 2 ^ 63 }
     requires in_range { epoch < 2 ^ 32 }
-    ensures shows { OnOk result (HasShown
-        (bus_by B.after_request B.next_moment B.ended B.after_finish B.after_arbitration)
+    ensures shows { OnOk result (HasShown B.meaning
         (log_piece interface.now epoch) until keys.now node.old.first_row node.old.doing.node bus.old
         (S.written sink.old) (S.written sink.new) meter.old meter.new node.new.doing.node) }
-    ensures refused { OnErr result (IsShownInPart
-        (bus_by B.after_request B.next_moment B.ended B.after_finish B.after_arbitration)
+    ensures refused { OnErr result (IsShownInPart B.meaning
         (log_piece interface.now epoch) until keys.now node.old.first_row node.old.doing.node bus.old
         (S.written sink.old) (S.written sink.new) meter.old meter.new) }
-    ensures begins { OnErr result (BeginsShown
-        (bus_by B.after_request B.next_moment B.ended B.after_finish B.after_arbitration)
+    ensures begins { OnErr result (BeginsShown B.meaning
         (log_piece interface.now epoch) until keys.now node.old.doing.node bus.old
         (S.written sink.old) (S.written sink.new)) }
     ensures fault { IsErrOf result TaskFault.Record → HasRisen (S.faults sink.old) (S.faults sink.new) }

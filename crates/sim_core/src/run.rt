@@ -6,7 +6,6 @@ ghost use Rattle.run_records.specs.Record.{RecordFaultsRise};
 ghost use Rattle.node_rounds.specs.Round.{IsDone};
 ghost use Rattle.node_run.specs.Code.{code_reaction};
 ghost use Rattle.node_run.specs.Node.{HasRows};
-ghost use Rattle.sim_core.specs.Bus.{bus_by};
 ghost use Rattle.sim_core.specs.Moments.{keys_after, least, next_of_all};
 ghost use Rattle.sim_core.specs.Outcome.{HasRun, IsNew, IsRunRefused};
 ghost use Rattle.sim_core.specs.Inside.Rounds.{IsLater};
@@ -41,14 +40,12 @@ fn next_instant<B: Bus>(
     stops: bool,
 ) -> Option<u64>
     ensures goes_on { IfSome result (λ moment. stops ≡ false) }
-    ensures next { IfSome result (λ moment. Some moment ≡ next_of_all code_reaction
-        (bus_by B.after_request B.next_moment B.ended B.after_finish B.after_arbitration)
+    ensures next { IfSome result (λ moment. Some moment ≡ next_of_all code_reaction B.meaning
         (node.now.doing.node ∷ []) bus.now keys.now []) }
     ensures in_time { IfSome result (λ moment. moment ≤ until) }
-    ensures none { result ≡ None → stops ≡ false → IfSome (next_of_all code_reaction
-        (bus_by B.after_request B.next_moment B.ended B.after_finish B.after_arbitration)
+    ensures none { result ≡ None → stops ≡ false → IfSome (next_of_all code_reaction B.meaning
         (node.now.doing.node ∷ []) bus.now keys.now []) (λ moment. until < moment) }
-    ensures sound { B.sound bus.now }
+    ensures sound { B.meaning.sound bus.now }
 {
     let of_bus = bus.next_time();
     if stops {
@@ -76,18 +73,17 @@ fn do_begin<B: Bus, R: Record>(
 ) -> Result<bool, TaskFault>
     requires new_node { IsNew node.old }
     requires rows { HasRows meter.old node.old }
-    requires serves { (b : B) → 0 < B.nodes b }
-    ensures gone { IfOk result (λ stops. (until : ℕ) → HasGone
-        (bus_by B.after_request B.next_moment B.ended B.after_finish B.after_arbitration)
+    requires serves { 0 < B.meaning.nodes bus.old }
+    ensures gone { IfOk result (λ stops. (until : ℕ) → HasGone B.meaning
         R.meaning until keys.now node.old.first_row node.old.doing.node bus.old into.old meter.old
         0 stops (keys_after 0 keys.now) node.new.doing.node bus.new into.new meter.new) }
     ensures done { OnOk result (IsDone code_reaction node.new.moment node.new.doing) }
     ensures timers { OnOk result (IsTimers node.new.doing.node.timers) }
     ensures later { OnOk result (IsLater 0 node.new.doing.node) }
-    ensures bus_later { OnOk result (B.sound bus.old → B.next_moment bus.old ≡ None →
-        IfSome (B.next_moment bus.new) (λ due. 0 < due)) }
-    ensures refused { OnErr result (IsBeginRefused
-        (bus_by B.after_request B.next_moment B.ended B.after_finish B.after_arbitration)
+    ensures bus_later { OnOk result (B.meaning.sound bus.old → B.meaning.next_moment bus.old ≡ None →
+        IfSome (B.meaning.next_moment bus.new) (λ due. 0 < due)) }
+    ensures nodes_stay { OnOk result (B.meaning.nodes bus.new ≡ B.meaning.nodes bus.old) }
+    ensures refused { OnErr result (IsBeginRefused B.meaning
         R.meaning keys.now node.old.first_row node.old.doing.node bus.old
         into.old into.new meter.old meter.new) }
     ensures fault { IsErrOf result TaskFault.Record → RecordFaultsRise R.meaning into.old into.new }
@@ -123,17 +119,15 @@ pub fn run_until<B: Bus, R: Record>(
     meter: &mut Meter,
 ) -> Result<(), TaskFault>
     requires new_node { IsNew node.old }
-    requires new_bus { B.next_moment bus.old ≡ None }
-    requires sound_bus { B.sound bus.old }
-    requires serves { (b : B) → 0 < B.nodes b }
+    requires new_bus { B.meaning.next_moment bus.old ≡ None }
+    requires sound_bus { B.meaning.sound bus.old }
+    requires serves { 1 < B.meaning.nodes bus.old }
     requires rows { HasRows meter.old node.old }
     requires in_time { until ≤ 2 ^ 63 }
-    ensures runs { OnOk result (HasRun
-        (bus_by B.after_request B.next_moment B.ended B.after_finish B.after_arbitration)
+    ensures runs { OnOk result (HasRun B.meaning
         R.meaning until keys.now node.old.first_row node.old.doing.node bus.old into.old meter.old
         node.new.doing.node into.new meter.new) }
-    ensures refused { OnErr result (IsRunRefused
-        (bus_by B.after_request B.next_moment B.ended B.after_finish B.after_arbitration)
+    ensures refused { OnErr result (IsRunRefused B.meaning
         R.meaning until keys.now node.old.first_row node.old.doing.node bus.old
         into.old into.new meter.old meter.new) }
     ensures fault { IsErrOf result TaskFault.Record → RecordFaultsRise R.meaning into.old into.new }

@@ -24,11 +24,11 @@ pub(crate) fn do_tasks<B: Bus, R: Record>(
     meter: &mut Meter,
 ) -> Result<bool, TaskFault>
     requires rows { HasRows meter.old node.old }
-    requires serves { (b : B) → 0 < B.nodes b }
+    requires serves { 0 < B.meaning.nodes bus.old }
     requires timers { IsTimers node.old.doing.node.timers }
     requires on_time { node.old.doing.node.is_halted ≡ false →
         NoneOverdue node.old.moment node.old.doing.node.timers }
-    ensures tasks { IfOk result (λ stops. HasDone B.after_request R.meaning
+    ensures tasks { IfOk result (λ stops. HasDone B.meaning.after_request R.meaning
         node.old bus.old into.old meter.old stops node.new bus.new into.new meter.new) }
     ensures done { OnOk result (IsDone code_reaction node.new.moment node.new.doing) }
     ensures refused { OnErr result (IsPartRefused R.meaning node.old into.old into.new meter.old meter.new) }

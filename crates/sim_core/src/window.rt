@@ -3,7 +3,6 @@
 ghost use Rattle.std.specs.Prelude.{◌≡◌, ℕ, ◌<◌, ◌≤◌, ◌^◌, None, Some, OnOk, OnErr, IsErrOf};
 ghost use Rattle.texts.specs.Fault.{HasRisen};
 ghost use Rattle.node_run.specs.Node.{HasRows};
-ghost use Rattle.sim_core.specs.Bus.{bus_by};
 ghost use Rattle.sim_core.specs.Outcome.{IsNew};
 ghost use Rattle.sim_core.specs.Show.{HasShown, IsShownInPart, window_piece};
 
@@ -67,19 +66,17 @@ fn run_window<'a, B: Bus, S: Sink>(
     meter: &mut Meter,
 ) -> Result<(), TaskFault>
     requires new_node { IsNew node.old }
-    requires new_bus { B.next_moment bus.old ≡ None }
-    requires sound_bus { B.sound bus.old }
-    requires serves { (b : B) → 0 < B.nodes b }
+    requires new_bus { B.meaning.next_moment bus.old ≡ None }
+    requires sound_bus { B.meaning.sound bus.old }
+    requires serves { 1 < B.meaning.nodes bus.old }
     requires rows { HasRows meter.old node.old }
     requires in_time { until ≤ 2 ^ 63 }
     ensures same_sink { into.new.sink.ghost_name ≡ into.old.sink.ghost_name }
-    ensures shows { OnOk result (HasShown
-        (bus_by B.after_request B.next_moment B.ended B.after_finish B.after_arbitration)
+    ensures shows { OnOk result (HasShown B.meaning
         (window_piece into.old.name.now) until keys.now node.old.first_row node.old.doing.node bus.old
         (S.written into.old.sink.now) (S.written into.new.sink.now) meter.old meter.new
         node.new.doing.node) }
-    ensures refused { OnErr result (IsShownInPart
-        (bus_by B.after_request B.next_moment B.ended B.after_finish B.after_arbitration)
+    ensures refused { OnErr result (IsShownInPart B.meaning
         (window_piece into.old.name.now) until keys.now node.old.first_row node.old.doing.node bus.old
         (S.written into.old.sink.now) (S.written into.new.sink.now) meter.old meter.new) }
     ensures fault { IsErrOf result TaskFault.Record →
@@ -108,17 +105,15 @@ pub fn play_window<B: Bus, S: Sink>(
     meter: &mut Meter,
 ) -> Result<(), TaskFault>
     requires new_node { IsNew node.old }
-    requires new_bus { B.next_moment bus.old ≡ None }
-    requires sound_bus { B.sound bus.old }
-    requires serves { (b : B) → 0 < B.nodes b }
+    requires new_bus { B.meaning.next_moment bus.old ≡ None }
+    requires sound_bus { B.meaning.sound bus.old }
+    requires serves { 1 < B.meaning.nodes bus.old }
     requires rows { HasRows meter.old node.old }
     requires in_time { until ≤ 2 ^ 63 }
-    ensures shows { OnOk result (HasShown
-        (bus_by B.after_request B.next_moment B.ended B.after_finish B.after_arbitration)
+    ensures shows { OnOk result (HasShown B.meaning
         (window_piece name.now) until keys.now node.old.first_row node.old.doing.node bus.old
         (S.written sink.old) (S.written sink.new) meter.old meter.new node.new.doing.node) }
-    ensures refused { OnErr result (IsShownInPart
-        (bus_by B.after_request B.next_moment B.ended B.after_finish B.after_arbitration)
+    ensures refused { OnErr result (IsShownInPart B.meaning
         (window_piece name.now) until keys.now node.old.first_row node.old.doing.node bus.old
         (S.written sink.old) (S.written sink.new) meter.old meter.new) }
     ensures fault { IsErrOf result TaskFault.Record → HasRisen (S.faults sink.old) (S.faults sink.new) }

@@ -6,7 +6,7 @@ use Rattle.sim_outside.specs.Sink.{GrowsBy, GrowsByPrefix, Writes}
 use Rattle.texts.specs.declared.blame.Blame.{Blame}
 use Rattle.sim_outside.specs.declared.sink.SinkRefusal.{SinkRefusal}
 use Rattle.sim_outside.specs.declared.sink.SinkRefusal.TheVariants.{Failed, NoMemory}
-use Rattle.can_bus.specs.Bus.{BitTakesTime, new_bus}
+use Rattle.can_bus.specs.Bus.{new_bus, one_channel}
 use Rattle.can_bus.proofs.DueLater.{DueLater-bus, DueLaterFromNothing-bus}
 use Rattle.can_bus.proofs.SoundStays.{SoundStays-bus}
 use Rattle.stack_vm.specs.declared.meter.MeterRow.{MeterRow}
@@ -20,7 +20,6 @@ use Rattle.capl_include.specs.Expansion.{Contents}
 use Rattle.capl_include.specs.declared.expanded.SourceFile.{SourceFile}
 use Rattle.capl_tree.specs.declared.file.Program.{Program}
 use Rattle.node_rounds.specs.Reaction.{NodeState}
-use Rattle.sim_core.specs.Bus.{one_channel}
 use Rattle.sim_core.specs.Entries.{run_entries}
 use Rattle.sim_core.specs.Run.{IsRun, Passed}
 use Rattle.sim_inputs.proofs.OneReading.{not_both, one_accepted, one_blame}
@@ -168,7 +167,7 @@ run_of : (contents : Contents) (name : List ℕ) (scenario : Scenario) (base : L
 run_of contents name scenario base files program accepted =
     let within = scenario_within accepted.scenario_at.text scenario accepted.scenario_at.is in
     let first = first_good base scenario.turns (program ∷ []) (All-cons (λ (p : Program). offences_of base p ≡ []) program [] accepted.source.no_offence (All-nil (λ (p : Program). offences_of base p ≡ []))) in
-    let ran = run_there one_channel BitTakesTime SoundStays-bus DueLater-bus DueLaterFromNothing-bus scenario.until
+    let ran = run_there one_channel SoundStays-bus DueLater-bus DueLaterFromNothing-bus scenario.until
     (first_source_nodes base scenario.turns (program ∷ [])) first.0 first.1 (new_bus scenario.bit) within.some_bit (nothing_due scenario.bit) scenario.keys.items [] in
     (ran.0, record { final = ran.1; is = ran.2 })
 

@@ -1,13 +1,12 @@
 -- The run of a scenario's node, by what its source means.
 use Rattle.std.specs.Prelude.{ℕ, List, [], ◌∷◌, length}
-use Rattle.can_bus.specs.Bus.{new_bus}
+use Rattle.can_bus.specs.Bus.{new_bus, one_channel}
 use Rattle.stack_vm.specs.declared.meter.MeterRow.{MeterRow}
 use Rattle.scenario.specs.declared.scenario.Scenario.{Scenario}
 use Rattle.dbc_reader.specs.declared.message.DbcMessage.{DbcMessage}
 use Rattle.capl_tree.specs.declared.file.Program.{Program}
 use Rattle.capl_meaning.specs.Procedure.{handlers_in}
 use Rattle.node_rounds.specs.Reaction.{NodeState}
-use Rattle.sim_core.specs.Bus.{one_channel}
 use Rattle.sim_core.specs.Counts.{rows_of, tasks_of}
 use Rattle.sim_core.specs.Run.{IsRun, Passed}
 use Rattle.source_laws.specs.Source.{SourceMemory, by_source_reaction}

@@ -2,6 +2,7 @@
 use Rattle.std.specs.Prelude.{◌≡◌, ℕ, ◌<◌, ◌≤◌, Bool, false, List, ◌++◌, Option, All}
 use Rattle.std.specs.List.{list_any}
 use Rattle.can_frame.specs.Frame.{FrameFields}
+use Rattle.can_bus.specs.Meaning.{BusMeaning}
 use Rattle.run_records.specs.Record.{RecordMeaning}
 use Rattle.bytecode.specs.Laws.{BeginsWith}
 use Rattle.stack_vm.specs.declared.meter.MeterRow.{MeterRow}
@@ -13,7 +14,7 @@ use Rattle.node_rounds.specs.Entries.{TakesEntries}
 use Rattle.node_rounds.specs.Reaction.{NodeState}
 use Rattle.node_rounds.specs.Round.{IsPart, Task}
 use Rattle.node_run.specs.Code.{CodeMemory, code_reaction}
-use Rattle.sim_core.specs.Bus.{BusMeaning, after_tasks}
+use Rattle.sim_core.specs.Bus.{after_tasks}
 use Rattle.sim_core.specs.Counts.{AddsTasks}
 use Rattle.sim_core.specs.Entries.{frame_entries, task_entries}
 use Rattle.sim_core.specs.Faults.{AddsAtMost, TakesFirst}

@@ -1,5 +1,6 @@
 -- How far a run of node 0 by its code has come.
 use Rattle.std.specs.Prelude.{ℕ, Bool, List, [], ◌∷◌}
+use Rattle.can_bus.specs.Meaning.{BusMeaning}
 use Rattle.run_records.specs.Record.{RecordMeaning}
 use Rattle.bytecode.specs.Laws.{BeginsWith}
 use Rattle.stack_vm.specs.declared.meter.MeterRow.{MeterRow}
@@ -8,7 +9,6 @@ use Rattle.node_rounds.specs.Entries.{TakesEntries}
 use Rattle.node_rounds.specs.Reaction.{NodeState}
 use Rattle.node_rounds.specs.Round.{Task}
 use Rattle.node_run.specs.Code.{CodeMemory, code_reaction}
-use Rattle.sim_core.specs.Bus.{BusMeaning}
 use Rattle.sim_core.specs.Counts.{AddsTasks, tasks_of}
 use Rattle.sim_core.specs.Entries.{run_entries}
 use Rattle.sim_core.specs.Faults.{AddsAtMost, TakesFirst}

@@ -15,5 +15,5 @@ returns-in_err-stops-clause-refused g c =
 
 pub returns-clause-part : goal.returns-clause-part
 returns-clause-part g c =
-    round_done g.B.Bus.after_request g.R.Record.meaning c.args.round c.args.now c.args.seen c.args.keys.now c.args.node.now c.begin.new.self c.args.bus.now c.args.into.now c.args.meter.now
+    round_done g.B.Bus.meaning.after_request g.R.Record.meaning c.args.round c.args.now c.args.seen c.args.keys.now c.args.node.now c.begin.new.self c.args.bus.now c.args.into.now c.args.meter.now
     c.in_ok-stops.stops c.do_tasks.new.node c.do_tasks.new.bus c.do_tasks.new.into c.do_tasks.new.meter c.in-Ok.ensures.begun c.in_ok-stops.ensures.tasks c.in_ok-stops.ensures.done

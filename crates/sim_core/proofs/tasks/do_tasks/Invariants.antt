@@ -6,7 +6,7 @@ use Rattle.sim_core.proofs.tasks.do_tasks.Given as goal
 
 abbrev pub invariant-loop-node : goal.invariant-loop-node
 invariant-loop-node g l = record {
-  done : HasDone g.B.Bus.after_request g.R.Record.meaning l.fn.node l.fn.bus l.fn.into l.fn.meter l.stops l.node l.bus l.into l.meter;
+  done : HasDone g.B.Bus.meaning.after_request g.R.Record.meaning l.fn.node l.fn.bus l.fn.into l.fn.meter l.stops l.node l.bus l.into l.meter;
   rows : HasRows l.meter l.node;
   code : l.node.doing.node.memory.code ≡ l.fn.node.doing.node.memory.code;
   long : length l.meter ≡ length l.fn.meter;

@@ -3,11 +3,10 @@ use Rattle.std.proofs.Common.{◌≡◌, ◌∷◌, ◌++◌, [], List, length, 
 use Rattle.std.specs.Prelude.{replicate}
 use Rattle.std.proofs.lemmas.Slice.Zip.{AllZip-long}
 use Rattle.bytecode.specs.declared.code.Code.{Code}
-use Rattle.can_bus.specs.Bus.{BusState, new_bus, next_moment}
+use Rattle.can_bus.specs.Bus.{BusState, new_bus, next_moment, one_channel}
 use Rattle.capl_meaning.specs.Procedure.{handlers_in}
 use Rattle.node_run.specs.Node.{NodeInRound}
 use Rattle.scenario.specs.declared.scenario.KeyItem.{KeyItem}
-use Rattle.sim_core.specs.Bus.{one_channel}
 use Rattle.sim_core.specs.Counts.{AddsTasks, tasks_of}
 use Rattle.sim_core.specs.Entries.{run_entries}
 use Rattle.sim_core.specs.Run.{IsRun}
