@@ -106,8 +106,8 @@ frame_refused bus_is meaning now keys first_row node bus into into_after meter e
     refusal = inr (
       refused.0,
       refused.2,
-      inr (λ tasks after part.
-          (task_entries now 0 tasks, ap (λ (es : List Noted). es ++ task_entries now 0 tasks) (ap (frame_entries now) (sym is) ∙ refused.1))),
+      λ tasks after part.
+          (task_entries now 0 tasks, ap (λ (es : List Noted). es ++ task_entries now 0 tasks) (ap (frame_entries now) (sym is) ∙ refused.1)),
     );
   };
   metered = λ tasks after part. nothing_added first_row tasks meter;

@@ -11,7 +11,7 @@ use Rattle.node_rounds.specs.Reaction.{NodeState}
 use Rattle.node_rounds.specs.Round.{Doing, DoesNext, IsDone, Task, next_of}
 use Rattle.node_run.specs.Code.{CodeMemory, code_reaction}
 use Rattle.sim_core.specs.Entries.{task_entries}
-use Rattle.sim_core.specs.Faults.{IsLine, TakesFirst}
+use Rattle.sim_core.specs.Faults.{TakesFirst}
 use Rattle.sim_core.specs.Inside.Tasks.{IsAllOf, Leads}
 use Rattle.sim_core.proofs.Once.{code_once, next_once, none_next}
 
@@ -89,6 +89,17 @@ part_begins now d e tasks lines all end leads some first is_all =
     (begins_behind (task_entries now 0 tasks) (line_entries now 0 next.0.lines ++ task_entries now 0 next.2) (line_entries now 0 lines)
     (begins_longer (line_entries now 0 next.0.lines) (task_entries now 0 next.2) (line_entries now 0 lines) of_task))
 
+-- and so do the lines of tasks, and then the first lines of the next and one line more
+pub part_begins_next : (now : ℕ) (d e : Doing (NodeState CodeMemory)) (tasks : List Task) (lines : List (List ℕ)) (text : List ℕ) (all : List Task) (end : Doing (NodeState CodeMemory))
+    → Leads now d tasks e → IsSome (next_of code_reaction now e)
+    → ((task : Task) (after : Doing (NodeState CodeMemory)) → DoesNext code_reaction now e task after → BeginsWith task.lines (lines ++ text ∷ []))
+    → IsAllOf now d all end → BeginsWith (task_entries now 0 all) ((task_entries now 0 tasks ++ line_entries now 0 lines) ++ entry.Line now 0 text ∷ [])
+part_begins_next now d e tasks lines text all end leads some next is_all =
+    subst (λ (xs : List Noted). BeginsWith (task_entries now 0 all) xs)
+    (ap (λ (xs : List Noted). task_entries now 0 tasks ++ xs) (entries_append now 0 lines (text ∷ []))
+    ∙ sym (append_assoc (task_entries now 0 tasks) (line_entries now 0 lines) (entry.Line now 0 text ∷ [])))
+    (part_begins now d e tasks (lines ++ text ∷ []) all end leads some next is_all)
+
 -- ---- records
 
 -- entries that were taken before, and then the first of further ones
@@ -99,14 +110,9 @@ takes_first_behind meaning P Q front a b c took leads first = record {
   between = first.between;
   are_first = leads first.taken first.are_first;
   took = takes_more meaning a front first.taken b first.between took first.took;
-  refusal = elim first.refusal as (λ _. (c ≡ first.between) ⊎ ((noted : Noted) × RefusesEntry meaning first.between noted c × (IsLine noted ⊎ Q ((front ++ first.taken) ++ noted ∷ [])))) [
+  refusal = elim first.refusal as (λ _. (c ≡ first.between) ⊎ ((noted : Noted) × RefusesEntry meaning first.between noted c × Q ((front ++ first.taken) ++ noted ∷ []))) [
     | inl same ↦ inl same
-    | inr r ↦ inr (
-      r.0,
-      r.1,
-      elim r.2 as (λ _. IsLine r.0 ⊎ Q ((front ++ first.taken) ++ r.0 ∷ []))
-          [ inl line ↦ inl line | inr next ↦ inr (subst Q (sym (append_assoc front first.taken (r.0 ∷ []))) (leads (first.taken ++ r.0 ∷ []) next)) ],
-    )
+    | inr r ↦ inr (r.0, r.1, subst Q (sym (append_assoc front first.taken (r.0 ∷ []))) (leads (first.taken ++ r.0 ∷ []) r.2))
   ];
 }
 

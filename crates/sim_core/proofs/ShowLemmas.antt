@@ -5,7 +5,6 @@ use Rattle.std.proofs.lemmas.List.{append-nil, append_assoc, take-append-drop}
 use Rattle.can_bus.specs.Meaning.{BusMeaning}
 use Rattle.sim_outside.specs.Sink.{GrowsBy, GrowsByPrefix}
 use Rattle.run_records.specs.declared.record.Noted.{Noted}
-use Rattle.run_records.specs.declared.record.Noted.TheVariants as entry
 use Rattle.run_records.specs.Record.{RecordMeaning}
 use Rattle.bytecode.specs.Laws.{BeginsWith}
 use Rattle.stack_vm.specs.declared.meter.MeterRow.{MeterRow}
@@ -14,9 +13,9 @@ use Rattle.node_rounds.specs.Entries.{TakesEntries}
 use Rattle.node_rounds.specs.Reaction.{NodeState}
 use Rattle.node_run.specs.Code.{CodeMemory, code_reaction}
 use Rattle.sim_core.specs.Entries.{run_entries}
-use Rattle.sim_core.specs.Faults.{BeginRuns, IsLine}
+use Rattle.sim_core.specs.Faults.{BeginRuns}
 use Rattle.sim_core.specs.Outcome.{HasRun, IsRunRefused}
-use Rattle.sim_core.specs.Show.{BeginsShown, HasShown, IsShownInPart, RefusesPiece, WritesPiece, log_piece, shown}
+use Rattle.sim_core.specs.Show.{BeginsShown, HasShown, IsShownInPart, RefusesPiece, WritesPiece, shown}
 
 -- nothing more
 grows_none : (written : Option (List ℕ)) → GrowsBy written written []
@@ -75,7 +74,7 @@ refused_shown {A} {meaning} kept piece w each refuse {bus_is} {until} {keys} {no
         are_first = run.takes.are_first;
         grows = own.1;
         refusal = elim run.takes.refusal as (λ _. (w into_after ≡ w run.takes.between) ⊎ ((noted : Noted) × RefusesPiece (w run.takes.between) (w into_after) (piece (kept into) noted)
-            × (IsLine noted ⊎ BeginRuns code_reaction bus_is until (node ∷ []) bus keys [] (run.takes.taken ++ noted ∷ [])))) [
+            × BeginRuns code_reaction bus_is until (node ∷ []) bus keys [] (run.takes.taken ++ noted ∷ []))) [
               | inl same ↦ inl (ap w same)
               | inr r ↦ inr (
                 r.0,
@@ -148,28 +147,18 @@ piece_shown piece old between new taken noted all (Some text) is begins grows re
     regroup : (a b c d : List ℕ) → (a ++ (b ++ c)) ++ d ≡ (a ++ b) ++ (c ++ d)
     regroup a b c d = simp append_assoc
 
--- where nothing is shown of lines, a part is a beginning
-pub part_is_beginning : {B : Type 0} {bus_is : BusMeaning B} (piece : Noted → Option (List ℕ)) → ((noted : Noted) → IsLine noted → piece noted ≡ None) → {until : ℕ} {keys : List KeyItem} {first_row : ℕ}
+-- a part is a beginning
+pub part_is_beginning : {B : Type 0} {bus_is : BusMeaning B} (piece : Noted → Option (List ℕ)) {until : ℕ} {keys : List KeyItem} {first_row : ℕ}
     {node : NodeState CodeMemory} {bus : B} {written written_after : Option (List ℕ)} {meter meter_after : List MeterRow}
     → IsShownInPart bus_is piece until keys first_row node bus written written_after meter meter_after → BeginsShown bus_is piece until keys node bus written written_after
-part_is_beginning piece no_line {written} {written_after} part = record {
+part_is_beginning piece {written} {written_after} part = record {
   begins = λ rounds final run.
       let begins = part.are_first rounds final run in
       elim part.refusal as (λ _. GrowsByPrefix written written_after (shown piece (run_entries rounds))) [
         | inl same ↦ taken_shown piece written written_after part.taken (run_entries rounds) begins (subst (λ w. GrowsBy written w (shown piece part.taken)) (sym same) part.grows)
-        | inr r ↦ elim r.2 as (λ _. GrowsByPrefix written written_after (shown piece (run_entries rounds))) [
-          | inl line ↦
-              let same : written_after ≡ part.between = subst (λ o. RefusesPiece part.between written_after o) (no_line r.0 line) r.1 in
-              taken_shown piece written written_after part.taken (run_entries rounds) begins (subst (λ w. GrowsBy written w (shown piece part.taken)) (sym same) part.grows)
-          | inr next ↦ piece_shown piece written part.between written_after part.taken r.0 (run_entries rounds) (piece r.0) refl (next rounds final run) part.grows r.1
-        ]
+        | inr r ↦ piece_shown piece written part.between written_after part.taken r.0 (run_entries rounds) (piece r.0) refl (r.2 rounds final run) part.grows r.1
       ];
 }
-
--- a log shows nothing of lines
-pub log_without_lines : (interface : List ℕ) (epoch : ℕ) (noted : Noted) → IsLine noted → log_piece interface epoch noted ≡ None
-log_without_lines interface epoch (entry.Line now node text) line = refl
-log_without_lines interface epoch (entry.Frame now frame) line = absurd line
 
 -- what was written, by an equal value
 pub begins_at : {B : Type 0} {bus_is : BusMeaning B} {piece : Noted → Option (List ℕ)} {until : ℕ} {keys : List KeyItem} {node : NodeState CodeMemory} {bus : B} {written a b : Option (List ℕ)}

@@ -18,12 +18,12 @@ use Rattle.node_run.specs.Code.{code_reaction}
 use Rattle.node_run.specs.Node.{DoesTask, HasRows, IsMetered, IsTaskRefused, NodeInRound}
 use Rattle.sim_core.specs.Bus.{after_tasks}
 use Rattle.sim_core.specs.Entries.{task_entries}
-use Rattle.sim_core.specs.Faults.{AddsAtMost, IsLine}
+use Rattle.sim_core.specs.Faults.{AddsAtMost}
 use Rattle.sim_core.specs.Inside.Tasks.{BeginPart, HasDone, IsPartRefused, tasks_left}
 use Rattle.sim_core.proofs.Meters.{adds_more, adds_none, adds_one, at_most_more}
 use Rattle.sim_core.proofs.TasksLeft.{begins_on_time, fewer_left, leads_on_time, runs_first}
 use Rattle.sim_core.proofs.Once.{code_once, next_once}
-use Rattle.sim_core.proofs.Prefixes.{all_begin, first_left, leads_more, part_begins, takes_more, task_entries_append}
+use Rattle.sim_core.proofs.Prefixes.{all_begin, first_left, leads_more, part_begins, part_begins_next, takes_more, task_entries_append}
 
 or_false : (b : Bool) → (b || false) ≡ b
 or_false true = refl
@@ -95,8 +95,16 @@ part_refused {B} {R} after_request meaning first bus₀ into₀ meter₀ stops n
         took = takes_more meaning into₀ (task_entries first.moment 0 done.tasks) (line_entries first.moment 0 refused.lines) into refused.between done.lines
             (subst (λ m. TakesEntries meaning into (line_entries m 0 refused.lines) refused.between) done.same_moment refused.taken);
         refusal = elim refused.refusal as (λ _. (into_after ≡ refused.between) ⊎ ((noted : Noted) × RefusesEntry meaning refused.between noted into_after
-            × (IsLine noted ⊎ BeginPart first ((task_entries first.moment 0 done.tasks ++ line_entries first.moment 0 refused.lines) ++ noted ∷ []))))
-            [ inl same ↦ inl same | inr line ↦ inr (entry.Line node.moment 0 line.0, line.1, inl tt) ];
+            × BeginPart first ((task_entries first.moment 0 done.tasks ++ line_entries first.moment 0 refused.lines) ++ noted ∷ []))) [
+              | inl same ↦ inl same
+              | inr line ↦ inr (
+                entry.Line first.moment 0 line.0,
+                subst (λ m. RefusesEntry meaning refused.between (entry.Line m 0 line.0) into_after) done.same_moment line.1,
+                λ tasks end is_all.
+                    part_begins_next first.moment first.doing node.doing done.tasks refused.lines line.0 tasks end done.leads some_now
+                    (λ task after next. line.2 task after (subst (λ m. DoesNext code_reaction m node.doing task after) (sym done.same_moment) next)) is_all,
+              )
+            ];
       };
       metered = λ tasks end is_all.
           let rest = all_begin first.moment first.doing done.tasks node.doing tasks end done.leads is_all in

@@ -1,8 +1,7 @@
 -- What a run leaves that was ended by a fault.
-use Rattle.std.specs.Prelude.{◌≡◌, ◌⊎◌, ℕ, ◌+◌, ◌-◌, ◌^◌, ◌<◌, ◌≤◌, List, [], ◌∷◌, ◌++◌, length, Some, slice_get, ⊤}
+use Rattle.std.specs.Prelude.{◌≡◌, ◌⊎◌, ℕ, ◌+◌, ◌-◌, ◌^◌, ◌<◌, ◌≤◌, List, [], ◌∷◌, ◌++◌, length, Some, slice_get}
 use Rattle.can_bus.specs.Meaning.{BusMeaning}
 use Rattle.run_records.specs.declared.record.Noted.{Noted}
-use Rattle.run_records.specs.declared.record.Noted.TheVariants as entry
 use Rattle.run_records.specs.Record.{RecordMeaning, RefusesEntry}
 use Rattle.bytecode.specs.Laws.{BeginsWith}
 use Rattle.stack_vm.specs.declared.meter.MeterRow.{MeterRow}
@@ -15,13 +14,8 @@ use Rattle.sim_core.specs.Counts.{row_with, tasks_of}
 use Rattle.sim_core.specs.Entries.{run_entries}
 use Rattle.sim_core.specs.Run.{IsRun, Passed}
 
--- an entry is a line
-abbrev pub IsLine : Noted → Type 0
-IsLine (entry.Line now node text) = ⊤
-IsLine (entry.Frame now frame) = ⊥
-
 -- A record took entries in order, which are the first in the sense of a test, and then was not asked, or
--- refused an entry. Where that was a frame, it was the next one.
+-- refused the next entry.
 pub record TakesFirst {R : Type 0} (meaning : RecordMeaning R) (first : List Noted → Type 0)
     (before after : R) : Type 0 where
   pub taken : List Noted
@@ -29,8 +23,7 @@ pub record TakesFirst {R : Type 0} (meaning : RecordMeaning R) (first : List Not
   pub are_first : first taken
   pub took : TakesEntries meaning before taken between
   pub refusal : (after ≡ between)
-      ⊎ ((noted : Noted) × RefusesEntry meaning between noted after
-      × (IsLine noted ⊎ first (taken ++ noted ∷ [])))
+      ⊎ ((noted : Noted) × RefusesEntry meaning between noted after × first (taken ++ noted ∷ []))
 
 -- entries begin those of each run
 abbrev pub BeginRuns : {S B : Type 0} → Reacts S → BusMeaning B → ℕ → List S → B → List KeyItem → List Request

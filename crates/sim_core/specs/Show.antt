@@ -13,7 +13,7 @@ use Rattle.node_rounds.specs.Reaction.{NodeState}
 use Rattle.node_run.specs.Code.{CodeMemory, code_reaction}
 use Rattle.sim_core.specs.Counts.{AddsTasks, tasks_of}
 use Rattle.sim_core.specs.Entries.{run_entries}
-use Rattle.sim_core.specs.Faults.{BeginRuns, IsLine, MeteredWithin}
+use Rattle.sim_core.specs.Faults.{BeginRuns, MeteredWithin}
 use Rattle.sim_core.specs.Run.{IsRun, Passed}
 
 -- what a window shows of an entry: a line under the name of the node
@@ -53,8 +53,7 @@ pub record HasShown {B : Type 0} (bus_is : BusMeaning B) (piece : Noted → Opti
   pub metered : AddsTasks first_row (tasks_of 0 rounds) meter meter_after
 
 -- A run that was ended by a fault was shown in part: what was written has grown by what is shown of the first
--- entries of each such run, and then maybe by the beginning of one more piece, which is that of a line, or of
--- the next entry.
+-- entries of each such run, and then maybe by the beginning of the piece of the next entry.
 pub record IsShownInPart {B : Type 0} (bus_is : BusMeaning B) (piece : Noted → Option (List ℕ)) (until : ℕ)
     (keys : List KeyItem) (first_row : ℕ) (node : NodeState CodeMemory) (bus : B)
     (written written_after : Option (List ℕ)) (meter meter_after : List MeterRow) : Type 0 where
@@ -64,7 +63,7 @@ pub record IsShownInPart {B : Type 0} (bus_is : BusMeaning B) (piece : Noted →
   pub grows : GrowsBy written between (shown piece taken)
   pub refusal : (written_after ≡ between)
       ⊎ ((noted : Noted) × RefusesPiece between written_after (piece noted)
-      × (IsLine noted ⊎ BeginRuns code_reaction bus_is until (node ∷ []) bus keys [] (taken ++ noted ∷ [])))
+      × BeginRuns code_reaction bus_is until (node ∷ []) bus keys [] (taken ++ noted ∷ []))
   pub metered : MeteredWithin code_reaction bus_is until (node ∷ []) bus keys [] 0 first_row meter meter_after
 
 -- What was written has grown by the beginning of what is shown of each run.

@@ -107,8 +107,8 @@ fn do_begin<B: Bus, R: Record>(
 ///
 /// # Errors
 ///
-/// The record has then taken the first entries of the run. `Record` comes only where the record's faults
-/// rose in this call.
+/// The record has then taken the first entries of the run, and maybe refused the next one. `Record` comes
+/// only where the record's faults rose in this call.
 pub fn run_until<B: Bus, R: Record>(
     alloc: Global,
     node: &mut Node,

@@ -4,7 +4,7 @@ ghost use Rattle.std.specs.Prelude.{◌≡◌, ℕ, ◌<◌, ◌≤◌, ◌^◌,
 ghost use Rattle.texts.specs.Fault.{HasRisen};
 ghost use Rattle.node_run.specs.Node.{HasRows};
 ghost use Rattle.sim_core.specs.Outcome.{IsNew};
-ghost use Rattle.sim_core.specs.Show.{HasShown, IsShownInPart, window_piece};
+ghost use Rattle.sim_core.specs.Show.{BeginsShown, HasShown, IsShownInPart, window_piece};
 
 use crate::piece::write_piece;
 use crate::run::run_until;
@@ -79,6 +79,10 @@ fn run_window<'a, B: Bus, S: Sink>(
     ensures refused { OnErr result (IsShownInPart B.meaning
         (window_piece into.old.name.now) until keys.now node.old.first_row node.old.doing.node bus.old
         (S.written into.old.sink.now) (S.written into.new.sink.now) meter.old meter.new) }
+    ensures begins { OnErr result (BeginsShown
+        (bus_by B.after_request B.next_moment B.ended B.after_finish B.after_arbitration)
+        (window_piece into.old.name.now) until keys.now node.old.doing.node bus.old
+        (S.written into.old.sink.now) (S.written into.new.sink.now)) }
     ensures fault { IsErrOf result TaskFault.Record →
         HasRisen (S.faults into.old.sink.now) (S.faults into.new.sink.now) }
     ensures faults_stay { S.faults into.old.sink.now ≤ S.faults into.new.sink.now }
@@ -92,8 +96,8 @@ fn run_window<'a, B: Bus, S: Sink>(
 ///
 /// # Errors
 ///
-/// The sink has then taken the first lines of the window, and maybe the beginning of one more. `Record`
-/// comes only where the sink's faults rose in this call.
+/// The sink has then taken the beginning of the window. `Record` comes only where the sink's faults rose in
+/// this call.
 pub fn play_window<B: Bus, S: Sink>(
     alloc: Global,
     node: &mut Node,
@@ -116,6 +120,10 @@ pub fn play_window<B: Bus, S: Sink>(
     ensures refused { OnErr result (IsShownInPart B.meaning
         (window_piece name.now) until keys.now node.old.first_row node.old.doing.node bus.old
         (S.written sink.old) (S.written sink.new) meter.old meter.new) }
+    ensures begins { OnErr result (BeginsShown
+        (bus_by B.after_request B.next_moment B.ended B.after_finish B.after_arbitration)
+        (window_piece name.now) until keys.now node.old.doing.node bus.old
+        (S.written sink.old) (S.written sink.new)) }
     ensures fault { IsErrOf result TaskFault.Record → HasRisen (S.faults sink.old) (S.faults sink.new) }
     ensures faults_stay { S.faults sink.old ≤ S.faults sink.new }
 {

@@ -1,6 +1,6 @@
 -- A run into a window is shown by it, and its references stay.
 use Rattle.sim_core.specs.Show.{window_piece}
-use Rattle.sim_core.proofs.ShowLemmas.{kept_by_refused_run, kept_by_run, refused_shown, run_shown}
+use Rattle.sim_core.proofs.ShowLemmas.{part_is_beginning, kept_by_refused_run, kept_by_run, refused_shown, run_shown}
 use Rattle.sim_core.proofs.TaskLoop.{on_err}
 use Rattle.sim_core.proofs.window.run_window.Goals as goal
 
@@ -17,3 +17,9 @@ returns-clause-same_sink g c = kept_by_run (λ r. r.sink.ghost_name) (λ b n a t
 
 pub returns-clause-shows : goal.returns-clause-shows
 returns-clause-shows g c = (run_shown (λ r. r.name.now) window_piece (λ r. g.S.Sink.written r.sink.now) (λ b n a t. (t.1, t.2)) c.in_ok-run_until.ensures.runs).1
+
+pub returns-in_err-run_until-clause-begins : goal.returns-in_err-run_until-clause-begins
+returns-in_err-run_until-clause-begins g c =
+    on_err c.from_residual.result
+    (part_is_beginning (window_piece c.args.into.now.name.now)
+    (refused_shown (λ r. r.name.now) window_piece (λ r. g.S.Sink.written r.sink.now) (λ b n a t. (t.1, t.2)) (λ b n a t. (t.1, t.2)) c.in_err-run_until.ensures.refused).1)
