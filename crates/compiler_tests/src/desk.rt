@@ -43,7 +43,7 @@ impl Host for Desk {
       is_closed = λ host. false;
       faults = λ host. 0;
       takes = λ before effect after. ⊤;
-      refuses = λ before after. ⊤;
+      refuses = λ before effect after. ⊤;
     } };
 
     fn line(&mut self, text: &[u8]) -> Result<(), RecordFault> {

@@ -18,7 +18,7 @@ impl Host for Ended {
       is_closed = λ host. true;
       faults = λ host. 0;
       takes = λ before effect after. ⊤;
-      refuses = λ before after. ⊤;
+      refuses = λ before effect after. ⊤;
     } };
 
     fn line(&mut self, _text: &[u8]) -> Result<(), RecordFault> {

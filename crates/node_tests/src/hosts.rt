@@ -46,7 +46,7 @@ impl<'a> Host for Counter<'a> {
       takes = λ before effect after. (after.counts.ghost_name ≡ before.counts.ghost_name)
           × (before.counts.now.lines ≤ after.counts.now.lines)
           × (before.counts.now.others ≤ after.counts.now.others);
-      refuses = λ before after. after ≡ before;
+      refuses = λ before effect after. after ≡ before;
     } };
 
     fn line(&mut self, text: &[u8]) -> Result<(), RecordFault> {
