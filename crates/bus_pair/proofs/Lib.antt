@@ -1,0 +1,2 @@
+-- What a request leaves of its channel.
+pub mod Request
