@@ -1,7 +1,7 @@
 -- One token of a lowering, and how many tokens it leaves.
 use Rattle.std.proofs.Common.{append_assoc, ◌≡◌, ℕ, zero, suc, ◌+◌, ◌-◌, ◌<◌, ◌≤◌, Bool, true, false, ◌&&◌, List, [], ◌∷◌, ◌++◌, length, length-append, Option, Some, None, refl, ap, sym, ◌∙◌, arith}
 use Rattle.std.specs.Prelude.{if◌then◌else◌}
-use Rattle.std.proofs.lemmas.List.{length-map, nil_from_length}
+use Rattle.std.proofs.lemmas.List.{append-nil, length-map, nil_from_length}
 use Rattle.capl_lexer.specs.declared.token.Tok.{Tok}
 use Rattle.capl_lexer.specs.declared.token.Token.{Token}
 use Rattle.capl_nesting.specs.Tokens.{toks}
@@ -26,10 +26,6 @@ one_taken items zero behind_on token rest before none =
     sym (append_assoc before (replaced items behind_on token rest).tokens
     (lowered_from items (replaced items behind_on token rest).behind (is_on token.tok) rest))
 
-append_nil : (tokens : List Token) → tokens ++ [] ≡ tokens
-append_nil [] = refl
-append_nil (token ∷ tokens) = ap (λ (rest : List Token). token ∷ rest) (append_nil tokens)
-
 -- of no tokens nothing is left
 nothing_left : (items : List SysItem) (passed : ℕ) (behind_on : Bool) → lowered_from items passed behind_on [] ≡ []
 unfolding lowered_from
@@ -40,7 +36,7 @@ nothing_left items (suc passed) behind_on = refl
 pub all_found : (items : List SysItem) (passed : ℕ) (behind_on : Bool) (rest found all : List Token) → length rest ≡ 0
     → found ++ lowered_from items passed behind_on rest ≡ all → found ≡ all
 all_found items passed behind_on rest found all none e =
-    sym (append_nil found) ∙ ap (λ (tokens : List Token). found ++ tokens) (sym (nothing_left items passed behind_on))
+    sym (append-nil found) ∙ ap (λ (tokens : List Token). found ++ tokens) (sym (nothing_left items passed behind_on))
     ∙ ap (λ (tokens : List Token). found ++ lowered_from items passed behind_on tokens) (sym (nil_from_length rest none)) ∙ e
 
 -- How many tokens there are.

@@ -1,10 +1,10 @@
 -- The tokens of the prelude spell its tree, in place, and nest little.
-use Rattle.std.proofs.Common.{append_assoc, ◌≡◌, ℕ, ◌+◌, ◌*◌, ◌<◌, ◌≤◌, Bool, false, List, [], ◌∷◌, ◌++◌, length, length-append, map, take, get_or, Option, Some, refl, ap, sym, subst, ◌∙◌, arith}
-use Rattle.std.specs.Prelude.{FitsSigned, flat_map, ℤ, pos, negsuc, ◌≤ℤ◌, ◌<ℤ◌, unsigned_abs, max, if◌then◌else◌}
-use Rattle.std.proofs.lemmas.List.{take_more, map-append, flat_map_more}
+use Rattle.std.proofs.Common.{append_assoc, ◌≡◌, ℕ, ◌+◌, ◌*◌, ◌≤◌, Bool, false, List, [], ◌∷◌, ◌++◌, length, length-append, map, Option, Some, refl, ap, sym, subst, ◌∙◌, arith}
+use Rattle.std.specs.Prelude.{FitsSigned, flat_map, ℤ, pos, negsuc, max, if◌then◌else◌}
+use Rattle.std.proofs.lemmas.List.{append-nil, map-append}
 use Rattle.std.proofs.lemmas.Int.{ints}
 use Rattle.std.specs.List.{All}
-use Rattle.std.proofs.lemmas.List.Elements.{All-cons}
+use Rattle.std.proofs.lemmas.List.Elements.{All-cons, All-nil}
 use mir.Syntax.{w128}
 use Rattle.capl_lexer.specs.declared.token.Tok.{Tok}
 use Rattle.capl_lexer.specs.declared.token.Tok.TheVariants as tok
@@ -107,16 +107,6 @@ placed_append total (x ∷ xs) ys rest first second = (
 
 -- Form.
 
-declr_none : All IsDeclared []
-declr_none k d below = absurd (omega arith)
-
-append_nil : (ds : List Decl) → ds ++ [] ≡ ds
-append_nil [] = refl
-append_nil (d ∷ ds) = ap (λ (rest : List Decl). d ∷ rest) (append_nil ds)
-
-none_declared : All IsDeclaration []
-none_declared k d below = absurd (omega arith)
-
 in_order_well : (one : ℕ → SysItem → Decl) (tokens : SysItem → List Tok) → ((at : ℕ) (item : SysItem) → IsDeclaration (one at item))
     → (at : ℕ) (items : List SysItem) (rest : List Decl) → All IsDeclaration rest → All IsDeclaration (declared_in_order one tokens at items ++ rest)
 in_order_well one tokens well at [] rest all = all
@@ -125,9 +115,6 @@ in_order_well one tokens well at (item ∷ items) rest all =
     (in_order_well one tokens well (at + length (tokens item)) items rest all)
 
 -- The whole.
-
-top_none : All IsTopItem []
-top_none k d below = absurd (omega arith)
 
 -- what stands between the braces
 abbrev inner : List SysItem → List Tok
@@ -191,22 +178,22 @@ value_well at (negsuc n) = ((tt, omega arith), omega arith)
 variable_well : (at : ℕ) (item : SysItem) → IsDeclaration (variable_declaration at item)
 variable_well at item = (
   λ none. absurd cc,
-  All-cons IsDeclared _ [] (λ size e. absurd cc, λ init e. let same : One (value_tree (at + 3) item.value) ≡ init = cc in subst IsInitialiser same (value_well (at + 3) item.value)) declr_none,
+  All-cons IsDeclared _ [] (λ size e. absurd cc, λ init e. let same : One (value_tree (at + 3) item.value) ≡ init = cc in subst IsInitialiser same (value_well (at + 3) item.value)) (All-nil IsDeclared),
 )
 
 timer_well : (at : ℕ) (item : SysItem) → IsDeclaration (timer_declaration at item)
-timer_well at item = (λ none. absurd cc, All-cons IsDeclared _ [] (λ size e. absurd cc, λ init e. absurd cc) declr_none)
+timer_well at item = (λ none. absurd cc, All-cons IsDeclared _ [] (λ size e. absurd cc, λ init e. absurd cc) (All-nil IsDeclared))
 
 all_well : (items : List SysItem) → All IsDeclaration (variables_of items ++ timers_of items)
 all_well items =
     in_order_well variable_declaration variable_toks variable_well 2 items (timers_of items)
-    (subst (λ (ds : List Decl). All IsDeclaration ds) (append_nil (timers_of items))
-    (in_order_well timer_declaration timer_toks timer_well (2 + length (flat_map variable_toks items)) items [] none_declared))
+    (subst (λ (ds : List Decl). All IsDeclaration ds) (append-nil (timers_of items))
+    (in_order_well timer_declaration timer_toks timer_well (2 + length (flat_map variable_toks items)) items [] (All-nil IsDeclaration)))
 
 -- the tokens spell the tree, whose parts stand in their places
 pub prelude_is_tree : (items : List SysItem) → IsTreeOf (prelude_toks items) (prelude_tree items)
 prelude_is_tree items = record {
-  well_formed = All-cons IsTopItem (top.Variables (variables_of items ++ timers_of items)) [] (all_well items) top_none;
+  well_formed = All-cons IsTopItem (top.Variables (variables_of items ++ timers_of items)) [] (all_well items) (All-nil IsTopItem);
   spelled_in_place = (
     record { before = false; between = false },
     [],
@@ -312,14 +299,6 @@ prelude_short items =
 
 -- Writing.
 
--- the tokens of one item more, behind those in front
-pub written_more : (one : SysItem → List Tok) (front : List Tok) (items : List SysItem) (i : ℕ) (item : SysItem) → i < length items → item ≡ get_or items i item
-    → map unplaced (front ++ flat_map one (take i items)) ++ map unplaced (one item) ≡ map unplaced (front ++ flat_map one (take (i + 1) items))
-written_more one front items i item within is =
-    let more : take (i + 1) items ≡ take i items ++ item ∷ [] = take_more items i item within ∙ ap (λ (x : SysItem). take i items ++ x ∷ []) (sym is) in
-    sym (map-append unplaced (front ++ flat_map one (take i items)) (one item))
-    ∙ ap (λ (ts : List Tok). map unplaced ts) (flat_map_more one front (take i items) item ∙ ap (λ (xs : List SysItem). front ++ flat_map one xs) (sym more))
-
 -- a variable's declaration, token by token
 pub variable_written : (before : List Token) (item : SysItem)
     → ((((before ++ unplaced (tok.Word word.Long) ∷ []) ++ unplaced (tok.Name (variable_name item.space item.name)) ∷ []) ++ unplaced (tok.Sign sign.Assign) ∷ [])
@@ -382,16 +361,6 @@ timer_pushed before one two three text space name item named same_space same_nam
     ∙ ap (λ (ts : List Token). (ts ++ unplaced (tok.Name text) ∷ []) ++ unplaced (tok.Sign sign.Semi) ∷ []) first
     ∙ ap (λ (n : List ℕ). ((before ++ unplaced (tok.Word word.MsTimer) ∷ []) ++ unplaced (tok.Name n) ∷ []) ++ unplaced (tok.Sign sign.Semi) ∷ []) is
     ∙ timer_written before item
-
--- a value that is not below 0
-pub digits_written : (n : ℤ) → pos 0 ≤ℤ n → value_toks n ≡ tok.Num (Some (unsigned_abs n)) false ∷ []
-digits_written (pos n) at_least = refl
-digits_written (negsuc n) at_least = absurd (omega (arith, ints))
-
--- a value below 0
-pub minus_written : (n : ℤ) → n <ℤ pos 0 → value_toks n ≡ tok.Sign sign.Minus ∷ tok.Num (Some (unsigned_abs n)) false ∷ []
-minus_written (pos n) below = absurd (omega (arith, ints))
-minus_written (negsuc n) below = ap (λ (k : ℕ). tok.Sign sign.Minus ∷ tok.Num (Some k) false ∷ []) (omega arith)
 
 -- all tokens
 pub all_written : (items : List SysItem)

@@ -40,12 +40,6 @@ forgotten zero notes = notes
 forgotten (suc n) [] = []
 forgotten (suc n) (first ∷ notes) = no_note ∷ forgotten n notes
 
--- they are as many
-pub length_forgotten : (n : ℕ) (notes : List (Option ℤ)) → length (forgotten n notes) ≡ length notes
-length_forgotten zero notes = refl
-length_forgotten (suc n) [] = refl
-length_forgotten (suc n) (first ∷ notes) = ap suc (length_forgotten n notes)
-
 -- one more is taken away
 pub forgotten_more : (n : ℕ) (notes : List (Option ℤ)) → n < length notes → forgotten (suc n) notes ≡ set (forgotten n notes) n no_note
 forgotten_more n [] within = absurd (omega arith)

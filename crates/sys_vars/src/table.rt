@@ -60,7 +60,7 @@ impl SysTable {
         })
     }
 
-    /// The values, in order. Notes are not seen in them.
+    /// The values, in order. Notes are not seen in them. Takes constant time.
     pub fn values(&self) -> &[i128]
         ensures values { result.now ≡ self.now.values }
         ensures longs { All IsLong result.now }
