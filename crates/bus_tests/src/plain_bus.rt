@@ -1,7 +1,5 @@
 // The calls of a bus through the trait, as of any other bus.
 
-ghost use Rattle.std.specs.Prelude.{◌≡◌, ◌<◌};
-
 use arbitration::PlainBus;
 use can_bus::{Bus, Ended};
 use can_frame::{Frame, Ident};
@@ -55,10 +53,7 @@ fn two_requests_go_in_order(rt: HostRuntime) -> Result<(), Fail> {
 }
 
 /// Requests a frame with these fields, and gives it with its node.
-fn request<B: Bus>(bus: &mut B, fields: Fields) -> Result<Ended, Fail>
-    requires { fields.0 < B.nodes bus.old }
-    ensures { B.nodes bus.new ≡ B.nodes bus.old }
-{
+fn request(bus: &mut PlainBus, fields: Fields) -> Result<Ended, Fail> {
     let (node, ident, remote, dlc) = fields;
     let frame = Frame::make(ident, remote, dlc, [0; 8], 1).ok_or("a frame")?;
     if bus.request(node, &frame).is_err() {
@@ -68,7 +63,7 @@ fn request<B: Bus>(bus: &mut B, fields: Fields) -> Result<Ended, Fail>
 }
 
 /// The strongest frame begins at moment 0, and the other when the bus is free again.
-fn go_in_order<B: Bus>(rt: &impl Abort, bus: &mut B, winner: Ended, loser: Ended, end: u64) {
+fn go_in_order(rt: &impl Abort, bus: &mut PlainBus, winner: Ended, loser: Ended, end: u64) {
     assert_eq!(rt; bus.next_time(), Some(0));
     bus.arbitrate(0);
     bus.arbitrate(0);

@@ -79,8 +79,7 @@ fn run_window<'a, B: Bus, S: Sink>(
     ensures refused { OnErr result (IsShownInPart B.meaning
         (window_piece into.old.name.now) until keys.now node.old.first_row node.old.doing.node bus.old
         (S.written into.old.sink.now) (S.written into.new.sink.now) meter.old meter.new) }
-    ensures begins { OnErr result (BeginsShown
-        (bus_by B.after_request B.next_moment B.ended B.after_finish B.after_arbitration)
+    ensures begins { OnErr result (BeginsShown B.meaning
         (window_piece into.old.name.now) until keys.now node.old.doing.node bus.old
         (S.written into.old.sink.now) (S.written into.new.sink.now)) }
     ensures fault { IsErrOf result TaskFault.Record →
@@ -120,8 +119,7 @@ pub fn play_window<B: Bus, S: Sink>(
     ensures refused { OnErr result (IsShownInPart B.meaning
         (window_piece name.now) until keys.now node.old.first_row node.old.doing.node bus.old
         (S.written sink.old) (S.written sink.new) meter.old meter.new) }
-    ensures begins { OnErr result (BeginsShown
-        (bus_by B.after_request B.next_moment B.ended B.after_finish B.after_arbitration)
+    ensures begins { OnErr result (BeginsShown B.meaning
         (window_piece name.now) until keys.now node.old.doing.node bus.old
         (S.written sink.old) (S.written sink.new)) }
     ensures fault { IsErrOf result TaskFault.Record → HasRisen (S.faults sink.old) (S.faults sink.new) }
