@@ -21,6 +21,4 @@ mod sizes;
 #[cfg(test)]
 mod sound;
 #[cfg(test)]
-mod trees;
-#[cfg(test)]
 mod verifier;
