@@ -1,0 +1,33 @@
+//! Laws of the bus with planned errors. Each call does nothing: its contract is the law.
+
+ghost use Rattle.std.specs.Prelude.{◌≡◌, ℕ, true, []};
+ghost use Rattle.can_bus.specs.Bus.{BusState};
+ghost use Rattle.can_bus.specs.Bus as plain;
+ghost use Rattle.channel_errors.specs.Errors.{ErrorState, IsSoundErrors, is_off, new_bus};
+ghost use Rattle.channel_errors.specs.Laws.{GivesNothing, WaitsAgain, OffStays, ActsAsPlain, unplanned};
+
+/// `finish` gives `None` exactly where no undisturbed transmission ends at this moment.
+#[tactic(auto, using(crate::proofs::Finish::gives_nothing))]
+pub fn finish_gives_nothing()
+    ensures { (s : ErrorState) (now : ℕ) → GivesNothing s now }
+{}
+
+/// The frame of a disturbed transmission waits again under its own number, where its node is not off
+/// after it.
+#[tactic(auto, using(crate::proofs::Finish::waits_again))]
+pub fn disturbed_frame_waits_again()
+    ensures { (s : ErrorState) (now : ℕ) → WaitsAgain s now }
+{}
+
+/// A node that is off on a sound bus stays off, whatever the call.
+#[tactic(auto, using(crate::proofs::OffStays::off_stays))]
+pub fn node_that_is_off_stays_off()
+    ensures { (s : ErrorState) (node : ℕ) → IsSoundErrors s → is_off s node ≡ true → OffStays s node }
+{}
+
+/// A bus with no planned number is the plain bus, call by call: from the beginning it is that bus beside
+/// counts of 0, it gives what that bus gives, and stays so.
+pub fn without_plan_plain()
+    ensures beginning { (bit nodes : ℕ) → new_bus bit [] nodes ≡ unplanned (plain.new_bus bit) 0 nodes }
+    ensures calls { (s : BusState) (begun nodes : ℕ) → ActsAsPlain s begun nodes }
+{}
