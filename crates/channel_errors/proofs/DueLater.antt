@@ -1,5 +1,5 @@
 -- After arbitration what is due next is later.
-use Rattle.std.proofs.Common.{◌≡◌, ℕ, ◌<◌, ◌≤◌, ◌+◌, Bool, true, false, cond, eqb, refl, sym, subst, inl, inr, arith}
+use Rattle.std.proofs.Common.{◌≡◌, ℕ, ◌≤◌, ◌+◌, Bool, true, false, cond, eqb, refl, sym, subst, inl, inr, arith}
 use Rattle.std.specs.Prelude.{Option, None, Some, IfSome}
 use Rattle.std.specs.Option.{option_map_or}
 use Rattle.std.proofs.lemmas.Bool.Decides.{eqb_tells}
@@ -12,7 +12,7 @@ use Rattle.can_bus.specs.Bus as plain
 use Rattle.can_bus.specs.Laws.{Follows, DueLater, DueLaterFromNothing}
 use Rattle.can_bus.specs.Laws.Follows.{nothing, request, finish}
 use Rattle.can_bus.proofs.DueLater.{EndsLater, IsClear, IsLater, clear_nothing, clear_request, time_on_wire-positive, later_with_transmission, later_without_winner}
-use Rattle.channel_errors.specs.Errors.{ErrorState, IsSoundErrors, is_off, is_disturbed, is_planned, error_frame, next_duration, next_moment, after_request, after_sent, after_disturbed, after_finish, after_finish_of, with_transmission, after_arbitration, with_errors}
+use Rattle.channel_errors.specs.Errors.{ErrorState, is_off, is_disturbed, is_planned, error_frame, next_duration, next_moment, after_request, after_sent, after_disturbed, after_finish, after_finish_of, with_transmission, after_arbitration, with_errors}
 
 -- ---- `finish` leaves the wire clear
 -- where it ends now

@@ -1,5 +1,5 @@
 -- How a bus with planned errors is stored as data.
-use Rattle.std.specs.Prelude.{ℕ, refl}
+use Rattle.std.specs.Prelude.{refl}
 use Rattle.std.specs.Coded.{Coded, code_by, coded×, coded_ℕ, coded_list}
 use Rattle.can_bus.specs.Codes.{bus_code}
 use Rattle.channel_errors.specs.Errors.{ErrorState}

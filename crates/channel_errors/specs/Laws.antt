@@ -1,6 +1,5 @@
 -- What holds of a bus with planned errors beside what every bus keeps.
 use Rattle.std.specs.Prelude.{◌≡◌, ℕ, ◌+◌, true, false, ◌⊎◌, ◌↔◌, if◌then◌else◌, [], replicate, None, Some, is_some}
-use Rattle.std.specs.FinMap.{get}
 use Rattle.can_frame.specs.Frame.{FrameFields}
 use Rattle.can_bus.specs.declared.transmission.Transmission.{Transmission}
 use Rattle.can_bus.specs.Waiting.{Waits}
