@@ -6,7 +6,7 @@ use Rattle.std.proofs.lemmas.Bool.Decides.{nat_tests}
 use Rattle.can_bus.specs.declared.bus.Ended.{Ended}
 use Rattle.can_bus.specs.declared.waiting.Waiting.{Waiting}
 use Rattle.can_bus.specs.Waiting.{Waits, name_of}
-use Rattle.can_bus.specs.Bus as plain
+use Rattle.can_bus.specs.Bus as channel
 use Rattle.can_bus.proofs.Requests.{name_cmp_total}
 use Rattle.channel_errors.specs.Errors.{ErrorState, is_off, is_disturbed, after_sent, after_disturbed, after_finish_of}
 use Rattle.channel_errors.specs.Laws.{GivesNothing, WaitsAgain}
@@ -18,18 +18,18 @@ nothing false o = (λ e. inr e, λ h. elim h [ inl e ↦ absurd (cc) | inr e ↦
 
 -- nothing is given exactly where no undisturbed transmission ends now
 pub gives_nothing : (s : ErrorState) (now : ℕ) → GivesNothing s now
-gives_nothing s now = nothing (is_disturbed s) (plain.ended s.bus now)
+gives_nothing s now = nothing (is_disturbed s) (channel.ended s.plain now)
 
 -- ---- a disturbed frame
 -- the request waits, where its node is not off
 abbrev WaitsOn : Waiting → ErrorState → Type 0
-WaitsOn r u = is_off u r.node ≡ false → Waits u.bus.waiting r
+WaitsOn r u = is_off u r.node ≡ false → Waits u.plain.waiting r
 
 waits_disturbed : (s : ErrorState) (r : Waiting) → WaitsOn r (after_disturbed s r)
 waits_disturbed s r on =
-    ap (λ b. get (cond b (retain_keys s.bus.waiting (λ name. not (eqb name.0 r.node))) (insert s.bus.waiting (name_of r) r.frame)) (name_of r)) on
-    ∙ get-insert name_cmp_total s.bus.waiting (name_of r) r.frame (name_of r)
-    ∙ ap (λ b. cond b (Some r.frame) (get s.bus.waiting (name_of r))) (own_name (name_of r))
+    ap (λ b. get (cond b (retain_keys s.plain.waiting (λ name. not (eqb name.0 r.node))) (insert s.plain.waiting (name_of r) r.frame)) (name_of r)) on
+    ∙ get-insert name_cmp_total s.plain.waiting (name_of r) r.frame (name_of r)
+    ∙ ap (λ b. cond b (Some r.frame) (get s.plain.waiting (name_of r))) (own_name (name_of r))
 
 ends_now : (m n : ℕ) → m ≡ n → eqb m n ≡ true
 ends_now m n e = grind (arith, nat_tests)

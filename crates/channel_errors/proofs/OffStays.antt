@@ -3,7 +3,7 @@ use Rattle.std.proofs.Common.{◌≡◌, ℕ, true, false, cond, eqb, ◌∙◌}
 use Rattle.std.specs.Prelude.{Option, None, Some, IfSome}
 use Rattle.std.specs.Option.{option_map_or}
 use Rattle.can_bus.specs.declared.transmission.Transmission.{Transmission}
-use Rattle.can_bus.specs.Bus as plain
+use Rattle.can_bus.specs.Bus as channel
 use Rattle.channel_errors.specs.Errors.{ErrorState, IsSoundErrors, is_off, is_disturbed, after_sent, after_disturbed, after_finish_of, with_transmission, after_arbitration}
 use Rattle.channel_errors.specs.Laws.{OffStays}
 use Rattle.channel_errors.proofs.Counts.{off_after_disturbed, is_off_other, off_on_apart}
@@ -23,12 +23,12 @@ finish_of (Some t) s node now on off =
 
 arbitration : (s : ErrorState) (node now : ℕ) → is_off s node ≡ true → is_off (after_arbitration s now) node ≡ true
 arbitration s node now off =
-    elim (plain.winner_at s.bus now) as (λ o. is_off (option_map_or (with_transmission s now) o s) node ≡ true) [ None ↦ off | Some r ↦ off ]
+    elim (channel.winner_at s.plain now) as (λ o. is_off (option_map_or (with_transmission s now) o s) node ≡ true) [ None ↦ off | Some r ↦ off ]
 
 -- whatever the call
 pub off_stays : (s : ErrorState) (node : ℕ) → IsSoundErrors s → is_off s node ≡ true → OffStays s node
 off_stays s node h off = record {
   request = λ n f. is_off-after_request s n f node ∙ off;
-  finish = λ now. finish_of s.bus.wire s node now h.none_on_wire off;
+  finish = λ now. finish_of s.plain.wire s node now h.none_on_wire off;
   arbitrate = λ now. arbitration s node now off;
 }

@@ -1,20 +1,20 @@
 -- Requests of two different nodes commute: by the plain bus's law, as no request changes a count.
 use Rattle.std.proofs.Common.{◌≡◌, ◌≢◌, ℕ, Bool, true, false, cond, refl, sym, ap, ◌∙◌}
 use Rattle.can_frame.specs.Frame.{FrameFields}
-use Rattle.can_bus.specs.Bus as plain
+use Rattle.can_bus.specs.Bus as channel
 use Rattle.can_bus.specs.Laws.{RequestsCommute}
 use Rattle.can_bus.proofs.RequestsCommute.{RequestsCommute-bus}
 use Rattle.channel_errors.specs.Errors.{ErrorState, is_off, is_off_in, after_request, with_errors}
 
 -- the bus after a request, by whether its node is off
 abbrev requested_on : Bool → ErrorState → ℕ → FrameFields → ErrorState
-requested_on b s node f = cond b s (record s { bus = plain.after_request s.bus node f })
+requested_on b s node f = cond b s (record s { plain = channel.after_request s.plain node f })
 
 commute : (s : ErrorState) (m n : ℕ) (f g : FrameFields) → m ≢ n → (a b : Bool) → requested_on b (requested_on a s m f) n g ≡ requested_on a (requested_on b s n g) m f
 commute s m n f g apart true true = refl
 commute s m n f g apart true false = refl
 commute s m n f g apart false true = refl
-commute s m n f g apart false false = ap (λ t. record s { bus = t }) (RequestsCommute-bus s.bus m n f g apart)
+commute s m n f g apart false false = ap (λ t. record s { plain = t }) (RequestsCommute-bus s.plain m n f g apart)
 
 counts_stay : (s : ErrorState) (m : ℕ) (f : FrameFields) (a : Bool) → (requested_on a s m f).counts ≡ s.counts
 counts_stay s m f true = refl

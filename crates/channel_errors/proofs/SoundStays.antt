@@ -11,7 +11,7 @@ use Rattle.can_frame.specs.Frame.{FrameFields}
 use Rattle.can_bus.specs.declared.waiting.Waiting.{Waiting}
 use Rattle.can_bus.specs.declared.transmission.Transmission.{Transmission}
 use Rattle.can_bus.specs.Waiting.{RequestName, Waits, name_cmp, name_of}
-use Rattle.can_bus.specs.Bus as plain
+use Rattle.can_bus.specs.Bus as channel
 use Rattle.can_bus.specs.Laws.{SoundStays, NodesStay}
 use Rattle.can_bus.proofs.Requests.{name_cmp_total, ties}
 use Rattle.can_bus.proofs.SoundStays.{SoundStays-bus}
@@ -21,13 +21,13 @@ use Rattle.channel_errors.proofs.Waits.{other_name, waits_winner, none-after_req
 
 sound_request : (s : ErrorState) (m : ℕ) (f : FrameFields) → IsSoundErrors s → IsSoundErrors (after_request s m f)
 sound_request s m f h =
-    elim (is_off s m) as (λ b. is_off s m ≡ b → IsSoundErrors (cond b s (record s { bus = plain.after_request s.bus m f }))) [
+    elim (is_off s m) as (λ b. is_off s m ≡ b → IsSoundErrors (cond b s (record s { plain = channel.after_request s.plain m f }))) [
       | true ↦ λ _. h
       | false ↦ λ on. record {
-        takes_time = SoundStays-bus.request s.bus m f h.takes_time;
+        takes_time = SoundStays-bus.request s.plain m f h.takes_time;
         none_waits = λ node number off.
-            none-after_request s.bus m f (node, number) (off_on_apart s.counts node m off on) (h.none_waits node number off);
-        none_on_wire = node_on_wire-after_request s.bus m (λ node. is_off s node ≡ false) f h.none_on_wire;
+            none-after_request s.plain m f (node, number) (off_on_apart s.counts node m off on) (h.none_waits node number off);
+        none_on_wire = node_on_wire-after_request s.plain m (λ node. is_off s node ≡ false) f h.none_on_wire;
       }
     ] refl
 
@@ -40,29 +40,29 @@ sound_sent s r h = record {
 
 -- ---- a disturbed frame
 module _ (s : ErrorState) (r : Waiting) (h : IsSoundErrors s) (node number : ℕ) (off : is_off_in (counts_after_disturbed s.counts r.node) node ≡ true) where
-  none_before : node ≢ r.node → get s.bus.waiting (node, number) ≡ None
+  none_before : node ≢ r.node → get s.plain.waiting (node, number) ≡ None
   none_before apart = h.none_waits node number (sym (is_off_other s.counts r.node node _ apart) ∙ off)
 
-  none_dropped : get (retain_keys s.bus.waiting (λ name. not (eqb name.0 r.node))) (node, number) ≡ None
+  none_dropped : get (retain_keys s.plain.waiting (λ name. not (eqb name.0 r.node))) (node, number) ≡ None
   none_dropped =
       let p : RequestName → Bool = λ name. not (eqb name.0 r.node) in
-      get-retain_keys s.bus.waiting p (node, number) (ties p (node, number))
+      get-retain_keys s.plain.waiting p (node, number) (ties p (node, number))
       ∙ elim (eqb_tells node r.node) [
-        | inl own ↦ ap (λ b. cond (not b) (get s.bus.waiting (node, number)) None) own.0
-        | inr other ↦ ap (λ b. cond (not b) (get s.bus.waiting (node, number)) None) other.0 ∙ none_before other.1
+        | inl own ↦ ap (λ b. cond (not b) (get s.plain.waiting (node, number)) None) own.0
+        | inr other ↦ ap (λ b. cond (not b) (get s.plain.waiting (node, number)) None) other.0 ∙ none_before other.1
       ]
 
-  none_waits_again : is_off_in (counts_after_disturbed s.counts r.node) r.node ≡ false → get (insert s.bus.waiting (name_of r) r.frame) (node, number) ≡ None
+  none_waits_again : is_off_in (counts_after_disturbed s.counts r.node) r.node ≡ false → get (insert s.plain.waiting (name_of r) r.frame) (node, number) ≡ None
   none_waits_again on =
       let apart : node ≢ r.node = off_on_apart (counts_after_disturbed s.counts r.node) node r.node off on in
-      get-insert name_cmp_total s.bus.waiting (name_of r) r.frame (node, number)
-      ∙ ap (λ b. cond b (Some r.frame) (get s.bus.waiting (node, number))) (other_name (node, number) (name_of r) apart)
+      get-insert name_cmp_total s.plain.waiting (name_of r) r.frame (node, number)
+      ∙ ap (λ b. cond b (Some r.frame) (get s.plain.waiting (node, number))) (other_name (node, number) (name_of r) apart)
       ∙ none_before apart
 
-  none_after : get (after_disturbed s r).bus.waiting (node, number) ≡ None
+  none_after : get (after_disturbed s r).plain.waiting (node, number) ≡ None
   none_after =
       elim (is_off_in (counts_after_disturbed s.counts r.node) r.node) as (λ b. is_off_in (counts_after_disturbed s.counts r.node) r.node ≡ b
-      → get (cond b (retain_keys s.bus.waiting (λ name. not (eqb name.0 r.node))) (insert s.bus.waiting (name_of r) r.frame)) (node, number) ≡ None) [
+      → get (cond b (retain_keys s.plain.waiting (λ name. not (eqb name.0 r.node))) (insert s.plain.waiting (name_of r) r.frame)) (node, number) ≡ None) [
         | true ↦ λ _. none_dropped
         | false ↦ λ on. none_waits_again on
       ] refl
@@ -86,19 +86,19 @@ sound_finish_of (Some t) s now h =
     ]
 
 -- ---- arbitration
-on_winner : (s : ErrorState) (r : Waiting) → IsSoundErrors s → Waits s.bus.waiting r → is_off s r.node ≡ false
+on_winner : (s : ErrorState) (r : Waiting) → IsSoundErrors s → Waits s.plain.waiting r → is_off s r.node ≡ false
 on_winner s r h waits =
     elim (is_off s r.node) as (λ b. is_off s r.node ≡ b → b ≡ false) [
       | true ↦ λ off. let none = h.none_waits r.node r.number off in absurd (cc)
       | false ↦ λ _. refl
     ] refl
 
-sound_begun : (s : ErrorState) (now : ℕ) (r : Waiting) → IsSoundErrors s → Waits s.bus.waiting r → IsSoundErrors (with_transmission s now r)
+sound_begun : (s : ErrorState) (now : ℕ) (r : Waiting) → IsSoundErrors s → Waits s.plain.waiting r → IsSoundErrors (with_transmission s now r)
 sound_begun s now r h waits = record {
   takes_time = h.takes_time;
   none_waits = λ node number off.
-      get-remove name_cmp_total s.bus.waiting (name_of r) (node, number)
-      ∙ elim (eq_by_cmp name_cmp (node, number) (name_of r)) as (λ b. cond b None (get s.bus.waiting (node, number)) ≡ None) [
+      get-remove name_cmp_total s.plain.waiting (name_of r) (node, number)
+      ∙ elim (eq_by_cmp name_cmp (node, number) (name_of r)) as (λ b. cond b None (get s.plain.waiting (node, number)) ≡ None) [
         | true ↦ refl
         | false ↦ h.none_waits node number off
       ];
@@ -107,18 +107,18 @@ sound_begun s now r h waits = record {
 
 sound_arbitration : (s : ErrorState) (now : ℕ) → IsSoundErrors s → IsSoundErrors (after_arbitration s now)
 sound_arbitration s now h =
-    elim (plain.winner_at s.bus now) as (λ o. plain.winner_at s.bus now ≡ o → IsSoundErrors (option_map_or (with_transmission s now) o s)) [
+    elim (channel.winner_at s.plain now) as (λ o. channel.winner_at s.plain now ≡ o → IsSoundErrors (option_map_or (with_transmission s now) o s)) [
       | None ↦ λ _. h
-      | Some r ↦ λ wins. sound_begun s now r h (waits_winner (plain.is_free s.bus now) s.bus.waiting r wins)
+      | Some r ↦ λ wins. sound_begun s now r h (waits_winner (channel.is_free s.plain now) s.plain.waiting r wins)
     ] refl
 
 -- the law of the bus with planned errors
 pub SoundStays-errors : SoundStays with_errors
-SoundStays-errors = record { request = sound_request; finish = λ s. sound_finish_of s.bus.wire s; arbitrate = sound_arbitration }
+SoundStays-errors = record { request = sound_request; finish = λ s. sound_finish_of s.plain.wire s; arbitrate = sound_arbitration }
 
 -- ---- the number of nodes
 nodes_request : (s : ErrorState) (m : ℕ) (f : FrameFields) → length (after_request s m f).counts ≡ length s.counts
-nodes_request s m f = elim (is_off s m) as (λ b. length (cond b s (record s { bus = plain.after_request s.bus m f })).counts ≡ length s.counts) [ true ↦ refl | false ↦ refl ]
+nodes_request s m f = elim (is_off s m) as (λ b. length (cond b s (record s { plain = channel.after_request s.plain m f })).counts ≡ length s.counts) [ true ↦ refl | false ↦ refl ]
 
 nodes_finish_of : (wire : Option Transmission) (s : ErrorState) (now : ℕ) → length (after_finish_of wire s now).counts ≡ length s.counts
 nodes_finish_of None s now = refl
@@ -133,8 +133,8 @@ nodes_finish_of (Some t) s now =
 
 nodes_arbitration : (s : ErrorState) (now : ℕ) → length (after_arbitration s now).counts ≡ length s.counts
 nodes_arbitration s now =
-    elim (plain.winner_at s.bus now) as (λ o. length (option_map_or (with_transmission s now) o s).counts ≡ length s.counts) [ None ↦ refl | Some r ↦ refl ]
+    elim (channel.winner_at s.plain now) as (λ o. length (option_map_or (with_transmission s now) o s).counts ≡ length s.counts) [ None ↦ refl | Some r ↦ refl ]
 
 -- it has its nodes, whatever comes
 pub NodesStay-errors : NodesStay with_errors
-NodesStay-errors = record { request = nodes_request; finish = λ s. nodes_finish_of s.bus.wire s; arbitrate = nodes_arbitration }
+NodesStay-errors = record { request = nodes_request; finish = λ s. nodes_finish_of s.plain.wire s; arbitrate = nodes_arbitration }

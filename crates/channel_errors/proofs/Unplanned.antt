@@ -6,13 +6,13 @@ use Rattle.can_bus.specs.declared.bus.Ended.{Ended}
 use Rattle.can_bus.specs.declared.transmission.Transmission.{Transmission}
 use Rattle.can_bus.specs.Transmission.{time_on_wire}
 use Rattle.can_bus.specs.Bus.{BusState}
-use Rattle.can_bus.specs.Bus as plain
+use Rattle.can_bus.specs.Bus as channel
 use Rattle.channel_errors.specs.Errors.{after_sent, after_finish_of, with_transmission, after_arbitration}
 use Rattle.channel_errors.specs.Laws.{unplanned, ActsAsPlain}
 use Rattle.channel_errors.proofs.Counts.{is_off-zero, sent-zero}
 
 module _ (s : BusState) (begun nodes : ℕ) where
-  finish_of : (wire : Option Transmission) (now : ℕ) → let u : BusState = record s { wire = wire } in after_finish_of wire (unplanned u begun nodes) now ≡ unplanned (plain.after_finish u now) begun nodes
+  finish_of : (wire : Option Transmission) (now : ℕ) → let u : BusState = record s { wire = wire } in after_finish_of wire (unplanned u begun nodes) now ≡ unplanned (channel.after_finish u now) begun nodes
   finish_of None now = refl
   finish_of (Some t) now =
       let u : BusState = record s { wire = Some t } in
@@ -22,20 +22,20 @@ module _ (s : BusState) (begun nodes : ℕ) where
         | false ↦ refl
       ]
 
-  arbitration : (now : ℕ) → after_arbitration (unplanned s begun nodes) now ≡ unplanned (plain.after_arbitration s now) (cond (is_some (plain.winner_at s now)) (begun + 1) begun) nodes
+  arbitration : (now : ℕ) → after_arbitration (unplanned s begun nodes) now ≡ unplanned (channel.after_arbitration s now) (cond (is_some (channel.winner_at s now)) (begun + 1) begun) nodes
   arbitration now =
-      elim (plain.winner_at s now) as (λ o. option_map_or (with_transmission (unplanned s begun nodes) now) o (unplanned s begun nodes)
-      ≡ unplanned (option_map_or (λ r. plain.with_transmission s now (time_on_wire r.frame s.bit) r) o s) (cond (is_some o) (begun + 1) begun) nodes) [
+      elim (channel.winner_at s now) as (λ o. option_map_or (with_transmission (unplanned s begun nodes) now) o (unplanned s begun nodes)
+      ≡ unplanned (option_map_or (λ r. channel.with_transmission s now (time_on_wire r.frame s.bit) r) o s) (cond (is_some o) (begun + 1) begun) nodes) [
         | None ↦ refl
         | Some r ↦
             let same : time_on_wire r.frame s.bit + 0 ≡ time_on_wire r.frame s.bit = omega arith in
-            ap (λ duration. unplanned (plain.with_transmission s now duration r) (begun + 1) nodes) same
+            ap (λ duration. unplanned (channel.with_transmission s now duration r) (begun + 1) nodes) same
       ]
 
   -- each call
   pub acts_as_plain : ActsAsPlain s begun nodes
   acts_as_plain = record {
-    request = λ node f. ap (λ b. cond b (unplanned s begun nodes) (unplanned (plain.after_request s node f) begun nodes)) (is_off-zero nodes node);
+    request = λ node f. ap (λ b. cond b (unplanned s begun nodes) (unplanned (channel.after_request s node f) begun nodes)) (is_off-zero nodes node);
     next_moment = refl;
     ended = λ now. refl;
     finish = finish_of s.wire;

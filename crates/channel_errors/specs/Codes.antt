@@ -8,6 +8,6 @@ use Rattle.channel_errors.specs.Errors.{ErrorState}
 abbrev pub errors_code : Coded ErrorState
 errors_code =
     code_by _ (coded× bus_code (coded× (coded_list coded_ℕ) (coded× coded_ℕ (coded_list coded_ℕ))))
-    (λ s. (s.bus, (s.planned, (s.begun, s.counts))))
-    (λ p. record { bus = p.0; planned = p.1.0; begun = p.1.1.0; counts = p.1.1.1 })
+    (λ s. (s.plain, (s.planned, (s.begun, s.counts))))
+    (λ p. record { plain = p.0; planned = p.1.0; begun = p.1.1.0; counts = p.1.1.1 })
     (λ _. refl)

@@ -1,6 +1,6 @@
--- The bus of one channel with planned errors: its state, and what each call makes of it. The rules of counts,
--- retransmission and bus-off are those of ISO 11898-1 (fault confinement) as far as a transmitter goes;
--- that a disturbance is seen at the frame's end, and 14 bits of an error frame, are this project's own.
+-- The bus of one channel with planned errors: its state, and what each call makes of it. Counts,
+-- retransmission and bus-off are those of a transmitter in ISO 11898-1 (fault confinement). That a
+-- disturbance is seen at the frame's end, and an error frame of 14 bits, are this project's own.
 use Rattle.std.specs.Prelude.{◌≡◌, ℕ, ◌+◌, ◌-◌, ◌*◌, ◌==◌, nat_lt, Bool, true, false, not, if◌then◌else◌, List, length, replicate, slice_index, slice_set, Option, None, Some, IfSome}
 use Rattle.std.specs.List.{list_any}
 use Rattle.std.specs.Option.{option_map_or}
@@ -13,14 +13,14 @@ use Rattle.can_bus.specs.Meaning.{BusMeaning}
 use Rattle.can_bus.specs.Transmission.{time_on_wire}
 use Rattle.can_bus.specs.Waiting.{Requests, name_of}
 use Rattle.can_bus.specs.Bus.{BusState, BitTakesTime}
-use Rattle.can_bus.specs.Bus as plain
+use Rattle.can_bus.specs.Bus as channel
 
--- the bus without errors, the numbers of the transmissions that are disturbed (counted from 1 over the
--- whole run), how many transmissions have begun (retransmissions too), and for each node its count. A
--- node is off where its count is above 255: it never transmits again, so its count stays, and no mark
--- besides is needed
+-- the plain bus, which is the one without errors; the numbers of the transmissions that are disturbed,
+-- counted from 1 over the whole run; how many transmissions have begun, retransmissions too; and for each
+-- node its count. A node is off where its count is above 255. It never transmits again, so its count stays
+-- above, and no mark besides is needed
 pub record ErrorState : Type 0 where
-  pub bus : BusState
+  pub plain : BusState
   pub planned : List ℕ
   pub begun : ℕ
   pub counts : List ℕ
@@ -28,7 +28,7 @@ pub record ErrorState : Type 0 where
 -- a bus of so many nodes on which nothing was requested, whose bits take so long
 abbrev pub new_bus : ℕ → List ℕ → ℕ → ErrorState
 new_bus bit planned nodes = record {
-  bus = plain.new_bus bit;
+  plain = channel.new_bus bit;
   planned = planned;
   begun = 0;
   counts = replicate nodes 0;
@@ -54,16 +54,16 @@ counts_after_disturbed counts node = slice_set counts node (slice_index counts n
 
 -- bits take time, and a node that is off has no frame, waiting or on the wire
 pub record IsSoundErrors (s : ErrorState) : Type 0 where
-  pub takes_time : BitTakesTime s.bus
-  pub none_waits : (node number : ℕ) → is_off s node ≡ true → get s.bus.waiting (node, number) ≡ None
-  pub none_on_wire : IfSome s.bus.wire (λ t. is_off s t.request.node ≡ false)
+  pub takes_time : BitTakesTime s.plain
+  pub none_waits : (node number : ℕ) → is_off s node ≡ true → get s.plain.waiting (node, number) ≡ None
+  pub none_on_wire : IfSome s.plain.wire (λ t. is_off s t.request.node ≡ false)
 
 -- ---- requests
 
--- the bus after a request: the plain bus's, but for a node that is off nothing changes
+-- the bus after a request: what the plain bus makes of it, but nothing changes where the node is off
 abbrev pub after_request : ErrorState → ℕ → FrameFields → ErrorState
 after_request s node frame =
-    if is_off s node then s else record s { bus = plain.after_request s.bus node frame }
+    if is_off s node then s else record s { plain = channel.after_request s.plain node frame }
 
 -- ---- the wire
 
@@ -77,12 +77,12 @@ is_disturbed s = is_planned s.planned s.begun
 
 -- the frame that ends now, with its node, where its transmission is not disturbed
 abbrev pub ended : ErrorState → ℕ → Option Ended
-ended s now = if is_disturbed s then None else plain.ended s.bus now
+ended s now = if is_disturbed s then None else channel.ended s.plain now
 
 -- the bus after the request's frame was sent: the wire is empty, and its node's count is 1 less
 abbrev pub after_sent : ErrorState → Waiting → ErrorState
 after_sent s r = record s {
-  bus = record s.bus { wire = None };
+  plain = record s.plain { wire = None };
   counts = counts_after_sent s.counts r.node;
 }
 
@@ -98,7 +98,7 @@ abbrev pub after_disturbed : ErrorState → Waiting → ErrorState
 after_disturbed s r =
     let counts = counts_after_disturbed s.counts r.node in
     record s {
-      bus = record s.bus { wire = None; waiting = waiting_after_disturbed s.bus.waiting counts r };
+      plain = record s.plain { wire = None; waiting = waiting_after_disturbed s.plain.waiting counts r };
       counts = counts;
     }
 
@@ -111,7 +111,7 @@ after_finish_of (Some t) s now =
 
 -- the bus without the transmission that ends now
 abbrev pub after_finish : ErrorState → ℕ → ErrorState
-after_finish s now = after_finish_of s.bus.wire s now
+after_finish s now = after_finish_of s.plain.wire s now
 
 -- ---- arbitration
 
@@ -123,23 +123,23 @@ error_frame bit = 14 * bit
 -- then disturbed
 abbrev pub next_duration : ErrorState → FrameFields → ℕ
 next_duration s frame =
-    time_on_wire frame s.bus.bit
-    + (if is_planned s.planned (s.begun + 1) then error_frame s.bus.bit else 0)
+    time_on_wire frame s.plain.bit
+    + (if is_planned s.planned (s.begun + 1) then error_frame s.plain.bit else 0)
 
 -- the bus on which the request begins now, as one more transmission
 abbrev pub with_transmission : ErrorState → ℕ → Waiting → ErrorState
 with_transmission s now r = record s {
-  bus = plain.with_transmission s.bus now (next_duration s r.frame) r;
+  plain = channel.with_transmission s.plain now (next_duration s r.frame) r;
   begun = s.begun + 1;
 }
 
 -- the bus after arbitration: the plain bus's winner begins
 abbrev pub after_arbitration : ErrorState → ℕ → ErrorState
-after_arbitration s now = option_map_or (with_transmission s now) (plain.winner_at s.bus now) s
+after_arbitration s now = option_map_or (with_transmission s now) (channel.winner_at s.plain now) s
 
--- the plain bus's
+-- what is due next: the same as on the plain bus
 abbrev pub next_moment : ErrorState → Option ℕ
-next_moment s = plain.next_moment s.bus
+next_moment s = channel.next_moment s.plain
 
 -- the bus of one channel with planned errors, which serves the nodes that have a count
 abbrev pub with_errors : BusMeaning ErrorState

@@ -4,18 +4,18 @@ use Rattle.can_frame.specs.Frame.{FrameFields}
 use Rattle.can_bus.specs.declared.transmission.Transmission.{Transmission}
 use Rattle.can_bus.specs.Waiting.{Waits}
 use Rattle.can_bus.specs.Bus.{BusState}
-use Rattle.can_bus.specs.Bus as plain
+use Rattle.can_bus.specs.Bus as channel
 use Rattle.channel_errors.specs.Errors.{ErrorState, IsSoundErrors, is_off, is_disturbed}
 use Rattle.channel_errors.specs.Errors as errors
 
 -- `finish` gives nothing exactly where no undisturbed transmission ends now
 abbrev pub GivesNothing : ErrorState → ℕ → Type 0
 GivesNothing s now =
-    (errors.ended s now ≡ None) ↔ ((is_disturbed s ≡ true) ⊎ (plain.ended s.bus now ≡ None))
+    (errors.ended s now ≡ None) ↔ ((is_disturbed s ≡ true) ⊎ (channel.ended s.plain now ≡ None))
 
 -- a disturbed transmission ends now
 pub record EndsDisturbed (s : ErrorState) (t : Transmission) (now : ℕ) : Type 0 where
-  pub on_wire : s.bus.wire ≡ Some t
+  pub on_wire : s.plain.wire ≡ Some t
   pub ends : t.end ≡ now
   pub disturbed : is_disturbed s ≡ true
 
@@ -23,7 +23,7 @@ pub record EndsDisturbed (s : ErrorState) (t : Transmission) (now : ℕ) : Type 
 abbrev pub WaitsAgain : ErrorState → ℕ → Type 0
 WaitsAgain s now =
     (t : Transmission) → EndsDisturbed s t now → is_off (errors.after_finish s now) t.request.node ≡ false
-    → Waits (errors.after_finish s now).bus.waiting t.request
+    → Waits (errors.after_finish s now).plain.waiting t.request
 
 -- a node that is off stays off, whatever the call
 pub record OffStays (s : ErrorState) (node : ℕ) : Type 0 where
@@ -33,19 +33,19 @@ pub record OffStays (s : ErrorState) (node : ℕ) : Type 0 where
 
 -- this bus with no planned number, after so many transmissions, whose nodes' counts are 0
 abbrev pub unplanned : BusState → ℕ → ℕ → ErrorState
-unplanned s begun nodes = record { bus = s; planned = []; begun = begun; counts = replicate nodes 0 }
+unplanned s begun nodes = record { plain = s; planned = []; begun = begun; counts = replicate nodes 0 }
 
 -- each call of such a bus gives what the plain bus gives, and makes of it what it makes of that bus, with
 -- one more transmission where one begins
 pub record ActsAsPlain (s : BusState) (begun nodes : ℕ) : Type 0 where
   pub request : (node : ℕ) (frame : FrameFields)
       → errors.after_request (unplanned s begun nodes) node frame
-      ≡ unplanned (plain.after_request s node frame) begun nodes
-  pub next_moment : errors.next_moment (unplanned s begun nodes) ≡ plain.next_moment s
-  pub ended : (now : ℕ) → errors.ended (unplanned s begun nodes) now ≡ plain.ended s now
+      ≡ unplanned (channel.after_request s node frame) begun nodes
+  pub next_moment : errors.next_moment (unplanned s begun nodes) ≡ channel.next_moment s
+  pub ended : (now : ℕ) → errors.ended (unplanned s begun nodes) now ≡ channel.ended s now
   pub finish : (now : ℕ)
-      → errors.after_finish (unplanned s begun nodes) now ≡ unplanned (plain.after_finish s now) begun nodes
+      → errors.after_finish (unplanned s begun nodes) now ≡ unplanned (channel.after_finish s now) begun nodes
   pub arbitrate : (now : ℕ)
       → errors.after_arbitration (unplanned s begun nodes) now
-      ≡ unplanned (plain.after_arbitration s now)
-      (if is_some (plain.winner_at s now) then begun + 1 else begun) nodes
+      ≡ unplanned (channel.after_arbitration s now)
+      (if is_some (channel.winner_at s now) then begun + 1 else begun) nodes

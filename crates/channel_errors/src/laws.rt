@@ -2,7 +2,7 @@
 
 ghost use Rattle.std.specs.Prelude.{◌≡◌, ℕ, true, []};
 ghost use Rattle.can_bus.specs.Bus.{BusState};
-ghost use Rattle.can_bus.specs.Bus as plain;
+ghost use Rattle.can_bus.specs.Bus as channel;
 ghost use Rattle.channel_errors.specs.Errors.{ErrorState, IsSoundErrors, is_off, new_bus};
 ghost use Rattle.channel_errors.specs.Laws.{GivesNothing, WaitsAgain, OffStays, ActsAsPlain, unplanned};
 
@@ -28,6 +28,6 @@ pub fn node_that_is_off_stays_off()
 /// A bus with no planned number is the plain bus, call by call: from the beginning it is that bus beside
 /// counts of 0, it gives what that bus gives, and stays so.
 pub fn without_plan_plain()
-    ensures beginning { (bit nodes : ℕ) → new_bus bit [] nodes ≡ unplanned (plain.new_bus bit) 0 nodes }
+    ensures beginning { (bit nodes : ℕ) → new_bus bit [] nodes ≡ unplanned (channel.new_bus bit) 0 nodes }
     ensures calls { (s : BusState) (begun nodes : ℕ) → ActsAsPlain s begun nodes }
 {}
