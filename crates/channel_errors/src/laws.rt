@@ -1,10 +1,16 @@
 //! Laws of the bus with planned errors. Each call does nothing: its contract is the law.
 
-ghost use Rattle.std.specs.Prelude.{◌≡◌, ℕ, true, []};
+ghost use Rattle.std.specs.Prelude.{◌≡◌, ℕ, ◌≤◌, true, List, []};
 ghost use Rattle.can_bus.specs.Bus.{BusState};
 ghost use Rattle.can_bus.specs.Bus as channel;
 ghost use Rattle.channel_errors.specs.Errors.{ErrorState, IsSoundErrors, is_off, new_bus};
 ghost use Rattle.channel_errors.specs.Laws.{GivesNothing, WaitsAgain, OffStays, ActsAsPlain, unplanned};
+
+/// A bus on which nothing was requested is sound, where bits take time.
+#[tactic(auto, using(crate::proofs::SoundStays::new_bus_is_sound))]
+pub fn new_bus_is_sound()
+    ensures { (bit nodes : ℕ) (planned : List ℕ) → 1 ≤ bit → IsSoundErrors (new_bus bit planned nodes) }
+{}
 
 /// `finish` gives `None` exactly where no undisturbed transmission ends at this moment.
 #[tactic(auto, using(crate::proofs::Finish::gives_nothing))]
