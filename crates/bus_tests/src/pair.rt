@@ -46,10 +46,11 @@ fn two_frames_end_at_one_moment(rt: HostRuntime) -> Result<(), Fail> {
     let one = sent_by(0, 1)?;
     let two = sent_by(0, 2)?;
     let mut bus = PairBus::make(rt.alloc(), 2);
-    for sent in [two, one] {
-        if bus.request(sent.node, &sent.frame).is_err() {
-            return Err("memory".into());
-        }
+    if bus.request(two.node, &two.frame).is_err() {
+        return Err("memory".into());
+    }
+    if bus.request(one.node, &one.frame).is_err() {
+        return Err("memory".into());
     }
     bus.arbitrate(0);
     assert_eq!(rt; bus.next_time(), Some(100));
