@@ -125,6 +125,7 @@ impl Bus for PlainBus {
 
     ghost use Rattle.can_bus.proofs.RequestsCommute.{RequestsCommute-bus};
     ghost use Rattle.can_bus.proofs.SoundStays.{SoundStays-bus, NodesStay-bus};
+    ghost use Rattle.can_bus.proofs.FramesCome.{FramesCome-bus};
     ghost use Rattle.can_bus.proofs.DueLater.{DueLater-bus, DueLaterFromNothing-bus};
 
     ghost requests_commute = { RequestsCommute-bus };
@@ -132,6 +133,8 @@ impl Bus for PlainBus {
     ghost sound_stays = { SoundStays-bus };
 
     ghost nodes_stay = { NodesStay-bus };
+
+    ghost frames_come = { FramesCome-bus };
 
     ghost due_later = { DueLater-bus };
 

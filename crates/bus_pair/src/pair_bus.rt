@@ -89,6 +89,7 @@ impl Bus for PairBus {
 
     ghost use Rattle.channel_pair.proofs.RequestsCommute.{RequestsCommute-pair};
     ghost use Rattle.channel_pair.proofs.SoundStays.{SoundStays-pair, NodesStay-pair};
+    ghost use Rattle.channel_pair.proofs.FramesCome.{FramesCome-pair};
     ghost use Rattle.channel_pair.proofs.DueLater.{DueLater-pair, DueLaterFromNothing-pair};
 
     ghost requests_commute = { RequestsCommute-pair };
@@ -96,6 +97,8 @@ impl Bus for PairBus {
     ghost sound_stays = { SoundStays-pair };
 
     ghost nodes_stay = { NodesStay-pair };
+
+    ghost frames_come = { FramesCome-pair };
 
     ghost due_later = { DueLater-pair };
 

@@ -7,5 +7,6 @@ pub mod RankLemmas
 pub mod Wire
 pub mod RequestsCommute
 pub mod SoundStays
+pub mod FramesCome
 pub mod DueLater
 pub mod Arbitration

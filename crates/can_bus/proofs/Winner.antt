@@ -103,6 +103,11 @@ winner_law w =
           IsWinner-from w r h.0 (NoneBefore-is_first (members w) r h.1)
     ] refl
 
+-- what is found waits
+pub waits_winner : (b : Bool) (w : Requests) (r : Waiting) → cond b (winner w) None ≡ Some r → Waits w r
+waits_winner true w r e = let wins : IsWinner w r = subst (λ o. MatchOption o (w ≡ empty) (IsWinner w)) e (winner_law w) in wins.waits
+waits_winner false w r e = absurd (cc)
+
 -- two members with one name are one
 pub same_request : (w : Requests) (r s : Waiting) → Waits w r → Waits w s → name_of s ≡ name_of r → r ≡ s
 same_request w r s h g name =

@@ -1,6 +1,6 @@
 -- The bus of ISO 11898-1 (arbitration, interframe space) with requests that wait: its state, and what
 -- each call makes of it.
-use Rattle.std.specs.Prelude.{ℕ, ◌+◌, ◌-◌, ◌^◌, ◌≤◌, ◌==◌, nat_lt, nat_le, Bool, false, ◌&&◌, if◌then◌else◌, map, Option, None, Some, is_none, is_some, unwrap_or}
+use Rattle.std.specs.Prelude.{ℕ, ◌+◌, ◌-◌, ◌^◌, ◌≤◌, ◌==◌, nat_lt, nat_le, Bool, false, ◌&&◌, if◌then◌else◌, ◌≡◌, ◌⊎◌, map, Option, None, Some, MatchOption, is_none, is_some, unwrap_or}
 use Rattle.std.specs.Option.{option_map, option_map_or}
 use Rattle.std.specs.Ordering.{nat_cmp}
 use Rattle.std.specs.FinMap.{FinMap, get, insert, remove, retain_keys, len, empty}
@@ -10,7 +10,7 @@ use Rattle.can_bus.specs.declared.transmission.Transmission.{Transmission}
 use Rattle.can_bus.specs.declared.bus.Ended.{Ended}
 use Rattle.can_bus.specs.Meaning.{BusMeaning}
 use Rattle.can_bus.specs.Transmission.{time_on_wire, intermission}
-use Rattle.can_bus.specs.Waiting.{Requests, name_of, requests_of, members, winner}
+use Rattle.can_bus.specs.Waiting.{RequestName, Requests, name_of, requests_of, members, winner}
 
 -- the waiting requests, the one on the wire, the moment from which the bus is free, the number of
 -- each node's next request (0 where there is none), and the microseconds that a bit takes
@@ -28,6 +28,12 @@ new_bus bit = record { waiting = empty; wire = None; free = 0; next = empty; bit
 -- a bit takes time
 abbrev pub BitTakesTime : BusState → Type 0
 BitTakesTime s = 1 ≤ s.bit
+
+-- the frame waits under some name, or is on the wire
+abbrev pub Carries : BusState → FrameFields → Type 0
+Carries s frame =
+    ((name : RequestName) × (get s.waiting name ≡ Some frame))
+    ⊎ MatchOption s.wire ⊥ (λ t. t.request.frame ≡ frame)
 
 -- ---- requests
 
@@ -131,6 +137,7 @@ abbrev pub one_channel : BusMeaning BusState
 one_channel = record {
   nodes = λ _. 2 ^ 32;
   sound = BitTakesTime;
+  carries = Carries;
   after_request = after_request;
   next_moment = next_moment;
   ended = ended;

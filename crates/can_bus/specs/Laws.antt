@@ -1,5 +1,5 @@
 -- What every bus keeps, whatever its calls mean.
-use Rattle.std.specs.Prelude.{◌≡◌, ◌≢◌, ℕ, ◌<◌, ◌≤◌, None, IfSome}
+use Rattle.std.specs.Prelude.{◌≡◌, ◌≢◌, ℕ, ◌<◌, ◌≤◌, ◌⊎◌, None, IfSome}
 use Rattle.can_frame.specs.Frame.{FrameFields}
 use Rattle.can_bus.specs.Meaning.{BusMeaning}
 
@@ -22,6 +22,16 @@ pub record NodesStay {S : Type 0} (bus : BusMeaning S) : Type 0 where
       → bus.nodes (bus.after_request s node frame) ≡ bus.nodes s
   pub finish : (s : S) (now : ℕ) → bus.nodes (bus.after_finish s now) ≡ bus.nodes s
   pub arbitrate : (s : S) (now : ℕ) → bus.nodes (bus.after_arbitration s now) ≡ bus.nodes s
+
+-- frames come to a bus by requests alone, and what ends was on it
+pub record FramesCome {S : Type 0} (bus : BusMeaning S) : Type 0 where
+  pub ended : (s : S) (now : ℕ) → IfSome (bus.ended s now) (λ e. bus.carries s e.frame)
+  pub request : (s : S) (node : ℕ) (frame other : FrameFields)
+      → bus.carries (bus.after_request s node frame) other → (other ≡ frame) ⊎ bus.carries s other
+  pub finish : (s : S) (now : ℕ) (frame : FrameFields)
+      → bus.carries (bus.after_finish s now) frame → bus.carries s frame
+  pub arbitrate : (s : S) (now : ℕ) (frame : FrameFields)
+      → bus.carries (bus.after_arbitration s now) frame → bus.carries s frame
 
 -- the second state comes from the first by requests and calls of `finish` at this moment
 pub data Follows {S : Type 0} (bus : BusMeaning S) (now : ℕ) (s : S) : S → Type 0 where

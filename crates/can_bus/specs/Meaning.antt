@@ -9,6 +9,8 @@ pub record BusMeaning (S : Type 0) : Type 1 where
   pub nodes : S → ℕ
   -- what holds of each bus that calls make
   pub sound : S → Type 0
+  -- the frames that are on it: each waits, is on the wire, or left the wire and is held back
+  pub carries : S → FrameFields → Type 0
   -- the bus after a request of this node
   pub after_request : S → ℕ → FrameFields → S
   -- the next moment at which something is due, if there is one

@@ -2,7 +2,7 @@
 
 ghost use Rattle.std.specs.Prelude.{◌≡◌, ◌<◌, ◌≤◌, ◌^◌, OnOk, OnErr};
 ghost use Rattle.can_bus.specs.Meaning.{BusMeaning};
-ghost use Rattle.can_bus.specs.Laws.{RequestsCommute, SoundStays, NodesStay, DueLater, DueLaterFromNothing};
+ghost use Rattle.can_bus.specs.Laws.{RequestsCommute, SoundStays, NodesStay, FramesCome, DueLater, DueLaterFromNothing};
 
 use can_frame::Frame;
 use texts::NoMemory;
@@ -16,13 +16,13 @@ pub struct Ended {
 
 /// A bus to which nodes give frames. Moments are microseconds from the start.
 ///
-/// At each moment `finish` is called until no further frame ends, then come the requests of the
-/// moment, and last `arbitrate`; the moments never fall. An implementation says what its calls mean,
-/// and proves the laws below of these meanings. The laws speak of sound buses, and each bus that
-/// calls make is sound.
+/// A run calls `finish` twice at each of its moments after 0, requests may stand behind each of the
+/// two, and `arbitrate` comes last; at moment 0 come requests and `arbitrate` alone. The moments never
+/// fall. An implementation says what its calls mean, and proves the laws below of these meanings. Some
+/// of the laws speak of sound buses alone, and each bus that calls make is sound.
 pub trait Bus {
-    /// What its states mean: how many nodes it serves, what is due next and what ends, and the bus
-    /// after each call.
+    /// What its states mean: how many nodes it serves, which frames are on it, what is due next and
+    /// what ends, and the bus after each call.
     ghost meaning: { BusMeaning Self };
 
     /// The node requests that the frame be sent. Where there is no memory for it, nothing changes.
@@ -62,6 +62,9 @@ pub trait Bus {
 
     /// What each call makes of a bus serves as many nodes.
     ghost nodes_stay: { NodesStay meaning };
+
+    /// Frames come to a bus by requests alone, and what ends was on it.
+    ghost frames_come: { FramesCome meaning };
 
     /// Where nothing was due before a moment on a sound bus, and then come `finish` at it, any requests
     /// and further calls of `finish`, and last `arbitrate`, what is due next is later than the moment.

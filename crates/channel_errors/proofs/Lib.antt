@@ -3,6 +3,7 @@ pub mod Counts
 pub mod Waits
 pub mod RequestsCommute
 pub mod SoundStays
+pub mod FramesCome
 pub mod DueLater
 pub mod Finish
 pub mod OffStays

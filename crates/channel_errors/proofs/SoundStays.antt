@@ -15,9 +15,10 @@ use Rattle.can_bus.specs.Bus as channel
 use Rattle.can_bus.specs.Laws.{SoundStays, NodesStay}
 use Rattle.can_bus.proofs.Requests.{name_cmp_total, ties}
 use Rattle.can_bus.proofs.SoundStays.{SoundStays-bus}
+use Rattle.can_bus.proofs.Winner.{waits_winner}
 use Rattle.channel_errors.specs.Errors.{ErrorState, IsSoundErrors, new_bus, is_off, is_off_in, is_disturbed, counts_after_disturbed, after_request, after_sent, after_disturbed, after_finish_of, with_transmission, after_arbitration, with_errors}
 use Rattle.channel_errors.proofs.Counts.{off_before_sent, is_off_other, off_on_apart}
-use Rattle.channel_errors.proofs.Waits.{other_name, waits_winner, none-after_request, node_on_wire-after_request}
+use Rattle.channel_errors.proofs.Waits.{other_name, none-after_request, node_on_wire-after_request}
 
 -- a bus on which nothing was requested is sound, where bits take time
 pub new_bus_is_sound : (bit nodes : ℕ) (planned : List ℕ) → 1 ≤ bit → IsSoundErrors (new_bus bit planned nodes)

@@ -1,19 +1,18 @@
 -- What the plain bus's requests leave of other nodes, and names of requests.
 use Rattle.std.proofs.Common.{◌≡◌, ◌≢◌, ℕ, Bool, true, false, cond, List, [], ◌∷◌, map, eqb, refl, sym, ap, subst, ◌∙◌, inl, inr, arith}
-use Rattle.std.specs.Prelude.{Option, None, Some, MatchOption, IfSome}
+use Rattle.std.specs.Prelude.{Option, None, Some, IfSome}
 use Rattle.std.specs.Option.{option_map}
 use Rattle.std.specs.Ordering.{nat_cmp, ordering_then, eq_by_cmp, is_eq}
 use Rattle.std.specs.Cmp.{tied_itself}
-use Rattle.std.specs.FinMap.{empty, get, find, entries, get-entries, get-insert, get-from_entries}
+use Rattle.std.specs.FinMap.{get, find, entries, get-entries, get-insert, get-from_entries}
 use Rattle.std.proofs.lemmas.Bool.Decides.{nat_tests, eqb_tells}
 use Rattle.can_frame.specs.Frame.{FrameFields}
 use Rattle.can_bus.specs.declared.waiting.Waiting.{Waiting}
 use Rattle.can_bus.specs.declared.transmission.Transmission.{Transmission}
-use Rattle.can_bus.specs.Waiting.{RequestName, Requests, Waits, IsWinner, name_cmp, name_of, entry_of, request_at, members, winner}
+use Rattle.can_bus.specs.Waiting.{RequestName, name_cmp, name_of, entry_of, request_at, members}
 use Rattle.can_bus.specs.Bus.{BusState, next_number, last_number, rank, with_rank, with_ranks, transmission_with_rank, after_request}
 use Rattle.can_bus.proofs.Requests.{name_cmp_total}
 use Rattle.can_bus.proofs.RankLemmas.{with_ranks-is}
-use Rattle.can_bus.proofs.Winner.{winner_law}
 use Rattle.can_bus.proofs.Wire.{wire_request, wire-after_request}
 
 -- ---- names
@@ -27,11 +26,6 @@ other_name a b e = other_node a.0 b.0 a.1 b.1 e
 -- a name ties with itself
 pub own_name : (a : RequestName) → eq_by_cmp name_cmp a a ≡ true
 own_name a = ap is_eq (tied_itself name_cmp_total a)
-
--- what wins waits
-pub waits_winner : (b : Bool) (w : Requests) (r : Waiting) → cond b (winner w) None ≡ Some r → Waits w r
-waits_winner true w r e = let wins : IsWinner w r = subst (λ o. MatchOption o (w ≡ empty) (IsWinner w)) e (winner_law w) in wins.waits
-waits_winner false w r e = absurd (cc)
 
 -- ---- a request of the node m
 not_first : (b : Bool) (f : FrameFields) (o : Option FrameFields) → cond b (Some f) o ≡ None → (b ≡ false) × (o ≡ None)

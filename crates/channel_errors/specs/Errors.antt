@@ -58,6 +58,10 @@ pub record IsSoundErrors (s : ErrorState) : Type 0 where
   pub none_waits : (node number : ℕ) → is_off s node ≡ true → get s.plain.waiting (node, number) ≡ None
   pub none_on_wire : IfSome s.plain.wire (λ t. is_off s t.request.node ≡ false)
 
+-- the frame is on the plain bus
+abbrev pub Carries : ErrorState → FrameFields → Type 0
+Carries s frame = channel.Carries s.plain frame
+
 -- ---- requests
 
 -- the bus after a request: what the plain bus makes of it, but nothing changes where the node is off
@@ -146,6 +150,7 @@ abbrev pub with_errors : BusMeaning ErrorState
 with_errors = record {
   nodes = λ s. length s.counts;
   sound = IsSoundErrors;
+  carries = Carries;
   after_request = after_request;
   next_moment = next_moment;
   ended = ended;

@@ -3,13 +3,20 @@
 ghost use Rattle.std.specs.Prelude.{◌≡◌, ℕ, ◌≤◌, true, List, []};
 ghost use Rattle.can_bus.specs.Bus.{BusState};
 ghost use Rattle.can_bus.specs.Bus as channel;
-ghost use Rattle.channel_errors.specs.Errors.{ErrorState, IsSoundErrors, is_off, new_bus};
+ghost use Rattle.can_bus.specs.Laws.{FramesCome};
+ghost use Rattle.channel_errors.specs.Errors.{ErrorState, IsSoundErrors, is_off, new_bus, with_errors};
 ghost use Rattle.channel_errors.specs.Laws.{GivesNothing, WaitsAgain, OffStays, ActsAsPlain, unplanned};
 
 /// A bus on which nothing was requested is sound, where bits take time.
 #[tactic(auto, using(crate::proofs::SoundStays::new_bus_is_sound))]
 pub fn new_bus_is_sound()
     ensures { (bit nodes : ℕ) (planned : List ℕ) → 1 ≤ bit → IsSoundErrors (new_bus bit planned nodes) }
+{}
+
+/// Frames come to the bus by requests alone, and what ends was on it: a disturbed frame that waits again
+/// was on the wire.
+pub fn frames_come_by_requests()
+    ensures { FramesCome with_errors }
 {}
 
 /// `finish` gives `None` exactly where no undisturbed transmission ends at this moment.

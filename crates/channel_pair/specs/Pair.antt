@@ -1,6 +1,6 @@
 -- The bus of two channels: its state, and what each call makes of it. Which channel's frame goes first
 -- where both end at one moment is this project's own.
-use Rattle.std.specs.Prelude.{◌≡◌, ℕ, ◌^◌, ◌==◌, min, if◌then◌else◌, Option, None, Some, IfSome, is_some}
+use Rattle.std.specs.Prelude.{◌≡◌, ℕ, ◌^◌, ◌==◌, ◌⊎◌, min, if◌then◌else◌, Option, None, Some, MatchOption, IfSome, is_some}
 use Rattle.std.specs.Option.{option_or}
 use Rattle.can_frame.specs.Frame.{FrameFields}
 use Rattle.can_bus.specs.declared.bus.Ended.{Ended}
@@ -23,6 +23,11 @@ pub record IsSoundPair (s : PairState) : Type 0 where
   pub takes_time : BitTakesTime s.one
   pub same_bit : s.one.bit ≡ s.two.bit
   pub wires_empty : IfSome s.held (λ _. (s.one.wire ≡ None) × (s.two.wire ≡ None))
+
+-- the frame is on one of the channels, or is held
+abbrev pub Carries : PairState → FrameFields → Type 0
+Carries s frame =
+    MatchOption s.held ⊥ (λ e. e.frame ≡ frame) ⊎ channel.Carries s.one frame ⊎ channel.Carries s.two frame
 
 -- the pair after a request, which goes to the channel of its frame
 abbrev pub after_request : PairState → ℕ → FrameFields → PairState
@@ -73,6 +78,7 @@ abbrev pub two_channels : BusMeaning PairState
 two_channels = record {
   nodes = λ _. 2 ^ 32;
   sound = IsSoundPair;
+  carries = Carries;
   after_request = after_request;
   next_moment = next_moment;
   ended = ended;
