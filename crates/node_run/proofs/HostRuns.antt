@@ -2,17 +2,18 @@
 use Rattle.std.proofs.Common.{◌≡◌, ℕ, Bool, List, [], ◌∷◌, inl, inr, ◌⊎◌, ap, sym, subst, ◌∙◌}
 use Rattle.std.specs.Prelude.{Result, Ok, Err, OnErr}
 use Rattle.can_frame.specs.Frame.{FrameFields}
-use Rattle.run_effects.specs.Effect.{Effect}
+use Rattle.run_effects.specs.Effect.{Effect, Line, Send, Stop, Set, Cancel}
 use Rattle.vm_host.specs.Host.{HostMeaning}
 use Rattle.run_records.specs.Record.{RecordMeaning}
 use Rattle.run_effects.specs.declared.outcome.Outcome.{Outcome}
-use Rattle.timer_queue.specs.Timers.{Timers, active_timers}
+use Rattle.timer_queue.specs.Timers.{IsTimers, Timers, active_timers}
 use Rattle.bytecode.specs.declared.code.Code.{Code}
 use Rattle.bytecode.specs.Machine.{Machine}
 use Rattle.bytecode.specs.Runs.{EndsIn}
 use Rattle.stack_vm.specs.declared.meter.MeterRow.{MeterRow}
 use Rattle.stack_vm.specs.Memory.{MemoryState}
 use Rattle.stack_vm.specs.Runs.{BeginsIn, IsRunRefused, Runs, TakesAll}
+use Rattle.node_rounds.proofs.MovingTimers.{valid_after}
 use Rattle.node_run.specs.Inside.Handler.{BeginsHere, RefusesHandler, RunsHandler}
 use Rattle.node_run.specs.Inside.Host.{Parts, PartsRefuse, PartsTake, parts}
 use Rattle.node_run.proofs.TaskEffects.{PartsTakeAll, come_to}
@@ -81,6 +82,14 @@ runs_along f {host} after_request meaning active moment each {code} {before} {ou
   metered = r.metered;
 }
 
+-- a refusal keeps the timers
+refusal_keeps : {B R : Type 0} (meaning : RecordMeaning R) (before : Parts B R) (effect : Effect) (after : Parts B R) → PartsRefuse meaning before effect after → after.timers ≡ before.timers
+refusal_keeps meaning before (Line text) after refused = refused.1
+refusal_keeps meaning before (Send frame) after refused = refused.1
+refusal_keeps meaning before Stop after none = absurd none
+refusal_keeps meaning before (Set timer micros cyclic) after none = absurd none
+refusal_keeps meaning before (Cancel timer) after none = absurd none
+
 -- a refused run on a host is one for its parts
 pub refused_along : {S B R : Type 0} (f : S → Parts B R) {host : HostMeaning S} (after_request : B → ℕ → FrameFields → B) (meaning : RecordMeaning R)
     (active : (s : S) → host.active_timers s ≡ active_timers (f s).timers) (moment : (s : S) → host.moment s ≡ (f s).moment)
@@ -100,7 +109,21 @@ refused_along f {host} after_request meaning active moment each refused {code} {
       r.next_effect outcome last (subst (λ m. EndsIn code (host.is_closed before) m r.start outcome last) (sym (moment before)) ends);
   refusal = elim r.refusal as (λ _. ((f after).into ≡ (f r.between).into) ⊎ PartsRefuse meaning (f r.between) r.effect (f after))
       [ inl same ↦ inl (ap (λ s. (f s).into) same) | inr gone ↦ inr (refused r.between r.effect after gone) ];
+  same_timers = elim r.refusal as (λ _. (f after).timers ≡ (f r.between).timers)
+      [ inl same ↦ ap (λ s. (f s).timers) same | inr gone ↦ refusal_keeps meaning (f r.between) r.effect (f after) (refused r.between r.effect after gone) ];
 }
+
+-- a run leaves timers settings that timers have
+pub valid_run : {B R : Type 0} {after_request : B → ℕ → FrameFields → B} {meaning : RecordMeaning R} {code : Code} {closed : Bool} {handler turns row : ℕ} {memory : MemoryState}
+    {before : Parts B R} {meter : List MeterRow} {outcome : Outcome} {memory_after : MemoryState} {after : Parts B R} {meter_after : List MeterRow}
+    → RunsHandler after_request meaning code closed handler turns row memory before meter outcome memory_after after meter_after → IsTimers before.timers → IsTimers after.timers
+valid_run {before} r valid = subst IsTimers (sym r.come_to.timers) (valid_after before.moment r.last.effects before.timers r.come_to.of_timers valid)
+
+-- and so does one that was refused
+pub valid_refused : {B R : Type 0} {after_request : B → ℕ → FrameFields → B} {meaning : RecordMeaning R} {code : Code} {closed : Bool} {handler turns : ℕ} {memory : MemoryState}
+    {before after : Parts B R} → RefusesHandler after_request meaning code closed handler turns memory before after → IsTimers before.timers → IsTimers after.timers
+valid_refused {before} r valid =
+    subst IsTimers (sym (r.same_timers ∙ r.come_to.timers)) (valid_after before.moment r.at.effects before.timers r.come_to.of_timers valid)
 
 -- parts with the same values
 pub same_parts : {B R : Type 0} {n n' m m' : ℕ} {s s' : Bool} {b b' : B} {r r' : R} {t t' : Timers}

@@ -1,9 +1,13 @@
 -- Lemmas of this crate.
 mod ActiveTimers
+mod CodeEffects
 mod DueTimers
+pub mod EachTask
 mod HostRuns
 mod MessageChoices
 mod NodeTasks
 mod Plans
 mod ProcedureTables
+mod SameMachine
+mod SentFrames
 mod TaskEffects

@@ -1,6 +1,6 @@
 -- The run of a handler by a node is its next task.
 use Rattle.std.proofs.Common.{◌≡◌, ◌-◌, ◌≤◌, arith, ℕ, ◌+◌, Bool, true, false, List, [], ◌∷◌, ◌++◌, inl, inr, ◌⊎◌, Option, None, Some, append-nil, refl, ap, sym, subst, ◌∙◌, slice_get}
-use Rattle.std.specs.Prelude.{ℤ, IsErrAnd, IsErrOf, IsSome, Result, Ok, Err}
+use Rattle.std.specs.Prelude.{◌==◌, length, ℤ, IsErrAnd, IsErrOf, IsSome, Result, Ok, Err}
 use Rattle.texts.specs.Fault.{HasRisen}
 use Rattle.vm_host.specs.declared.host.RecordFault.{RecordFault}
 use Rattle.vm_host.specs.declared.host.RecordFault.TheVariants.{Sink, NoMemory}
@@ -37,12 +37,13 @@ use Rattle.node_rounds.specs.Effects.{IsTimerEffect, halt_lines, halts, lines_of
 use Rattle.node_rounds.specs.Effects.{timers_after as effects_on}
 use Rattle.node_rounds.specs.Entries.{TakesEntries, line_entries}
 use Rattle.node_rounds.specs.Reaction.{Done, DoesProcedure, NodeState, RunEnd, is_closed, timers_at_begin, with_procedure, without_procedure}
-use Rattle.node_rounds.specs.Round.{Doing, DoesNext, Rest, Task, next_first, next_of, next_trigger, task_of}
+use Rattle.node_rounds.specs.Round.{Doing, DoesNext, Rest, Task, due_trigger, next_first, next_last, next_of, next_timer, next_trigger, task_of}
 use Rattle.node_rounds.proofs.MovingTimers.{count_at_begin}
 use Rattle.node_run.specs.Code.{CodeMemory, EndsByCode, by_code, cells_with_this, code_reaction}
 use Rattle.node_run.specs.Inside.Agenda.{IsNextTaken, next_in}
 use Rattle.node_run.specs.Inside.Handler.{BeginsHere, RefusesHandler, RunsHandler}
 use Rattle.node_run.specs.Inside.Host.{Parts, PartsRefuse, parts}
+use Rattle.node_run.proofs.SameMachine.{same_machine}
 use Rattle.node_run.specs.Node.{BeginTask, DoesTask, IsMetered, IsTaskRefused, NodeInRound}
 
 -- ---- lists
@@ -77,16 +78,6 @@ some_same : {X : Type 0} {a b : X} → Some a ≡ Some b → a ≡ b
 some_same h = cc
 
 -- ---- the machine's run
-
-same_machine : (m n : Machine) → m.place ≡ n.place → m.stack ≡ n.stack → m.calls ≡ n.calls → m.cells ≡ n.cells → m.turns ≡ n.turns → m.active ≡ n.active → m.effects ≡ n.effects → m ≡ n
-same_machine m n place stack calls cells turns active effects =
-    ap (λ (x : ℕ). record m { place = x }) place
-    ∙ ap (λ (x : List ℤ). record m { place = n.place; stack = x }) stack
-    ∙ ap (λ (x : List ℕ). record m { place = n.place; stack = n.stack; calls = x }) calls
-    ∙ ap (λ (x : List ℤ). record m { place = n.place; stack = n.stack; calls = n.calls; cells = x }) cells
-    ∙ ap (λ (x : ℕ). record m { place = n.place; stack = n.stack; calls = n.calls; cells = n.cells; turns = x }) turns
-    ∙ ap (λ (x : List Bool). record m { place = n.place; stack = n.stack; calls = n.calls; cells = n.cells; turns = n.turns; active = x }) active
-    ∙ ap (λ (x : List Effect). record n { effects = x }) effects
 
 -- two states in which one handler begins are the same
 same_start : {B R : Type 0} (code : Code) (handler turns : ℕ) (memory : MemoryState) (before : Parts B R) (start : Machine)
@@ -376,10 +367,10 @@ refused_run {B} {R} after_request meaning number node bus into meter meter_after
         refused_next (Line text) next refused = inr (
           text,
           subst (λ m. RefusesEntry meaning run.between.into (entry.Line m number text) after.into) run.come_to.moment
-              (subst (λ n. RefusesEntry meaning run.between.into (entry.Line run.between.moment n text) after.into) run.come_to.number refused),
+              (subst (λ n. RefusesEntry meaning run.between.into (entry.Line run.between.moment n text) after.into) run.come_to.number refused.0),
           line_next node run.at.effects text (begins (run.at.effects ++ Line text ∷ []) next),
         )
-        refused_next (Send frame) next same = inl same
+        refused_next (Send frame) next refused = inl refused.0
         refused_next Stop next none = absurd none
         refused_next (Set timer micros cyclic) next none = absurd none
         refused_next (Cancel timer) next none = absurd none
@@ -450,6 +441,32 @@ not_halted node view is_view some =
     running : (due : Option Trigger) (rest : Rest) (b : Bool) → IsSome (next_trigger b due rest) → b ≡ false
     running due rest false some = refl
     running due rest true some = absurd (cc)
+
+-- ---- what is left
+
+left_last : (rest : Rest) (last : List Trigger) → (length last == 0) ≡ false → IsSome (next_last rest last)
+left_last rest [] some = absurd (cc)
+left_last rest (trigger ∷ triggers) some = refl
+
+left_timer : (rest : Rest) (due : Option Trigger) → (length rest.last == 0) ≡ false → IsSome (next_timer rest due)
+left_timer rest None some = left_last rest rest.last some
+left_timer rest (Some trigger) some = refl
+
+left_by : (rest : Rest) (due : Option Trigger) (first : List Trigger) (asks : Bool) → ((length first == 0) ≡ false) ⊎ ((length rest.last == 0) ≡ false)
+    → IsSome (next_first (record rest { asks_timers = asks }) due first)
+left_by rest due (trigger ∷ triggers) asks some = refl
+left_by rest due [] true (inl some) = absurd (cc)
+left_by rest due [] false (inl some) = absurd (cc)
+left_by rest due [] true (inr some) = left_timer (record rest { asks_timers = true }) due some
+left_by rest due [] false (inr some) = left_last (record rest { asks_timers = false }) rest.last some
+
+-- a node that is not halted has a task where a trigger is left
+pub is_left : (node view : NodeInRound) → view ≡ node → view.doing.node.is_halted ≡ false
+    → ((length view.doing.rest.first == 0) ≡ false) ⊎ ((length view.doing.rest.last == 0) ≡ false) → IsSome (next_of code_reaction node.moment node.doing)
+is_left node view is_view running some =
+    subst (λ n. IsSome (next_of code_reaction n.moment n.doing)) is_view
+    (subst (λ b. IsSome (next_trigger b (due_trigger code_reaction view.doing.node view.moment) view.doing.rest)) (sym running)
+    (left_by view.doing.rest (due_trigger code_reaction view.doing.node view.moment) view.doing.rest.first view.doing.rest.asks_timers some))
 
 -- ---- faults
 

@@ -95,7 +95,7 @@ planned_events events Moment seen keys = record { first = planned_frame events s
 planned_events events Stop seen keys = record { first = planned_triggers events happens.Stop tt; last = All-nil (IsPlanned (length events)) }
 
 -- there are as many events as handlers
-length-events : (handlers : List Handler) → length (events_of handlers) ≡ length handlers
+pub length-events : (handlers : List Handler) → length (events_of handlers) ≡ length handlers
 length-events [] = refl
 length-events (handler ∷ handlers) = ap suc (length-events handlers)
 

@@ -2,3 +2,4 @@
 pub mod Code
 pub mod Inside
 pub mod Node
+pub mod Sound

@@ -3,7 +3,7 @@
 ghost use Rattle.std.specs.Prelude.{◌≡◌, ◌<◌, ◌≤◌, ◌^◌, ◌↔◌, ◌⊎◌, [], false, IsTrue, IsSome, IsNone, is_some, IfOk, IfSome, OnOk, OnErr, IsErrOf, length, option_to_list};
 ghost use Rattle.std.specs.Option.{option_copied};
 ghost use Rattle.run_records.specs.Record.{RecordFaultsRise};
-ghost use Rattle.timer_queue.specs.Timers.{first_due};
+ghost use Rattle.timer_queue.specs.Timers.{IsTimers, first_due};
 ghost use Rattle.stack_vm.specs.Memory.{StaysMemory};
 ghost use Rattle.node_rounds.specs.Effects.{halt_lines};
 ghost use Rattle.node_rounds.specs.Reaction.{is_closed, next_due};
@@ -94,6 +94,7 @@ impl Model for Node {
 impl Node {
     ghost use Rattle.node_run.specs.Code.{code_reaction};
     ghost use Rattle.node_run.specs.Node.{DoesTask, HasRows, IsTaskRefused, loaded};
+    ghost use Rattle.node_run.specs.Sound.{IsSound};
 
     /// A node that runs this code: not halted, with the initial values in its cells, no active timer, and
     /// nothing to do. The rows of its handlers in a meter stand from `first_row` on, and each of its tasks
@@ -106,7 +107,8 @@ impl Node {
         first_row: usize,
         turns: u64,
     ) -> Result<Node, NoMemory>
-        ensures { IfOk result (λ node. node ≡ loaded code first_row turns) }
+        ensures loaded { IfOk result (λ node. node ≡ loaded code first_row turns) }
+        ensures sound { IfOk result (λ node. IsSound node.doing.node) }
     {
         let timers = count(code.code().timers.len())?;
         let handlers = code.code().handlers.len();
@@ -234,6 +236,7 @@ impl Node {
         ensures code_stays { self.new.doing.node.memory.code ≡ self.old.doing.node.memory.code }
         ensures row_stays { self.new.first_row ≡ self.old.first_row }
         ensures as_many_rows { length meter.new ≡ length meter.old }
+        ensures sound { IsSound self.new.doing.node }
     {
         let now = self.moment;
         let trigger = take_next(&mut self.rest, &mut self.timers, &self.procedures, now).unwrap();
@@ -294,6 +297,7 @@ fn take_next(
     ensures next { IsNextTaken procedures.now.handlers rest.old timers.old now result rest.new timers.new }
     ensures planned { IsPlan (length procedures.now.handlers) rest.new }
     ensures as_many { timers.new.count ≡ timers.old.count }
+    ensures valid { IsTimers timers.old → IsTimers timers.new }
     ensures exists { IfSome result (λ trigger.
         IfSome trigger.procedure (λ handler. handler < length procedures.now.handlers)) }
 {

@@ -3,6 +3,7 @@
 ghost use Rattle.std.specs.Prelude.{◌≡◌, ◌<◌, ◌≤◌, ◌^◌, ℕ, Bool, false, length, IfOk, OnErr, IsErrOf};
 ghost use Rattle.bytecode.specs.declared.code.Code.{Code};
 ghost use Rattle.run_records.specs.Record.{RecordFaultsRise};
+ghost use Rattle.timer_queue.specs.Timers.{IsTimers};
 ghost use Rattle.stack_vm.specs.Memory.{IsMemoryOf};
 ghost use Rattle.node_run.specs.Inside.Handler.{RefusesHandler, RunsHandler};
 ghost use Rattle.node_run.specs.Inside.Host.{parts};
@@ -53,6 +54,7 @@ fn run_on<'a, B: Bus, R: Record>(
         RecordFaultsRise R.meaning host.old.into.now host.new.into.now }
     ensures faults_stay { R.meaning.faults host.old.into.now ≤ R.meaning.faults host.new.into.now }
     ensures as_many { host.new.timers.now.count ≡ host.old.timers.now.count }
+    ensures valid { IsTimers host.old.timers.now → IsTimers host.new.timers.now }
 {
     let outcome = run(code, handler, memory, host, turns, meter, row)?;
     Ok(outcome)
@@ -92,6 +94,7 @@ pub(crate) fn run_handler<B: Bus, R: Record>(
     ensures sink { IsErrOf result RecordFault.Sink → RecordFaultsRise R.meaning into.old into.new }
     ensures faults_stay { R.meaning.faults into.old ≤ R.meaning.faults into.new }
     ensures as_many { timers.new.count ≡ timers.old.count }
+    ensures valid { IsTimers timers.old → IsTimers timers.new }
 {
     let mut host = NodeHost::new(number, now, closed, bus, into, timers);
     let outcome = run_on(code, handler, memory, &mut host, turns, meter, row)?;

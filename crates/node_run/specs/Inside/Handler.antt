@@ -51,3 +51,4 @@ pub record RefusesHandler {B R : Type 0} (after_request : B → ℕ → FrameFie
       EndsIn code closed before.moment start outcome last →
       BeginsWith last.effects (at.effects ++ effect ∷ [])
   pub refusal : (after.into ≡ between.into) ⊎ PartsRefuse meaning between effect after
+  pub same_timers : after.timers ≡ between.timers

@@ -37,11 +37,13 @@ PartsTake {B} {R} after_request meaning before effect after =
     × (after ≡ record before { timers = timers_after_one before.moment before.timers effect })
 
 -- how the record stands after parts refused an effect: it refused exactly this line, or stands as it was
--- where a frame was refused; nothing else is refused
+-- where a frame was refused; nothing else is refused, and the timers are the same
 abbrev pub PartsRefuse : {B R : Type 0} → RecordMeaning R → Parts B R → Effect → Parts B R → Type 0
 PartsRefuse {B} {R} meaning before (Line text) after =
     RefusesEntry meaning before.into (entry.Line before.moment before.number text) after.into
-PartsRefuse {B} {R} meaning before (Send frame) after = after.into ≡ before.into
+    × (after.timers ≡ before.timers)
+PartsRefuse {B} {R} meaning before (Send frame) after =
+    (after.into ≡ before.into) × (after.timers ≡ before.timers)
 PartsRefuse {B} {R} meaning before effect after = ⊥
 
 -- what parts come to by effects in order

@@ -8,8 +8,10 @@ pub invariant_of-self : goal.invariant_of-self
 invariant_of-self c =
     let handlers = c.self.inside.procedures.handlers in
     record {
+      verified = c.self.invariant.verified;
       memory_of = c.self.invariant.memory_of;
       as_many = c.self.invariant.as_many;
+      valid = c.self.invariant.valid;
       numbered = c.self.invariant.numbered;
       rows = c.self.invariant.rows;
       in_time = c.requires.in_time;

@@ -1,0 +1,13 @@
+-- Lemmas of this crate; crates above use them.
+pub mod DueTimers
+pub mod DueTasks
+pub mod Occurring
+pub mod EachPart
+pub mod EachRun
+pub mod OrderLemmas
+pub mod RunsFollow
+pub mod Once
+pub mod OneRun
+pub mod Meters
+pub mod DoneLemmas
+pub mod Counts
