@@ -1,151 +1,323 @@
--- Rounds and instants of node 0 by its code.
-use Rattle.std.proofs.Common.{◌≡◌, ℕ, inr, Bool, List, [], ◌∷◌, ◌++◌, Option, refl, ap, sym, subst, ◌∙◌}
-use Rattle.can_frame.specs.Frame.{FrameFields}
-use Rattle.can_bus.specs.declared.bus.Ended.{Ended}
+-- Instants: what their rounds, and what comes after them, make of a simulation and leave in a record and a meter.
+use Rattle.std.proofs.Common.{◌≡◌, ◌≢◌, ℕ, ◌<◌, ◌≤◌, ◌^◌, inl, inr, false, List, [], ◌∷◌, length, None, Some, All, refl, ap, sym, subst, ◌∙◌, arith}
+use Rattle.std.specs.List.{AllByRecursion}
+use Rattle.std.proofs.lemmas.List.{append-nil}
+use Rattle.std.proofs.lemmas.List.Elements.{All-nil}
+use Rattle.can_bus.specs.Laws.{DueLater, DueLaterFromNothing, FramesCome, SoundStays}
 use Rattle.can_bus.specs.Meaning.{BusMeaning}
-use Rattle.run_records.specs.declared.record.Noted.{Noted}
-use Rattle.run_records.specs.Record.{RecordMeaning, RefusesEntry}
-use Rattle.bytecode.specs.Laws.{BeginsWith}
+use Rattle.run_records.specs.Record.{RecordMeaning}
 use Rattle.stack_vm.specs.declared.meter.MeterRow.{MeterRow}
-use Rattle.scenario.specs.declared.scenario.KeyItem.{KeyItem}
-use Rattle.node_rounds.specs.declared.round.Round.{Round}
-use Rattle.node_rounds.specs.declared.round.Round.TheVariants.{Moment}
-use Rattle.node_rounds.specs.declared.round.Seen.{Seen}
-use Rattle.node_rounds.specs.Entries.{TakesEntries}
+use Rattle.node_rounds.specs.declared.occurrence.Occurrence.TheVariants as happens
+use Rattle.node_rounds.specs.declared.round.Round.TheVariants as round
 use Rattle.node_rounds.specs.Reaction.{NodeState}
-use Rattle.node_rounds.specs.Round.{IsDone, IsPart, Task, at_begin}
-use Rattle.node_run.specs.Code.{CodeMemory, code_reaction}
+use Rattle.node_rounds.specs.Round.{Task}
+use Rattle.node_run.specs.Code.{CodeMemory, by_code, code_reaction}
 use Rattle.node_run.specs.Node.{NodeInRound}
-use Rattle.sim_core.specs.Bus.{after_tasks}
-use Rattle.sim_core.specs.Entries.{frame_entries, task_entries}
-use Rattle.sim_core.specs.Faults.{AddsAtMost}
-use Rattle.sim_core.specs.Moments.{keys_at}
-use Rattle.sim_core.specs.Run.{seen_by}
-use Rattle.sim_core.specs.Inside.Rounds.{DoesInstant, DoesPart, IsInstantRefused, IsRoundRefused}
-use Rattle.sim_core.specs.Inside.Tasks.{BeginPart, HasDone, IsPartRefused}
-use Rattle.sim_core.proofs.Meters.{adds_none, at_most_more}
-use Rattle.sim_core.proofs.Prefixes.{begins_behind, leads_all, nothing_begins, takes_first_behind, takes_more, takes_nothing}
+use Rattle.node_run.specs.Sound.{CanOccur, IsSound}
+use Rattle.run_meaning.specs.Done.{AreCut, AreDone}
+use Rattle.run_meaning.specs.Live.{IsReady, Stands}
+use Rattle.run_meaning.specs.Moments.{keys_at}
+use Rattle.run_meaning.specs.Order.{picks_after}
+use Rattle.run_meaning.specs.Run.{AreRounds, IsBegun, IsInstant, IsRound, Passed, RunState, new_run, next_moment, quiet_round, settled}
+use Rattle.run_meaning.specs.Steps.{Step, steps, task_steps}
+use Rattle.run_meaning.proofs.DoneLemmas.{cut_at_none, cut_before, cut_more, done_more}
+use Rattle.run_meaning.proofs.EachRun.{begun_stands, begun_there, instant_stands, ready_at, round_ready, round_there}
+use Rattle.run_meaning.proofs.Occurring.{keys_at_can}
+use Rattle.sim_core.specs.Core.{CoreState, DoesInstant, IsInstantCut, KeepsCore, KeepsNodes, rows_of, run_of, states_of}
+use Rattle.sim_core.specs.declared.simulation.Phase.{Phase}
+use Rattle.sim_core.specs.declared.simulation.Phase.TheVariants.{Going, New, Over}
+use Rattle.sim_core.specs.Inside.Kept.{IsAtRest, IsCore, IsFresh, IsIdle}
+use Rattle.sim_core.specs.Inside.Rounds.{AreRoundsCut, DoesRound, DoesRounds, IsRoundCut, StaysInRound}
+use Rattle.sim_core.proofs.CodeLives.{code_lives}
 
--- a node at the beginning of a round
-abbrev pub begun_at : Round → ℕ → Option Seen → List ℕ → NodeInRound → NodeInRound
-begun_at round now seen keys node = record node { moment = now; doing = at_begin code_reaction round seen keys node.doing.node }
+-- ---- steps
 
--- nothing was done
-pub nothing_added : (first_row : ℕ) (tasks : List Task) (meter : List MeterRow) → AddsAtMost first_row tasks meter meter
-nothing_added first_row tasks meter = at_most_more first_row [] tasks meter meter (adds_none first_row meter)
+-- equal steps, of nodes with equal rows, were done
+pub done_as : {R : Type 0} {meaning : RecordMeaning R} {rows others : List ℕ} {xs ys : List Step} {into into_after : R} {meter meter_after : List MeterRow} → rows ≡ others → xs ≡ ys
+    → AreDone meaning rows xs into into_after meter meter_after → AreDone meaning others ys into into_after meter meter_after
+done_as {meaning} {others} {xs} {into} {into_after} {meter} {meter_after} same are done =
+    subst (λ (zs : List Step). AreDone meaning others zs into into_after meter meter_after) are
+    (subst (λ (rs : List ℕ). AreDone meaning rs xs into into_after meter meter_after) same done)
 
--- a round that did not begin
-pub round_not_begun : {R : Type 0} (meaning : RecordMeaning R) (round : Round) (now : ℕ) (seen : Option Seen) (keys : List ℕ) (first_row : ℕ) (node : NodeState CodeMemory) (into : R) (meter : List MeterRow)
-    → IsRoundRefused meaning round now seen keys first_row node into into meter meter
-round_not_begun meaning round now seen keys first_row node into meter = record {
-  takes = takes_nothing meaning (λ taken. (tasks : List Task) (after : NodeState CodeMemory) → IsPart code_reaction round now seen keys node tasks after → BeginsWith (task_entries now 0 tasks) taken) into
-      (λ tasks after part. nothing_begins (task_entries now 0 tasks));
-  metered = λ tasks after part. nothing_added first_row tasks meter;
+-- equal steps, of nodes with equal rows, were cut
+pub cut_as : {R : Type 0} {meaning : RecordMeaning R} {rows others : List ℕ} {xs ys : List Step} {into into_after : R} {meter meter_after : List MeterRow} → rows ≡ others → xs ≡ ys
+    → AreCut meaning rows xs into into_after meter meter_after → AreCut meaning others ys into into_after meter meter_after
+cut_as {meaning} {others} {xs} {into} {into_after} {meter} {meter_after} same are cut =
+    subst (λ (zs : List Step). AreCut meaning others zs into into_after meter meter_after) are
+    (subst (λ (rs : List ℕ). AreCut meaning rs xs into into_after meter meter_after) same cut)
+
+-- a fault behind all steps
+pub cut_at_end : {R : Type 0} {meaning : RecordMeaning R} {rows : List ℕ} {xs : List Step} {into into_after : R} {meter meter_after : List MeterRow}
+    → AreDone meaning rows xs into into_after meter meter_after → AreCut meaning rows xs into into_after meter meter_after
+cut_at_end {meaning} {rows} {xs} {into} {into_after} {meter} {meter_after} done =
+    subst (λ (zs : List Step). AreCut meaning rows zs into into_after meter meter_after) (append-nil xs) (cut_more done (cut_at_none []))
+
+-- the steps of a round with no frame that ended are those of its tasks
+pub quiet_steps : (now : ℕ) (tasks : List (List Task)) (picks : List ℕ) → task_steps now tasks picks ≡ steps (quiet_round now tasks ∷ []) picks
+quiet_steps now tasks picks = sym (append-nil (task_steps now tasks picks))
+
+-- ---- phases
+
+-- a simulation to which a fault may come at any time
+abbrev pub over : {B : Type 0} → CoreState B → CoreState B
+over {B} core = record core { phase = Over }
+
+-- a simulation that goes on to further instants
+abbrev pub going : {B : Type 0} → CoreState B → CoreState B
+going {B} core = record core { phase = Going }
+
+-- a simulation that goes on is not over
+pub going_not_over : (phase : Phase) → phase ≡ Going → phase ≢ Over
+going_not_over phase is_going is_over = absurd (let f : Going ≡ Over = sym is_going ∙ is_over in cc)
+
+-- nor is a new one
+pub new_not_over : (phase : Phase) → phase ≡ New → phase ≢ Over
+new_not_over phase is_new is_over = absurd (let f : New ≡ Over = sym is_new ∙ is_over in cc)
+
+-- what a simulation keeps that stands between two instants
+pub stands_core : {B : Type 0} (bus : BusMeaning B) (core : CoreState B) → All IsIdle core.nodes → length core.nodes < bus.nodes core.bus → length core.nodes < 2 ^ 32 → core.until ≤ 2 ^ 63
+    → core.moment ≤ core.until → Stands IsSound CanOccur bus (run_of core) → IsCore bus (going core)
+stands_core bus core idle serves few in_time not_past stands = record {
+  idle = λ _. idle;
+  serves = λ _. serves;
+  fresh = λ is_new. absurd (let f : Going ≡ New = is_new in cc);
+  stands = λ _. stands;
+  few = few;
+  in_time = in_time;
+  not_past = not_past;
 }
 
--- all tasks of a round are the node's part
-pub round_done : {B R : Type 0} (after_request : B → ℕ → FrameFields → B) (meaning : RecordMeaning R) (round : Round) (now : ℕ) (seen : Option Seen) (keys : List ℕ) (node begun : NodeInRound) (bus : B) (into : R)
-    (meter : List MeterRow) (stops : Bool) (after : NodeInRound) (bus_after : B) (into_after : R) (meter_after : List MeterRow) → begun ≡ begun_at round now seen keys node
-    → HasDone after_request meaning begun bus into meter stops after bus_after into_after meter_after → IsDone code_reaction after.moment after.doing
-    → DoesPart after_request meaning round now seen keys node.first_row node.doing.node bus into meter stops after.doing.node bus_after into_after meter_after
-round_done after_request meaning round now seen keys node begun bus into meter stops after bus_after into_after meter_after is done is_done =
-    let own : HasDone after_request meaning (begun_at round now seen keys node) bus into meter stops after bus_after into_after meter_after
-    = subst (λ n. HasDone after_request meaning n bus into meter stops after bus_after into_after meter_after) is done in
-    record {
-      tasks = own.tasks;
-      part = record {
-        end = after.doing;
-        part = leads_all now (at_begin code_reaction round seen keys node.doing.node) own.tasks after.doing own.leads (subst (λ m. IsDone code_reaction m after.doing) own.same_moment is_done);
-        stands = refl;
-      };
-      lines = own.lines;
-      requests = own.requests;
-      stops_are = own.stops_are;
-      metered = own.metered;
+-- nodes that a round kept, and that stay, are kept
+pub keeps_same : {B : Type 0} (before between after : CoreState B) → KeepsCore before between → after.nodes ≡ between.nodes → after.until ≡ between.until → KeepsCore before after
+keeps_same before between after keeps nodes until =
+    record { nodes = subst (KeepsNodes before.nodes) (sym nodes) keeps.nodes; until = until ∙ keeps.until }
+
+-- ---- a further instant
+
+module _ {B : Type 0} (bus : BusMeaning B) where
+  -- the rounds at the next moment, and what comes after them, are an instant
+  pub instant_by : (before : CoreState B) (now : ℕ) (passed : List Passed) (end : RunState (NodeState CodeMemory) B) → before.stops ≡ false
+      → next_moment code_reaction bus (run_of before) ≡ Some now → now ≤ before.until → AreRounds code_reaction bus now (run_of before) passed end
+      → IsInstant code_reaction bus before.until (run_of before) passed (settled bus end)
+  instant_by before now passed end alive next in_time are =
+      record { moment = now; end = end; not_stopped = alive; is_next = next; in_time = in_time; are_rounds = are; stands = refl }
+
+  module _ {R : Type 0} (meaning : RecordMeaning R) (before : CoreState B) (now : ℕ) (into : R) (meter : List MeterRow) (is_going : before.phase ≡ Going) (alive : before.stops ≡ false)
+      (next : next_moment code_reaction bus (run_of before) ≡ Some now) (in_time : now ≤ before.until) where
+    -- its rounds were cut
+    pub instant_cut : (into_after : R) (meter_after : List MeterRow) → AreRoundsCut meaning (AreRounds code_reaction bus now (run_of before)) (over before) into into_after meter meter_after
+        → IsInstantCut bus meaning before into into_after meter meter_after
+    instant_cut into_after meter_after cut = record {
+      rounds = cut.rounds;
+      after = settled bus cut.after;
+      is_next = inr (is_going, instant_by before now cut.rounds cut.after alive next in_time cut.is);
+      cut = cut.cut;
     }
 
--- a refused part of a node that began a round
-pub round_refused : {R : Type 0} (meaning : RecordMeaning R) (round : Round) (now : ℕ) (seen : Option Seen) (keys : List ℕ) (node begun : NodeInRound) (into into_after : R) (meter meter_after : List MeterRow)
-    → begun ≡ begun_at round now seen keys node → IsPartRefused meaning begun into into_after meter meter_after
-    → IsRoundRefused meaning round now seen keys node.first_row node.doing.node into into_after meter meter_after
-round_refused meaning round now seen keys node begun into into_after meter meter_after is refused =
-    let own : IsPartRefused meaning (begun_at round now seen keys node) into into_after meter meter_after = subst (λ n. IsPartRefused meaning n into into_after meter meter_after) is refused in
-    record {
-      takes = takes_first_behind meaning (BeginPart (begun_at round now seen keys node))
-          (λ taken. (tasks : List Task) (after : NodeState CodeMemory) → IsPart code_reaction round now seen keys node.doing.node tasks after → BeginsWith (task_entries now 0 tasks) taken)
-          [] into into into_after refl (λ xs first tasks after part. first tasks part.end part.part) own.takes;
-      metered = λ tasks after part. own.metered tasks part.end part.part;
+    module _ (between : CoreState B) (into_after : R) (meter_after : List MeterRow)
+        (rounds : DoesRounds meaning (AreRounds code_reaction bus now (run_of before)) (over before) into meter between into_after meter_after) where
+      -- a fault came after its rounds
+      pub instant_cut_after : IsInstantCut bus meaning before into into_after meter meter_after
+      instant_cut_after = record {
+        rounds = rounds.rounds;
+        after = settled bus (run_of between);
+        is_next = inr (is_going, instant_by before now rounds.rounds (run_of between) alive next in_time rounds.is);
+        cut = cut_at_end rounds.done;
+      }
+
+      -- so the run stands once all is settled
+      pub instant_is : (after : CoreState B) → run_of after ≡ settled bus (run_of between) → IsInstant code_reaction bus before.until (run_of before) rounds.rounds (run_of after)
+      instant_is after settles =
+          subst (IsInstant code_reaction bus before.until (run_of before) rounds.rounds) (sym settles) (instant_by before now rounds.rounds (run_of between) alive next in_time rounds.is)
+
+      -- it was done
+      pub instant_done : (after : CoreState B) → run_of after ≡ settled bus (run_of between) → after.nodes ≡ between.nodes → after.picks ≡ between.picks → after.until ≡ between.until
+          → KeepsCore (over before) between → DoesInstant bus meaning before into meter (going after) into_after meter_after
+      instant_done after settles nodes picks until keeps =
+          let kept = keeps_same (over before) between after keeps nodes until in
+          record {
+            rounds = rounds.rounds;
+            is_next = inr (is_going, instant_is after settles);
+            done = rounds.done;
+            picks = picks ∙ rounds.picks;
+            goes = refl;
+            keeps = record { nodes = kept.nodes; until = kept.until };
+          }
+
+module _ {B : Type 0} (bus : BusMeaning B) (come : FramesCome bus) where
+  -- a simulation is at rest at the next moment of its run
+  pub next_rest : (core : CoreState B) (now : ℕ) → IsCore bus core → core.phase ≡ Going → next_moment code_reaction bus (run_of core) ≡ Some now → IsAtRest bus now (over core)
+  next_rest core now is is_going next =
+      let stands = is.stands is_going in
+      record {
+        idle = is.idle (going_not_over core.phase is_going);
+        ready = (ready_at by_code IsSound CanOccur code_lives bus come (run_of core) now stands next).0;
+        serves = is.serves (going_not_over core.phase is_going);
+        frames = stands.frames;
+      }
+
+  -- what a simulation keeps after an instant
+  pub instant_core : SoundStays bus → DueLater bus → DueLaterFromNothing bus → (before after : CoreState B) (passed : List Passed) → IsCore bus before → before.phase ≡ Going
+      → IsInstant code_reaction bus before.until (run_of before) passed (run_of after) → All IsIdle after.nodes → length after.nodes < bus.nodes after.bus → length after.nodes < 2 ^ 32
+      → after.until ≡ before.until → IsCore bus (going after)
+  instant_core stays goes_on begins before after passed is is_going instant idle serves few until =
+      let known = instant_stands by_code IsSound CanOccur code_lives bus come stays goes_on begins before.until (run_of before) passed (run_of after) (is.stands is_going) instant in
+      let in_time = known.2 in
+      let bound = is.in_time in
+      stands_core bus after idle serves few (omega (arith, until, bound)) (omega (arith, until, in_time)) known.0
+
+-- ---- the instant at moment 0
+
+-- how the run of a simulation stands of which nothing has happened yet
+pub fresh_is_new : {B : Type 0} (bus : BusMeaning B) (core : CoreState B) → IsFresh bus core → run_of core ≡ new_run (states_of core.nodes) core.bus core.keys core.requests
+fresh_is_new bus core fresh =
+    ap (λ now. record { nodes = states_of core.nodes; bus = core.bus; keys = core.keys; requests = core.requests; moment = now; stops = core.stops }) fresh.at_zero
+    ∙ ap (λ stops. record { nodes = states_of core.nodes; bus = core.bus; keys = core.keys; requests = core.requests; moment = 0; stops = stops }) fresh.not_stopped
+
+-- nodes that two rounds kept
+pub keeps_both : (before between after : List NodeInRound) → KeepsNodes before between → KeepsNodes between after → KeepsNodes before after
+keeps_both before between after first second = record { rows = second.rows ∙ first.rows; codes = second.codes ∙ first.codes }
+
+module _ {B : Type 0} (bus : BusMeaning B) (come : FramesCome bus) (core : CoreState B) where
+  -- it is at rest
+  pub fresh_rest : IsCore bus core → core.phase ≡ New → IsAtRest bus core.moment (over core)
+  fresh_rest is is_new =
+      let fresh = is.fresh is_new in
+      record {
+        idle = is.idle (new_not_over core.phase is_new);
+        ready = subst (λ now. AllByRecursion (IsReady IsSound now) (states_of core.nodes)) (sym fresh.at_zero) fresh.ready;
+        serves = is.serves (new_not_over core.phase is_new);
+        frames = fresh.frames;
+      }
+
+  module _ (fresh : IsFresh bus core) where
+    -- two rounds, and what comes after them, are its beginning
+    pub begun_by : (before_start : List (List Task)) (between : RunState (NodeState CodeMemory) B) (start : List (List Task)) (end : RunState (NodeState CodeMemory) B)
+        → IsRound code_reaction bus round.PreStart None [] (run_of core) before_start between → IsRound code_reaction bus round.Start None (keys_at 0 core.keys) between start end
+        → IsBegun code_reaction bus (run_of core) (quiet_round 0 before_start ∷ quiet_round 0 start ∷ []) (settled bus end)
+    begun_by before_start between start end first second = record {
+      is_new = fresh_is_new bus core fresh;
+      before_start = before_start;
+      between = between;
+      start = start;
+      end = end;
+      pre_starts = first;
+      starts = second;
+      stands = refl;
+      are = refl;
     }
 
--- ---- instants
+    -- it has a beginning
+    pub begins : (passed : List Passed) × (after : RunState (NodeState CodeMemory) B) × IsBegun code_reaction bus (run_of core) passed after
+    begins =
+        subst (λ s. (passed : List Passed) × (after : RunState (NodeState CodeMemory) B) × IsBegun code_reaction bus s passed after) (sym (fresh_is_new bus core fresh))
+        (begun_there by_code IsSound CanOccur code_lives bus come (states_of core.nodes) core.bus core.keys core.requests fresh.keys_can fresh.ready)
 
--- entries that begin those of an instant
-abbrev pub BeginInstant : {B : Type 0} → BusMeaning B → ℕ → List KeyItem → NodeState CodeMemory → B → List Noted → Type 0
-BeginInstant {B} bus_is now keys node bus taken = (tasks : List Task) (after : NodeState CodeMemory)
-    → IsPart code_reaction Moment now (seen_by 0 (bus_is.ended bus now)) (keys_at now keys) node tasks after
-    → BeginsWith (frame_entries now (bus_is.ended bus now) ++ task_entries now 0 tasks) taken
+    -- and so it stands after it
+    pub fresh_stands : SoundStays bus → DueLater bus → DueLaterFromNothing bus → (passed : List Passed) (after : RunState (NodeState CodeMemory) B)
+        → IsBegun code_reaction bus (run_of core) passed after → Stands IsSound CanOccur bus after × (after.moment ≡ 0)
+    fresh_stands stays goes_on from_nothing passed after is =
+        begun_stands by_code IsSound CanOccur code_lives bus come stays goes_on from_nothing (states_of core.nodes) core.bus core.keys core.requests passed after
+        fresh.ready fresh.later fresh.sound_bus fresh.new_bus fresh.keys_can fresh.requests_can fresh.frames
+        (subst (λ s. IsBegun code_reaction bus s passed after) (fresh_is_new bus core fresh) is)
 
--- an instant in which nothing was done
-pub instant_not_begun : {B R : Type 0} (bus_is : BusMeaning B) (meaning : RecordMeaning R) (now : ℕ) (keys : List KeyItem) (first_row : ℕ) (node : NodeState CodeMemory) (bus : B) (into : R) (meter : List MeterRow)
-    → IsInstantRefused bus_is meaning now keys first_row node bus into into meter meter
-instant_not_begun bus_is meaning now keys first_row node bus into meter = record {
-  takes = takes_nothing meaning (BeginInstant bus_is now keys node bus) into (λ tasks after part. nothing_begins (frame_entries now (bus_is.ended bus now) ++ task_entries now 0 tasks));
-  metered = λ tasks after part. nothing_added first_row tasks meter;
-}
+    -- the keys of its first moment can be pressed
+    pub first_keys_can : All (λ key. CanOccur (happens.Key key)) (keys_at 0 core.keys)
+    first_keys_can = keys_at_can CanOccur 0 core.keys fresh.keys_can
 
--- an instant whose frame was refused
-pub frame_refused : {B R : Type 0} (bus_is : BusMeaning B) (meaning : RecordMeaning R) (now : ℕ) (keys : List KeyItem) (first_row : ℕ) (node : NodeState CodeMemory) (bus : B) (into into_after : R) (meter : List MeterRow)
-    (ended : Option Ended) → ended ≡ bus_is.ended bus now → (noted : Noted) × (frame_entries now ended ≡ noted ∷ []) × RefusesEntry meaning into noted into_after
-    → IsInstantRefused bus_is meaning now keys first_row node bus into into_after meter meter
-frame_refused bus_is meaning now keys first_row node bus into into_after meter ended is refused = record {
-  takes = record {
-    taken = [];
-    between = into;
-    are_first = λ tasks after part. nothing_begins (frame_entries now (bus_is.ended bus now) ++ task_entries now 0 tasks);
-    took = refl;
-    refusal = inr (
-      refused.0,
-      refused.2,
-      λ tasks after part.
-          (task_entries now 0 tasks, ap (λ (es : List Noted). es ++ task_entries now 0 tasks) (ap (frame_entries now) (sym is) ∙ refused.1)),
-    );
-  };
-  metered = λ tasks after part. nothing_added first_row tasks meter;
-}
+    module _ {R : Type 0} (meaning : RecordMeaning R) (is_new : core.phase ≡ New) (into : R) (meter : List MeterRow) where
+      -- no round was begun
+      pub begin_cut_first : IsInstantCut bus meaning core into into meter meter
+      begin_cut_first = record {
+        rounds = begins.0;
+        after = begins.1;
+        is_next = inl (is_new, begins.2);
+        cut = cut_at_none (steps begins.0 core.picks);
+      }
 
--- an instant whose tasks were refused
-pub instant_refused : {B R : Type 0} (bus_is : BusMeaning B) (meaning : RecordMeaning R) (now : ℕ) (keys : List KeyItem) (first_row : ℕ) (node : NodeState CodeMemory) (bus : B) (into between into_after : R)
-    (meter meter_after : List MeterRow) (ended : Option Ended) (seen : Option Seen) (pressed : List ℕ) → ended ≡ bus_is.ended bus now → seen ≡ seen_by 0 ended → pressed ≡ keys_at now keys
-    → TakesEntries meaning into (frame_entries now ended) between → IsRoundRefused meaning Moment now seen pressed first_row node between into_after meter meter_after
-    → IsInstantRefused bus_is meaning now keys first_row node bus into into_after meter meter_after
-instant_refused bus_is meaning now keys first_row node bus into between into_after meter meter_after ended seen pressed is sees presses took refused =
-    let own : IsRoundRefused meaning Moment now (seen_by 0 (bus_is.ended bus now)) (keys_at now keys) first_row node between into_after meter meter_after
-    = subst (λ s. IsRoundRefused meaning Moment now s (keys_at now keys) first_row node between into_after meter meter_after) (sees ∙ ap (seen_by 0) is)
-    (subst (λ p. IsRoundRefused meaning Moment now seen p first_row node between into_after meter meter_after) presses refused) in
-    record {
-      takes = takes_first_behind meaning
-          (λ taken. (tasks : List Task) (after : NodeState CodeMemory) → IsPart code_reaction Moment now (seen_by 0 (bus_is.ended bus now)) (keys_at now keys) node tasks after
-          → BeginsWith (task_entries now 0 tasks) taken)
-          (BeginInstant bus_is now keys node bus) (frame_entries now (bus_is.ended bus now)) into between into_after
-          (subst (λ e. TakesEntries meaning into (frame_entries now e) between) is took)
-          (λ xs first tasks after part. begins_behind (frame_entries now (bus_is.ended bus now)) (task_entries now 0 tasks) xs (first tasks after part)) own.takes;
-      metered = own.metered;
-    }
+      -- the round before the start was cut
+      pub begin_cut : (into_after : R) (meter_after : List MeterRow) → IsRoundCut bus meaning round.PreStart None [] (over core) into into_after meter meter_after
+          → IsInstantCut bus meaning core into into_after meter meter_after
+      begin_cut into_after meter_after cut =
+          let none_can = All-nil (λ key. CanOccur (happens.Key key)) in
+          let ready = subst (λ now. AllByRecursion (IsReady IsSound now) (states_of core.nodes)) (sym fresh.at_zero) fresh.ready in
+          let leaves = (round_ready by_code IsSound CanOccur code_lives bus come round.PreStart None [] (run_of core) cut.tasks cut.after tt none_can ready cut.is_round).0 in
+          let start = round_there by_code IsSound CanOccur code_lives bus come round.Start None (keys_at 0 core.keys) cut.after tt first_keys_can leaves.ready in
+          record {
+            rounds = quiet_round 0 cut.tasks ∷ quiet_round 0 start.0 ∷ [];
+            after = settled bus start.1;
+            is_next = inl (is_new, begun_by cut.tasks cut.after start.0 start.1 cut.is_round start.2);
+            cut = cut_before (cut_as refl (ap (λ now. task_steps now cut.tasks core.picks) fresh.at_zero) cut.cut)
+                (steps (quiet_round 0 start.0 ∷ []) (picks_after cut.tasks core.picks));
+          }
 
--- an instant that was done
-pub instant_done : {B R : Type 0} (bus_is : BusMeaning B) (meaning : RecordMeaning R) (now : ℕ) (keys : List KeyItem) (first_row : ℕ) (node : NodeState CodeMemory) (bus finished requested arbitrated : B)
-    (into between : R) (meter : List MeterRow) (stops : Bool) (after : NodeState CodeMemory) (into_after : R) (meter_after : List MeterRow) (ended : Option Ended) (seen : Option Seen) (pressed : List ℕ)
-    → ended ≡ bus_is.ended bus now → seen ≡ seen_by 0 ended → pressed ≡ keys_at now keys → finished ≡ bus_is.after_finish bus now → arbitrated ≡ bus_is.after_arbitration requested now
-    → TakesEntries meaning into (frame_entries now ended) between
-    → DoesPart bus_is.after_request meaning Moment now seen pressed first_row node finished between meter stops after requested into_after meter_after
-    → DoesInstant bus_is meaning now keys first_row node bus into meter stops after arbitrated into_after meter_after
-instant_done bus_is meaning now keys first_row node bus finished requested arbitrated into between meter stops after into_after meter_after ended seen pressed is sees presses finishes arbitrates took done = record {
-  tasks = done.tasks;
-  part = subst (λ s. IsPart code_reaction Moment now s (keys_at now keys) node done.tasks after) (sees ∙ ap (seen_by 0) is)
-      (subst (λ p. IsPart code_reaction Moment now seen p node done.tasks after) presses done.part);
-  entries = takes_more meaning into (frame_entries now (bus_is.ended bus now)) (task_entries now 0 done.tasks) between into_after
-      (subst (λ e. TakesEntries meaning into (frame_entries now e) between) is took) done.lines;
-  bus_then = arbitrates ∙ ap (λ b. bus_is.after_arbitration b now) (done.requests ∙ ap (λ b. after_tasks bus_is.after_request b 0 done.tasks) finishes);
-  stops_are = done.stops_are;
-  metered = done.metered;
-}
+      module _ (between : CoreState B) (into_between : R) (meter_between : List MeterRow) (first : DoesRound bus meaning round.PreStart None [] (over core) into meter between into_between meter_between)
+          (stays : StaysInRound (over core) between) where
+        -- the steps of the second round, behind those of the first
+        second_steps : (start : List (List Task)) → task_steps between.moment start between.picks ≡ steps (quiet_round 0 start ∷ []) (picks_after first.tasks core.picks)
+        second_steps start =
+            ap (λ now. task_steps now start between.picks) (stays.moment ∙ fresh.at_zero) ∙ ap (λ (picks : List ℕ). task_steps 0 start picks) first.picks
+            ∙ quiet_steps 0 start (picks_after first.tasks core.picks)
+
+        first_done : AreDone meaning (rows_of core.nodes) (task_steps 0 first.tasks core.picks) into into_between meter meter_between
+        first_done = done_as refl (ap (λ now. task_steps now first.tasks core.picks) fresh.at_zero) first.done
+
+        -- the round of the start was cut
+        pub start_cut : (into_after : R) (meter_after : List MeterRow) → IsRoundCut bus meaning round.Start None (keys_at 0 core.keys) between into_between into_after meter_between meter_after
+            → IsInstantCut bus meaning core into into_after meter meter_after
+        start_cut into_after meter_after cut = record {
+          rounds = quiet_round 0 first.tasks ∷ quiet_round 0 cut.tasks ∷ [];
+          after = settled bus cut.after;
+          is_next = inl (is_new, begun_by first.tasks (run_of between) cut.tasks cut.after first.is_round cut.is_round);
+          cut = cut_more first_done (cut_as stays.nodes.rows (second_steps cut.tasks) cut.cut);
+        }
+
+        module _ (end : CoreState B) (into_after : R) (meter_after : List MeterRow)
+            (second : DoesRound bus meaning round.Start None (keys_at 0 core.keys) between into_between meter_between end into_after meter_after) where
+          both_done : AreDone meaning (rows_of core.nodes) (steps (quiet_round 0 first.tasks ∷ quiet_round 0 second.tasks ∷ []) core.picks) into into_after meter meter_after
+          both_done = done_more first_done (done_as stays.nodes.rows (second_steps second.tasks) second.done)
+
+          begun_at_end : IsBegun code_reaction bus (run_of core) (quiet_round 0 first.tasks ∷ quiet_round 0 second.tasks ∷ []) (settled bus (run_of end))
+          begun_at_end = begun_by first.tasks (run_of between) second.tasks (run_of end) first.is_round second.is_round
+
+          -- a fault came after both rounds
+          pub begin_cut_after : IsInstantCut bus meaning core into into_after meter meter_after
+          begin_cut_after = record {
+            rounds = quiet_round 0 first.tasks ∷ quiet_round 0 second.tasks ∷ [];
+            after = settled bus (run_of end);
+            is_next = inl (is_new, begun_at_end);
+            cut = cut_at_end both_done;
+          }
+
+          -- so the run stands once all is settled
+          pub begun_is : (after : CoreState B) → run_of after ≡ settled bus (run_of end)
+              → IsBegun code_reaction bus (run_of core) (quiet_round 0 first.tasks ∷ quiet_round 0 second.tasks ∷ []) (run_of after)
+          begun_is after settles = subst (IsBegun code_reaction bus (run_of core) (quiet_round 0 first.tasks ∷ quiet_round 0 second.tasks ∷ [])) (sym settles) begun_at_end
+
+          -- the beginning was done
+          pub begin_done : StaysInRound between end → (after : CoreState B) → run_of after ≡ settled bus (run_of end) → after.nodes ≡ end.nodes → after.picks ≡ end.picks
+              → after.until ≡ end.until → DoesInstant bus meaning core into meter (going after) into_after meter_after
+          begin_done stays_too after settles nodes picks until = record {
+            rounds = quiet_round 0 first.tasks ∷ quiet_round 0 second.tasks ∷ [];
+            is_next = inl (is_new, begun_is after settles);
+            done = both_done;
+            picks = picks ∙ second.picks ∙ ap (picks_after second.tasks) first.picks;
+            goes = refl;
+            keeps = record {
+              nodes = subst (KeepsNodes core.nodes) (sym nodes) (keeps_both core.nodes between.nodes end.nodes stays.nodes stays_too.nodes);
+              until = until ∙ stays_too.until ∙ stays.until;
+            };
+          }
+
+  -- however a simulation begins of which nothing has happened yet, its run stands so afterwards
+  pub stands_begun : SoundStays bus → DueLater bus → DueLaterFromNothing bus → IsCore bus core → core.phase ≡ New → (passed : List Passed) (after : RunState (NodeState CodeMemory) B)
+      → IsBegun code_reaction bus (run_of core) passed after → Stands IsSound CanOccur bus after
+  stands_begun stays goes_on from_nothing is is_new passed after begun = (fresh_stands (is.fresh is_new) stays goes_on from_nothing passed after begun).0
+
+  -- what a simulation keeps after its beginning
+  pub begun_core : SoundStays bus → DueLater bus → DueLaterFromNothing bus → IsCore bus core → core.phase ≡ New → (after : CoreState B) (passed : List Passed)
+      → IsBegun code_reaction bus (run_of core) passed (run_of after) → All IsIdle after.nodes → length after.nodes < bus.nodes after.bus → length after.nodes < 2 ^ 32 → after.until ≤ 2 ^ 63
+      → IsCore bus (going after)
+  begun_core stays goes_on from_nothing is is_new after passed begun idle serves few in_time =
+      let known = fresh_stands (is.fresh is_new) stays goes_on from_nothing passed (run_of after) begun in
+      let at_zero = known.1 in stands_core bus after idle serves few in_time (omega (arith, at_zero)) known.0

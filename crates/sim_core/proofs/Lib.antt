@@ -1,13 +1,15 @@
 -- Lemmas of this crate.
-pub mod RunsFollow
-pub mod Once
-pub mod Prefixes
-pub mod Meters
-pub mod TasksLeft
+pub mod Errors
+pub mod ListLemmas
+pub mod LoadedNodes
+pub mod NodeLists
+pub mod Lefts
+pub mod TaskSteps
+pub mod CodeLives
 pub mod TaskLoop
+pub mod BegunNodes
+pub mod RoundLemmas
+pub mod RoundSteps
 pub mod InstantLemmas
-pub mod BusNodes
-pub mod LaterLemmas
 pub mod RunLemmas
-pub mod RunFaults
-pub mod ShowLemmas
+pub mod RunThere

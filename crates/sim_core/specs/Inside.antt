@@ -1,4 +1,4 @@
 -- Definitions that only contracts of private functions cite.
+pub mod Kept
 pub mod Tasks
 pub mod Rounds
-pub mod Runs

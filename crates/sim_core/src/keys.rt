@@ -1,8 +1,13 @@
-// The keys of a moment.
+// The keys of a moment, and the requests of a replay.
 
-ghost use Rattle.std.specs.Prelude.{◌≡◌, IfOk};
-ghost use Rattle.sim_core.specs.Moments.{keys_after, keys_at, next_key};
+ghost use Rattle.std.specs.Prelude.{◌≡◌, ◌<◌, IfOk, OnOk, drop};
+ghost use Rattle.can_bus.specs.Meaning.{BusMeaning};
+ghost use Rattle.node_rounds.specs.Entries.{after_requests};
+ghost use Rattle.run_meaning.specs.Moments.{keys_after, keys_at, next_key, next_request, requests_after, requests_at};
 
+use crate::upcoming::Upcoming;
+use can_bus::Bus;
+use replay_node::Request;
 use scenario::KeyItem;
 use std::alloc::Global;
 use texts::NoMemory;
@@ -21,18 +26,16 @@ pub(crate) fn keys_at(alloc: Global, keys: &[KeyItem], now: u64) -> Result<Vec<u
     Ok(list)
 }
 
-/// The keys after a moment. Takes time linear in those before.
-pub(crate) fn keys_after(keys: &[KeyItem], now: u64) -> &[KeyItem]
-    ensures { result.now ≡ keys_after now keys.now }
+/// Passes the keys up to a moment. Takes time linear in them.
+pub(crate) fn pass_keys(keys: &mut Upcoming<KeyItem>, now: u64)
+    ensures { keys.new ≡ keys_after now keys.old }
 {
-    let mut left = keys;
-    while let [key, later @ ..] = left {
+    while let Some(key) = keys.as_slice().first() {
         if key.at > now {
-            return left;
+            return;
         }
-        left = later;
+        keys.pass();
     }
-    left
 }
 
 /// The moment of the next key.
@@ -41,4 +44,37 @@ pub(crate) fn next_key(keys: &[KeyItem]) -> Option<u64>
 {
     let key = keys.first()?;
     Some(key.at)
+}
+
+/// The moment of the next request of the replay.
+pub(crate) fn next_request(requests: &[Request]) -> Option<u64>
+    ensures { result ≡ next_request requests.now }
+{
+    let request = requests.first()?;
+    Some(request.at)
+}
+
+/// Makes the requests of the replay up to a moment, as the node of a number, and passes them. Takes time as
+/// so many requests do.
+pub(crate) fn make_requests<B: Bus>(
+    requests: &mut Upcoming<Request>,
+    node: u32,
+    bus: &mut B,
+    now: u64,
+) -> Result<(), NoMemory>
+    requires serves { node < B.meaning.nodes bus.old }
+    ensures bus { OnOk result (bus.new ≡
+        after_requests B.meaning.after_request bus.old node (requests_at now requests.old)) }
+    ensures left { OnOk result (requests.new ≡ requests_after now requests.old) }
+    ensures nodes { B.meaning.nodes bus.new ≡ B.meaning.nodes bus.old }
+{
+    while let Some(request) = requests.as_slice().first() {
+        if request.at > now {
+            return Ok(());
+        }
+        let frame = request.frame;
+        bus.request(node, &frame)?;
+        requests.pass();
+    }
+    Ok(())
 }

@@ -1,22 +1,16 @@
-//! The run of a simulation, from the round before the start to the round of the stop.
+//! A simulation: nodes that run their code on one bus, from the round before the start to that of the stop.
 //!
-//! `Run` says what a run is: nodes on one bus, with keys and requests of a replay, go from instant to
-//! instant up to an end moment or until one asks to stop. How the nodes react and what the bus does are
-//! parameters. `Entries` says what a run leaves in a record, and `Counts` how often each procedure ran.
-//!
-//! [`run_until`] runs one node by its code. [`play_window`] and [`play_log`] run it and write the lines of
-//! its window, or of its log, to a sink as they happen. [`laws`] has what holds of two reactions.
+//! A [`Core`] has the nodes, the bus, and the keys, the requests of a replay and the picks that are still to
+//! come. [`Core::step_instant`] does the next instant, [`Core::run_until`] the whole run. The crate
+//! run_meaning says what a run is, in which order the picks put its tasks, and what its steps leave in a
+//! record and a meter.
 #![tactic(auto)]
 
-pub use log::play_log;
-pub use run::run_until;
-pub use window::play_window;
+pub use simulation::{Core, Phase, Step};
 
 mod instant;
 mod keys;
-pub mod laws;
-mod log;
-mod piece;
-mod run;
+mod round;
+mod simulation;
 mod tasks;
-mod window;
+mod upcoming;

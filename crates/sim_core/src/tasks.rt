@@ -1,47 +1,164 @@
-// The tasks of a node in a round.
+// The tasks of the nodes in a round.
 
-ghost use Rattle.std.specs.Prelude.{◌≡◌, ◌<◌, ◌≤◌, false, length, IfOk, OnOk, OnErr, IsErrOf};
-ghost use Rattle.timer_queue.specs.Timers.{IsTimers};
+ghost use Rattle.std.specs.Prelude.{◌≡◌, ◌<◌, ◌≤◌, ◌^◌, ◌%◌, length, slice_get, All, IfOk, OnOk, OnErr, IsErrOf};
+ghost use Rattle.std.specs.List.{AllByRecursion};
 ghost use Rattle.run_records.specs.Record.{RecordFaultsRise};
-ghost use Rattle.node_rounds.specs.Reaction.{NoneOverdue};
-ghost use Rattle.node_rounds.specs.Round.{IsDone};
-ghost use Rattle.node_run.specs.Code.{code_reaction};
-ghost use Rattle.node_run.specs.Node.{HasRows};
-ghost use Rattle.sim_core.specs.Inside.Tasks.{HasDone, IsPartRefused};
+ghost use Rattle.run_meaning.specs.Order.{next_pick};
+ghost use Rattle.run_meaning.specs.Run.{seen_by};
+ghost use Rattle.sim_core.specs.Core.{HaveRows, KeepsNodes};
+ghost use Rattle.sim_core.specs.Inside.Kept.{IsIdle};
+ghost use Rattle.sim_core.specs.Inside.Tasks.{AreTasksCut, DoTasks, DoesOne, IsOneCut, IsOpen, IsOwn, begun_nodes, open_nodes};
 
-use can_bus::Bus;
-use node_run::{Node, TaskFault};
+use crate::upcoming::Upcoming;
+use can_bus::{Bus, Ended};
+use node_run::{Node, Round, Seen, TaskFault};
 use run_records::Record;
 use stack_vm::Meter;
+use texts::NoMemory;
 
-/// Does all tasks of the round that node 0 began, and answers whether one asked to stop.
-///
-/// Each task takes a known trigger or a due timer away, and sets timers for later moments alone.
-pub(crate) fn do_tasks<B: Bus, R: Record>(
-    node: &mut Node,
+/// The frame that ended, as the node of a number sees it.
+fn seen_by(number: u32, ended: &Option<Ended>) -> Option<Seen>
+    ensures { result ≡ seen_by number ended.now }
+{
+    match ended {
+        Some(ended) => Some(Seen {
+            frame: ended.frame,
+            sent: ended.node == number,
+        }),
+        None => None,
+    }
+}
+
+/// Begins a round of all nodes.
+pub(crate) fn begin_all(
+    nodes: &mut [Node],
+    round: Round,
+    now: u64,
+    ended: &Option<Ended>,
+    keys: &[u8],
+) -> Result<(), NoMemory>
+    requires few { length nodes.old < 2 ^ 32 }
+    requires idle { All IsIdle nodes.old }
+    requires in_time { now ≤ 2 ^ 63 }
+    ensures begun { OnOk result (nodes.new ≡ begun_nodes round now ended.now keys.now 0 nodes.old) }
+    ensures keeps { KeepsNodes nodes.old nodes.new }
+{
+    for number in 0..nodes.len() {
+        let seen = seen_by(number as u32, ended);
+        nodes[number].begin(round, now, seen, keys)?;
+    }
+    Ok(())
+}
+
+/// How many nodes have a further task.
+fn open_count(nodes: &[Node]) -> usize
+    ensures { result ≡ length (open_nodes 0 nodes.now) }
+{
+    let mut count = 0;
+    for node in nodes {
+        if node.has_task() {
+            count += 1;
+        }
+    }
+    count
+}
+
+/// The number of the node at a place among those that have a further task.
+fn open_at(nodes: &[Node], place: usize) -> Option<usize>
+    ensures { result ≡ slice_get (open_nodes 0 nodes.now) place }
+{
+    let mut left = place;
+    for (number, node) in nodes.iter().enumerate() {
+        if node.has_task() {
+            if left == 0 {
+                return Some(number);
+            }
+            left -= 1;
+        }
+    }
+    None
+}
+
+/// The number of the node whose task a pick names: its place among those that have a further task is the pick
+/// modulo their number. None where no node has one.
+fn next_node(nodes: &[Node], pick: u32) -> Option<usize>
+    ensures { result ≡ slice_get (open_nodes 0 nodes.now) (pick % length (open_nodes 0 nodes.now)) }
+{
+    let count = open_count(nodes);
+    if count == 0 {
+        return None;
+    }
+    open_at(nodes, pick as usize % count)
+}
+
+/// The pick that comes next: 0 where none is left.
+fn next_pick(picks: &[u32]) -> u32
+    ensures { result ≡ next_pick picks.now }
+{
+    match picks.first() {
+        Some(pick) => *pick,
+        None => 0,
+    }
+}
+
+/// Does the next task of the node of a number, and answers whether it asked to stop.
+fn do_task_of<B: Bus, R: Record>(
+    nodes: &mut [Node],
+    number: usize,
     bus: &mut B,
     into: &mut R,
     meter: &mut Meter,
 ) -> Result<bool, TaskFault>
-    requires rows { HasRows meter.old node.old }
-    requires serves { 0 < B.meaning.nodes bus.old }
-    requires timers { IsTimers node.old.doing.node.timers }
-    requires on_time { node.old.doing.node.is_halted ≡ false →
-        NoneOverdue node.old.moment node.old.doing.node.timers }
-    ensures tasks { IfOk result (λ stops. HasDone B.meaning.after_request R.meaning
-        node.old bus.old into.old meter.old stops node.new bus.new into.new meter.new) }
-    ensures done { OnOk result (IsDone code_reaction node.new.moment node.new.doing) }
-    ensures refused { OnErr result (IsPartRefused R.meaning node.old into.old into.new meter.old meter.new) }
+    requires within { number < length nodes.old }
+    requires has_task { IsOpen nodes.old number }
+    requires rows { HaveRows meter.old nodes.old }
+    requires serves { length nodes.old < B.meaning.nodes bus.old }
+    requires few { length nodes.old < 2 ^ 32 }
+    ensures does { IfOk result (λ stop. DoesOne B.meaning.after_request R.meaning number
+        nodes.old bus.old into.old meter.old stop nodes.new bus.new into.new meter.new) }
+    ensures cut { OnErr result (IsOneCut R.meaning number
+        nodes.old into.old into.new meter.old meter.new) }
     ensures fault { IsErrOf result TaskFault.Record → RecordFaultsRise R.meaning into.old into.new }
     ensures faults_stay { R.meaning.faults into.old ≤ R.meaning.faults into.new }
-    ensures code_stays { node.new.doing.node.memory.code ≡ node.old.doing.node.memory.code }
-    ensures row_stays { node.new.first_row ≡ node.old.first_row }
+    ensures keeps { KeepsNodes nodes.old nodes.new }
+    ensures as_many_rows { length meter.new ≡ length meter.old }
+{
+    let end = nodes[number].do_task(number as u32, bus, into, meter)?;
+    Ok(end.stop)
+}
+
+/// Does all tasks of the round that the nodes began, in the order of the picks, and answers whether one asked
+/// to stop. Beside what the tasks take, each takes time linear in the nodes.
+///
+/// Each task takes a known trigger or a due timer away, and sets timers for later moments alone.
+pub(crate) fn do_tasks<B: Bus, R: Record>(
+    nodes: &mut [Node],
+    now: u64,
+    bus: &mut B,
+    picks: &mut Upcoming<u32>,
+    into: &mut R,
+    meter: &mut Meter,
+) -> Result<bool, TaskFault>
+    requires own { AllByRecursion (IsOwn now) nodes.old }
+    requires rows { HaveRows meter.old nodes.old }
+    requires serves { length nodes.old < B.meaning.nodes bus.old }
+    requires few { length nodes.old < 2 ^ 32 }
+    ensures tasks { IfOk result (λ stops. DoTasks B.meaning.after_request R.meaning now
+        nodes.old bus.old picks.old into.old meter.old stops nodes.new bus.new picks.new into.new meter.new) }
+    ensures idle { OnOk result (All IsIdle nodes.new) }
+    ensures cut { OnErr result (AreTasksCut R.meaning now
+        nodes.old picks.old into.old into.new meter.old meter.new) }
+    ensures fault { IsErrOf result TaskFault.Record → RecordFaultsRise R.meaning into.old into.new }
+    ensures faults_stay { R.meaning.faults into.old ≤ R.meaning.faults into.new }
+    ensures keeps { KeepsNodes nodes.old nodes.new }
+    ensures nodes_stay { OnOk result (B.meaning.nodes bus.new ≡ B.meaning.nodes bus.old) }
     ensures as_many_rows { length meter.new ≡ length meter.old }
 {
     let mut stops = false;
-    while node.has_task() {
-        let end = node.do_task(0, bus, into, meter)?;
-        stops |= end.stop;
+    while let Some(number) = next_node(nodes, next_pick(picks.as_slice())) {
+        let asks = do_task_of(nodes, number, bus, into, meter)?;
+        picks.pass();
+        stops |= asks;
     }
     Ok(stops)
 }

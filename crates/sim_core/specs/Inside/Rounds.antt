@@ -1,81 +1,85 @@
--- What node 0 does in a round and in an instant by its code.
-use Rattle.std.specs.Prelude.{◌≡◌, ℕ, ◌<◌, ◌≤◌, Bool, false, List, ◌++◌, Option, All}
-use Rattle.std.specs.List.{list_any}
-use Rattle.can_frame.specs.Frame.{FrameFields}
+-- What a simulation does in a round and in the rounds of a moment.
+use Rattle.std.specs.Prelude.{◌≡◌, ℕ, List, [], ◌∷◌, Option}
+use Rattle.can_bus.specs.declared.bus.Ended.{Ended}
 use Rattle.can_bus.specs.Meaning.{BusMeaning}
 use Rattle.run_records.specs.Record.{RecordMeaning}
-use Rattle.bytecode.specs.Laws.{BeginsWith}
 use Rattle.stack_vm.specs.declared.meter.MeterRow.{MeterRow}
-use Rattle.scenario.specs.declared.scenario.KeyItem.{KeyItem}
 use Rattle.node_rounds.specs.declared.round.Round.{Round}
 use Rattle.node_rounds.specs.declared.round.Round.TheVariants.{Moment}
-use Rattle.node_rounds.specs.declared.round.Seen.{Seen}
-use Rattle.node_rounds.specs.Entries.{TakesEntries}
 use Rattle.node_rounds.specs.Reaction.{NodeState}
-use Rattle.node_rounds.specs.Round.{IsPart, Task}
+use Rattle.node_rounds.specs.Round.{Task}
 use Rattle.node_run.specs.Code.{CodeMemory, code_reaction}
-use Rattle.sim_core.specs.Bus.{after_tasks}
-use Rattle.sim_core.specs.Counts.{AddsTasks}
-use Rattle.sim_core.specs.Entries.{frame_entries, task_entries}
-use Rattle.sim_core.specs.Faults.{AddsAtMost, TakesFirst}
-use Rattle.sim_core.specs.Moments.{keys_at}
-use Rattle.sim_core.specs.Run.{seen_by}
+use Rattle.run_meaning.specs.Done.{AreCut, AreDone}
+use Rattle.run_meaning.specs.Order.{picks_after}
+use Rattle.run_meaning.specs.Run.{IsEnded, IsRound, Passed, RunState}
+use Rattle.run_meaning.specs.Steps.{picks_left, steps, task_steps}
+use Rattle.sim_core.specs.Core.{CoreState, KeepsNodes, rows_of, run_of, states_of}
 
--- a node has done its part of a round: its lines went to the record, its requests to the bus and its runs to
--- the meter, where its rows begin with the one of a number, and it is told whether a task asked to stop
-pub record DoesPart {B R : Type 0} (after_request : B → ℕ → FrameFields → B) (meaning : RecordMeaning R)
-    (round : Round) (now : ℕ) (seen : Option Seen) (keys : List ℕ) (first_row : ℕ)
-    (node : NodeState CodeMemory) (bus : B) (into : R) (meter : List MeterRow)
-    (stops : Bool) (after : NodeState CodeMemory) (bus_after : B) (into_after : R)
-    (meter_after : List MeterRow) : Type 0 where
-  pub tasks : List Task
-  pub part : IsPart code_reaction round now seen keys node tasks after
-  pub lines : TakesEntries meaning into (task_entries now 0 tasks) into_after
-  pub requests : bus_after ≡ after_tasks after_request bus 0 tasks
-  pub stops_are : stops ≡ list_any (λ task. task.stops) tasks
-  pub metered : AddsTasks first_row tasks meter meter_after
+-- a simulation did a round: these are the tasks of each node
+pub record DoesRound {B R : Type 0} (bus : BusMeaning B) (meaning : RecordMeaning R) (round : Round)
+    (ended : Option Ended) (keys : List ℕ) (before : CoreState B) (into : R) (meter : List MeterRow)
+    (after : CoreState B) (into_after : R) (meter_after : List MeterRow) : Type 0 where
+  pub tasks : List (List Task)
+  pub is_round : IsRound code_reaction bus round ended keys (run_of before) tasks (run_of after)
+  pub picks : after.picks ≡ picks_after tasks before.picks
+  pub done : AreDone meaning (rows_of before.nodes) (task_steps before.moment tasks before.picks)
+      into into_after meter meter_after
 
--- a part of a round was ended by a fault
-pub record IsRoundRefused {R : Type 0} (meaning : RecordMeaning R) (round : Round) (now : ℕ)
-    (seen : Option Seen) (keys : List ℕ) (first_row : ℕ) (node : NodeState CodeMemory) (into into_after : R)
+-- a round was cut by a fault
+pub record IsRoundCut {B R : Type 0} (bus : BusMeaning B) (meaning : RecordMeaning R) (round : Round)
+    (ended : Option Ended) (keys : List ℕ) (before : CoreState B) (into into_after : R)
     (meter meter_after : List MeterRow) : Type 0 where
-  pub takes : TakesFirst meaning (λ taken. (tasks : List Task) (after : NodeState CodeMemory) →
-      IsPart code_reaction round now seen keys node tasks after → BeginsWith (task_entries now 0 tasks) taken)
-      into into_after
-  pub metered : (tasks : List Task) (after : NodeState CodeMemory) →
-      IsPart code_reaction round now seen keys node tasks after → AddsAtMost first_row tasks meter meter_after
+  pub tasks : List (List Task)
+  pub after : RunState (NodeState CodeMemory) B
+  pub is_round : IsRound code_reaction bus round ended keys (run_of before) tasks after
+  pub cut : AreCut meaning (rows_of before.nodes) (task_steps before.moment tasks before.picks)
+      into into_after meter meter_after
 
--- an instant of node 0: the frame that ended, and its part
-pub record DoesInstant {B R : Type 0} (bus_is : BusMeaning B) (meaning : RecordMeaning R) (now : ℕ)
-    (keys : List KeyItem) (first_row : ℕ)
-    (node : NodeState CodeMemory) (bus : B) (into : R) (meter : List MeterRow)
-    (stops : Bool) (after : NodeState CodeMemory) (bus_after : B) (into_after : R)
-    (meter_after : List MeterRow) : Type 0 where
-  pub tasks : List Task
-  pub part : IsPart code_reaction Moment now (seen_by 0 (bus_is.ended bus now)) (keys_at now keys) node tasks
-      after
-  pub entries : TakesEntries meaning into
-      (frame_entries now (bus_is.ended bus now) ++ task_entries now 0 tasks) into_after
-  pub bus_then : bus_after ≡ bus_is.after_arbitration
-      (after_tasks bus_is.after_request (bus_is.after_finish bus now) 0 tasks) now
-  pub stops_are : stops ≡ list_any (λ task. task.stops) tasks
-  pub metered : AddsTasks first_row tasks meter meter_after
+-- A simulation did rounds of which a condition tells which they are and how the run stands after them.
+pub record DoesRounds {B R : Type 0} (meaning : RecordMeaning R)
+    (are : List Passed → RunState (NodeState CodeMemory) B → Type 0) (before : CoreState B) (into : R)
+    (meter : List MeterRow) (after : CoreState B) (into_after : R) (meter_after : List MeterRow) :
+    Type 0 where
+  pub rounds : List Passed
+  pub is : are rounds (run_of after)
+  pub picks : after.picks ≡ picks_left rounds before.picks
+  pub done : AreDone meaning (rows_of before.nodes) (steps rounds before.picks)
+      into into_after meter meter_after
 
--- an instant was ended by a fault
-pub record IsInstantRefused {B R : Type 0} (bus_is : BusMeaning B) (meaning : RecordMeaning R) (now : ℕ)
-    (keys : List KeyItem) (first_row : ℕ) (node : NodeState CodeMemory) (bus : B) (into into_after : R)
-    (meter meter_after : List MeterRow) : Type 0 where
-  pub takes : TakesFirst meaning (λ taken. (tasks : List Task) (after : NodeState CodeMemory) →
-      IsPart code_reaction Moment now (seen_by 0 (bus_is.ended bus now)) (keys_at now keys) node tasks after →
-      BeginsWith (frame_entries now (bus_is.ended bus now) ++ task_entries now 0 tasks) taken) into into_after
-  pub metered : (tasks : List Task) (after : NodeState CodeMemory) →
-      IsPart code_reaction Moment now (seen_by 0 (bus_is.ended bus now)) (keys_at now keys) node tasks after →
-      AddsAtMost first_row tasks meter meter_after
+-- such rounds were cut by a fault
+pub record AreRoundsCut {B R : Type 0} (meaning : RecordMeaning R)
+    (are : List Passed → RunState (NodeState CodeMemory) B → Type 0) (before : CoreState B)
+    (into into_after : R) (meter meter_after : List MeterRow) : Type 0 where
+  pub rounds : List Passed
+  pub after : RunState (NodeState CodeMemory) B
+  pub is : are rounds after
+  pub cut : AreCut meaning (rows_of before.nodes) (steps rounds before.picks)
+      into into_after meter meter_after
 
--- the timers of a node that is not halted are due later than a moment
-abbrev pub IsLater : ℕ → NodeState CodeMemory → Type 0
-IsLater now node = node.is_halted ≡ false → All (λ setting. now < setting.due) node.timers.settings
+-- a simulation did the round of the stop: so its nodes stand at the end of its run
+pub record HasStopped {B R : Type 0} (bus : BusMeaning B) (meaning : RecordMeaning R) (before : CoreState B)
+    (into : R) (meter : List MeterRow) (after : CoreState B) (into_after : R) (meter_after : List MeterRow) :
+    Type 0 where
+  pub rounds : List Passed
+  pub end : RunState (NodeState CodeMemory) B
+  pub is_end : IsEnded code_reaction bus before.until (run_of before) rounds end
+  pub nodes : states_of after.nodes ≡ end.nodes
+  pub done : AreDone meaning (rows_of before.nodes) (steps rounds before.picks)
+      into into_after meter meter_after
 
--- the timers of a node that is not halted are due at a moment or later
-abbrev pub IsOnTime : ℕ → NodeState CodeMemory → Type 0
-IsOnTime now node = node.is_halted ≡ false → All (λ setting. now ≤ setting.due) node.timers.settings
+-- one round of a moment, with a frame that ended and keys that are pressed
+pub record IsOneRound {B : Type 0} (bus : BusMeaning B) (ended : Option Ended) (keys : List ℕ)
+    (before : RunState (NodeState CodeMemory) B) (rounds : List Passed)
+    (after : RunState (NodeState CodeMemory) B) : Type 0 where
+  pub tasks : List (List Task)
+  pub is_round : IsRound code_reaction bus Moment ended keys before tasks after
+  pub are : rounds ≡ record { moment = before.moment; ended = ended; tasks = tasks } ∷ []
+
+-- what a round leaves of a simulation as it was
+pub record StaysInRound {B : Type 0} (before after : CoreState B) : Type 0 where
+  pub nodes : KeepsNodes before.nodes after.nodes
+  pub keys : after.keys ≡ before.keys
+  pub requests : after.requests ≡ before.requests
+  pub until : after.until ≡ before.until
+  pub moment : after.moment ≡ before.moment
+  pub phase : after.phase ≡ before.phase

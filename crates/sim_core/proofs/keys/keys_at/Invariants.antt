@@ -1,6 +1,6 @@
 -- What was taken, and what the keys that are left give, are all.
 use Rattle.std.proofs.Common.{◌≡◌, ◌++◌, drop}
-use Rattle.sim_core.specs.Moments.{keys_at}
+use Rattle.run_meaning.specs.Moments.{keys_at}
 use Rattle.sim_core.proofs.keys.keys_at.Given as goal
 
 abbrev pub invariant-loop-key : goal.invariant-loop-key

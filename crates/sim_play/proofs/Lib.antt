@@ -1,0 +1,8 @@
+-- Lemmas of this crate.
+mod CodeStays
+mod Grows
+mod NodeLines
+mod PlayLemmas
+mod ProfileLemmas
+pub mod RowLemmas
+mod ShowLemmas

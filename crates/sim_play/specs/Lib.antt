@@ -1,0 +1,7 @@
+-- The definitions of this crate.
+pub mod Out
+pub mod Show
+pub mod Files
+pub mod Profile
+pub mod Play
+pub mod Inside
