@@ -1,6 +1,7 @@
 // Whole runs over files and a sink in memory.
 
 use sim_outside::{MemFiles, MemSink};
+use sim_play::Out;
 use sim_run::{Status, laws, simulate};
 use stack_vm::Meter;
 use std::alloc::Global;
@@ -8,171 +9,366 @@ use std::process::Abort;
 use std::test::Fail;
 use texts::Text;
 
-// A run, and what it must end with and write.
+/// A run, and what it must end with, write and count.
 #[derive(Clone, Copy)]
-struct Run<'a> {
-    words: &'a [&'a str],
-    scenario: Option<&'a str>,
-    source: Option<&'a str>,
-    failing_reads: &'a [u64],
-    failing_writes: &'a [(u64, usize)],
+struct Run {
+    /// The words of the command line.
+    words: &'static [&'static str],
+    /// The scenario, where its file is there.
+    scenario: Option<&'static str>,
+    /// The other files.
+    files: &'static [(&'static str, &'static str)],
+    failing_reads: &'static [u64],
+    failing_writes: &'static [(u64, usize)],
     status: Status,
-    written: &'a str,
+    written: &'static str,
+    /// The runs and turns of each event procedure, node by node and in program order.
+    rows: &'static [(u64, u64)],
 }
 
-const SCENARIO: &str = "scenario 1\nnode N n.can\n";
+/// A run of the node N with an empty source.
+const EMPTY: Run = Run {
+    words: &["window", "s.scn"],
+    scenario: Some("scenario 1\nnode N n.can\n"),
+    files: &[("n.can", "")],
+    failing_reads: &[],
+    failing_writes: &[],
+    status: Status::Done,
+    written: "",
+    rows: &[],
+};
 
-/// A run of `window s.scn` in which nothing fails.
-fn window<'a>(source: &'a str, status: Status, written: &'a str) -> Run<'a> {
+/// A run in which the node N writes one line.
+const HELLO: Run = Run {
+    files: &[("n.can", "on start { write(\"hello\"); }")],
+    written: "w 0.000000 N hello\n",
+    rows: &[(1, 0)],
+    ..EMPTY
+};
+
+/// A run in which the node N asks for two frames, of which the one that it asks for second goes first.
+const FRAMES: Run = Run {
+    words: &["log", "s.scn"],
+    files: &[(
+        "n.can",
+        "variables { message 0x1 a = {dlc=0}; message 0x0 b = {dlc=0}; } on start { output(a); output(b); }",
+    )],
+    written: "(0000000000.000100) can0 000#\n(0000000000.000200) can0 001#\n",
+    rows: &[(1, 0)],
+    ..EMPTY
+};
+
+/// A run in which two tasks of the node N each write a line.
+const LINES: Run = Run {
+    scenario: Some("scenario 1\nnode N n.can\nkey 1 k\nkey 2 k\n"),
+    files: &[(
+        "n.can",
+        "on start { write(\"a\"); } on key 'k' { write(\"b\"); }",
+    )],
+    written: "w 0.000000 N a\nw 0.001000 N b\nw 0.002000 N b\n",
+    rows: &[(1, 0), (2, 0)],
+    ..EMPTY
+};
+
+static RUNS: [Run; 22] = [
+    EMPTY,
+    HELLO,
+    Run {
+        words: &["check", "s.scn"],
+        written: "ok\n",
+        rows: &[],
+        ..HELLO
+    },
+    // The turns of the procedures stand in the meter's rows, in program order.
+    Run {
+        words: &["profile", "s.scn"],
+        scenario: Some("scenario 1\nnode N n.can\nkey 1 a\nkey 2 a\n"),
+        files: &[(
+            "n.can",
+            "on start { int i; while (i < 3) i++; }\non key 'a' { stop(); }\n\non preStart { write(\"x\"); }",
+        )],
+        written: "p N n.can:1 start 1 3\np N n.can:2 key 1 0\np N n.can:4 preStart 1 0\n",
+        rows: &[(1, 3), (1, 0), (1, 0)],
+        ..EMPTY
+    },
+    // A procedure of a file that is included stands before those of the file that includes it.
+    Run {
+        words: &["profile", "d/s.scn"],
+        scenario: None,
+        files: &[
+            ("d/s.scn", "scenario 1\nnode N n.can\n"),
+            (
+                "d/n.can",
+                "includes { #include \"u.cin\" }\non start { }\non message * { }",
+            ),
+            (
+                "d/u.cin",
+                "variables { msTimer t; }\non timer t { }\n\non stopMeasurement { }",
+            ),
+        ],
+        written: "p N d/u.cin:2 timer 0 0\np N d/u.cin:4 stopMeasurement 1 0\n\
+            p N d/n.can:2 start 1 0\np N d/n.can:3 message 0 0\n",
+        rows: &[(0, 0), (1, 0), (1, 0), (0, 0)],
+        ..EMPTY
+    },
+    FRAMES,
+    Run {
+        scenario: Some("scenario 1\nnode N n.can\nuntil 0\n"),
+        written: "",
+        ..FRAMES
+    },
+    Run {
+        scenario: Some("scenario 1\nnode N n.can\nepoch 7\ninterface x\n"),
+        written: "(0000000007.000100) x 000#\n(0000000007.000200) x 001#\n",
+        ..FRAMES
+    },
     Run {
         words: &["window", "s.scn"],
-        scenario: Some(SCENARIO),
-        source: Some(source),
-        failing_reads: &[],
-        failing_writes: &[],
-        status,
-        written,
-    }
-}
+        written: "",
+        ..FRAMES
+    },
+    Run {
+        words: &["run", "s.scn"],
+        ..FRAMES
+    },
+    // Of a command that shows a run each line is written before a later task happens, and the task of a line
+    // that is not taken is not counted.
+    LINES,
+    Run {
+        failing_writes: &[(2, 3)],
+        status: Status::WriteFault,
+        written: "w 0.000000 N a\nw 0",
+        rows: &[(1, 0), (0, 0)],
+        ..LINES
+    },
+    Run {
+        words: &["run", "s.scn"],
+        failing_writes: &[(3, 0)],
+        status: Status::WriteFault,
+        written: "w 0.000000 N a\nw 0.001000 N b\n",
+        rows: &[(1, 0), (1, 0)],
+        ..LINES
+    },
+    Run {
+        words: &["profile", "s.scn"],
+        failing_writes: &[(2, 4)],
+        status: Status::WriteFault,
+        written: "p N n.can:1 start 1 0\np N ",
+        ..LINES
+    },
+    Run {
+        failing_writes: &[(2, 0)],
+        status: Status::WriteFault,
+        written: "(0000000000.000100) can0 000#\n",
+        ..FRAMES
+    },
+    Run {
+        words: &["check", "s.scn"],
+        failing_writes: &[(1, 2)],
+        status: Status::WriteFault,
+        written: "ok",
+        ..EMPTY
+    },
+    Run {
+        files: &[("n.can", "on start {")],
+        status: Status::Refused,
+        written: "refused n.can E02\n",
+        ..EMPTY
+    },
+    Run {
+        words: &["check", "s.scn"],
+        files: &[("n.can", "on start {\n  x = 1; }")],
+        status: Status::Refused,
+        written: "refused n.can:2 E09\n",
+        ..EMPTY
+    },
+    Run {
+        scenario: None,
+        status: Status::Refused,
+        written: "refused s.scn F01\n",
+        ..EMPTY
+    },
+    Run {
+        scenario: Some("scenario 1\nnode N n.can\nreplay r\n"),
+        status: Status::Refused,
+        written: "refused s.scn N01\n",
+        ..EMPTY
+    },
+    Run {
+        files: &[],
+        status: Status::Refused,
+        written: "refused n.can E07\n",
+        ..EMPTY
+    },
+    Run {
+        failing_reads: &[2],
+        status: Status::ReadFault,
+        ..EMPTY
+    },
+];
 
-/// A run of `log s.scn` in which nothing fails.
-fn log<'a>(source: &'a str, written: &'a str) -> Run<'a> {
+/// A run of the nodes M and N with one source, where both write.
+const TWICE: Run = Run {
+    scenario: Some("scenario 1\nnode M n.can\nnode N n.can\n"),
+    written: "w 0.000000 M hello\nw 0.000000 N hello\n",
+    rows: &[(1, 0), (1, 0)],
+    ..HELLO
+};
+
+/// A run in which each of two nodes writes, asks for a frame and writes of it, and picks put the second
+/// first.
+const PAIR: Run = Run {
+    scenario: Some("scenario 1\nnode M m.can\nnode N n.can\npicks 1 0 0 0 1\nuntil 1\n"),
+    files: &[
+        (
+            "m.can",
+            "variables { message 0x1 m = {dlc=0}; } on start { write(\"a\"); output(m); }\n\
+             on message * { write(\"a %d\", this.dir); }",
+        ),
+        (
+            "n.can",
+            "variables { message 0x0 m = {dlc=0}; } on start { write(\"b\"); output(m); }\n\
+             on message * { int i; i = 0; while (i < 2) i++; write(\"b %d\", this.dir); }",
+        ),
+    ],
+    written: "w 0.000000 N b\nw 0.000000 M a\n\
+        w 0.000100 M a 0\nw 0.000100 N b 1\n\
+        w 0.000200 N b 0\nw 0.000200 M a 1\n",
+    rows: &[(1, 0), (2, 0), (1, 0), (2, 4)],
+    ..EMPTY
+};
+
+static PAIRS: [Run; 9] = [
+    TWICE,
+    Run {
+        scenario: Some("scenario 1\nnode M n.can\nnode N n.can\npicks 1\n"),
+        written: "w 0.000000 N hello\nw 0.000000 M hello\n",
+        ..TWICE
+    },
+    PAIR,
+    Run {
+        words: &["check", "s.scn"],
+        written: "ok\n",
+        rows: &[],
+        ..PAIR
+    },
     Run {
         words: &["log", "s.scn"],
-        ..window(source, Status::Done, written)
-    }
-}
+        written: "(0000000000.000100) can0 000#\n(0000000000.000200) can0 001#\n",
+        ..PAIR
+    },
+    Run {
+        words: &["run", "s.scn"],
+        written: "w 0.000000 N b\nw 0.000000 M a\n\
+            (0000000000.000100) can0 000#\nw 0.000100 M a 0\nw 0.000100 N b 1\n\
+            (0000000000.000200) can0 001#\nw 0.000200 N b 0\nw 0.000200 M a 1\n",
+        ..PAIR
+    },
+    Run {
+        words: &["profile", "s.scn"],
+        written: "p M m.can:1 start 1 0\np M m.can:2 message 2 0\n\
+            p N n.can:1 start 1 0\np N n.can:2 message 2 4\n",
+        ..PAIR
+    },
+    Run {
+        words: &["run", "s.scn"],
+        failing_writes: &[(2, 0)],
+        status: Status::WriteFault,
+        written: "w 0.000000 N b\n",
+        rows: &[(0, 0), (0, 0), (1, 0), (0, 0)],
+        ..PAIR
+    },
+    Run {
+        files: &[("m.can", ""), ("n.can", "\non start { x = 1; }")],
+        status: Status::Refused,
+        written: "refused n.can:2 E09\n",
+        rows: &[],
+        ..PAIR
+    },
+];
 
-/// The files `s.scn` and `n.can`, where they are there.
+static USAGES: [Run; 4] = [
+    Run {
+        words: &[],
+        status: Status::Usage,
+        ..EMPTY
+    },
+    Run {
+        words: &["window"],
+        status: Status::Usage,
+        ..EMPTY
+    },
+    Run {
+        words: &["Window", "s.scn"],
+        status: Status::Usage,
+        ..EMPTY
+    },
+    Run {
+        words: &["check", "s.scn", "s.scn"],
+        status: Status::Usage,
+        ..EMPTY
+    },
+];
+
+/// The files of a run.
 fn files(alloc: Global, run: &Run) -> Result<MemFiles, Fail> {
-    let mut entries = Vec::new(alloc);
-    for (name, text) in [("s.scn", run.scenario), ("n.can", run.source)] {
-        if let Some(text) = text {
-            let name = Text::make(alloc, name.as_bytes())?;
-            entries.push((name, text.as_bytes().to_vec(alloc)?))?;
-        }
+    let mut held = Vec::new(alloc);
+    if let Some(text) = run.scenario {
+        held.push((Text::make(alloc, b"s.scn")?, text.as_bytes().to_vec(alloc)?))?;
     }
-    Ok(MemFiles::new(entries, run.failing_reads.to_vec(alloc)?))
+    for (name, text) in run.files {
+        held.push((
+            Text::make(alloc, name.as_bytes())?,
+            text.as_bytes().to_vec(alloc)?,
+        ))?;
+    }
+    Ok(MemFiles::new(held, run.failing_reads.to_vec(alloc)?))
 }
 
 /// The words of a run.
-fn words(alloc: Global, run: &Run) -> Result<Vec<String>, Fail> {
-    let mut words = Vec::new(alloc);
-    for word in run.words {
-        words.push(String::from_str(alloc, word)?)?;
+fn words(alloc: Global, words: &[&str]) -> Result<Vec<String>, Fail> {
+    let mut held = Vec::new(alloc);
+    for word in words {
+        held.push(String::from_str(alloc, word)?)?;
     }
-    Ok(words)
+    Ok(held)
+}
+
+/// A meter has these rows of runs and turns, and no other.
+fn check_rows(rt: &impl Abort, meter: &Meter, wanted: &[(u64, u64)]) {
+    assert_eq!(rt; meter.rows(), wanted.len(), "{wanted:?}");
+    for (place, (runs, turns)) in wanted.iter().enumerate() {
+        let row = meter.row(place);
+        assert!(rt;
+            row.is_some_and(|row| row.runs == *runs && row.turns == *turns),
+            "{row:?} in place {place} of {wanted:?}"
+        );
+    }
+}
+
+/// A run ends, writes and counts as it must.
+fn check_run(rt: &(impl AllocGlobal + Abort), run: &Run) -> Result<(), Fail> {
+    let alloc = rt.alloc();
+    let mut files = files(alloc, run)?;
+    let mut out = Out::new(MemSink::new(alloc, run.failing_writes.to_vec(alloc)?));
+    let mut meter = Meter::new(alloc);
+    let words = words(alloc, run.words)?;
+    let status = simulate(alloc, &words, &mut files, &mut out, &mut meter);
+    assert_eq!(rt;
+        out.sink().written(),
+        run.written.as_bytes(),
+        "{}",
+        run.written
+    );
+    assert_eq!(rt; status, run.status);
+    check_rows(rt, &meter, run.rows);
+    Ok(())
 }
 
 #[test]
 fn runs_end_and_write_as_they_must(rt: HostRuntime) -> Result<(), Fail> {
-    let hello = r#"on start { write("hello"); }"#;
-    let two = r#"on start { write("a"); write("b"); }"#;
-    let runs = [
-        window(hello, Status::Done, "w 0.000000 N hello\n"),
-        window("", Status::Done, ""),
-        window("on start {", Status::Refused, "refused n.can E02\n"),
-        window(
-            "on start {\n  x = 1; }",
-            Status::Refused,
-            "refused n.can:2 E09\n",
-        ),
-        Run {
-            scenario: None,
-            ..window(hello, Status::Refused, "refused s.scn F01\n")
-        },
-        Run {
-            scenario: Some("scenario 1\nnode N n.can\nnode M n.can\n"),
-            ..window(hello, Status::Refused, "refused s.scn N01\n")
-        },
-        Run {
-            source: None,
-            ..window(hello, Status::Refused, "refused n.can E07\n")
-        },
-        Run {
-            words: &[],
-            ..window(hello, Status::Usage, "")
-        },
-        Run {
-            failing_reads: &[2],
-            ..window(hello, Status::ReadFault, "")
-        },
-        Run {
-            failing_writes: &[(2, 3)],
-            ..window(two, Status::WriteFault, "w 0.000000 N a\nw 0")
-        },
-    ];
-    check(&rt, &runs)
-}
-
-#[test]
-fn frames_are_logged_as_the_bus_sends_them(rt: HostRuntime) -> Result<(), Fail> {
-    let two =
-        "variables { message 0x1 a = {dlc=0}; message 0x0 b = {dlc=0}; } on start { output(a); output(b); }";
-    let two_lines = "(0000000000.000100) can0 000#\n(0000000000.000200) can0 001#\n";
-    let runs = [
-        // The lower identifier goes first though it was asked for second.
-        log(two, two_lines),
-        Run {
-            scenario: Some("scenario 1\nnode N n.can\nuntil 0\n"),
-            ..log(two, "")
-        },
-        Run {
-            scenario: Some("scenario 1\nnode N n.can\nepoch 7\ninterface x\n"),
-            ..log(
-                two,
-                "(0000000007.000100) x 000#\n(0000000007.000200) x 001#\n",
-            )
-        },
-        Run {
-            failing_writes: &[(2, 0)],
-            status: Status::WriteFault,
-            ..log(two, "(0000000000.000100) can0 000#\n")
-        },
-        window(two, Status::Done, ""),
-    ];
-    check(&rt, &runs)
-}
-
-// The turns of the procedures stand in the meter's rows, in program order.
-#[test]
-fn procedures_are_counted(rt: HostRuntime) -> Result<(), Fail> {
-    let alloc = rt.alloc();
-    let source = "on start { int i; while (i < 3) i++; } on key 'a' { stop(); } on preStart { }";
-    let run = Run {
-        scenario: Some("scenario 1\nnode N n.can\nkey 1 a\nkey 2 a\n"),
-        ..window(source, Status::Done, "")
-    };
-    let mut sink = MemSink::new(alloc, Vec::new(alloc));
-    let mut meter = Meter::new(alloc);
-    let words = words(alloc, &run)?;
-    let status = simulate(
-        alloc,
-        &words,
-        &mut files(alloc, &run)?,
-        &mut sink,
-        &mut meter,
-    );
-    assert_eq!(rt; status, Status::Done);
-    assert_eq!(rt; meter.rows(), 3);
-    for (place, (runs, turns)) in [(1, 3), (1, 0), (1, 0)].iter().enumerate() {
-        let row = meter.row(place);
-        assert!(rt; row.is_some_and(|row| row.runs == *runs && row.turns == *turns));
-    }
-    Ok(())
-}
-
-/// Each run ends and writes as it must.
-fn check(rt: &(impl AllocGlobal + Abort), runs: &[Run]) -> Result<(), Fail> {
-    let alloc = rt.alloc();
-    for run in runs {
-        let mut files = files(alloc, run)?;
-        let mut sink = MemSink::new(alloc, run.failing_writes.to_vec(alloc)?);
-        let words = words(alloc, run)?;
-        let mut meter = Meter::new(alloc);
-        let status = simulate(alloc, &words, &mut files, &mut sink, &mut meter);
-        assert_eq!(rt; status, run.status);
-        assert_eq!(rt; sink.written(), run.written.as_bytes());
+    for run in RUNS.iter().chain(&PAIRS).chain(&USAGES) {
+        check_run(&rt, run)?;
     }
     Ok(())
 }
@@ -182,18 +378,18 @@ fn check(rt: &(impl AllocGlobal + Abort), runs: &[Run]) -> Result<(), Fail> {
 fn long_sources_are_refused(rt: HostRuntime) -> Result<(), Fail> {
     let alloc = rt.alloc();
     for (count, status) in [(1 << 20, Status::Done), ((1 << 20) + 1, Status::Refused)] {
-        let mut entries = Vec::new(alloc);
-        entries.push((
+        let mut held = Vec::new(alloc);
+        held.push((
             Text::make(alloc, b"s.scn")?,
-            SCENARIO.as_bytes().to_vec(alloc)?,
+            b"scenario 1\nnode N n.can\n".to_vec(alloc)?,
         ))?;
-        entries.push((Text::make(alloc, b"n.can")?, vec![in alloc; b' '; count]?))?;
-        let mut files = MemFiles::new(entries, Vec::new(alloc));
-        let mut sink = MemSink::new(alloc, Vec::new(alloc));
-        let words = words(alloc, &window("", status, ""))?;
+        held.push((Text::make(alloc, b"n.can")?, vec![in alloc; b' '; count]?))?;
+        let mut files = MemFiles::new(held, Vec::new(alloc));
+        let mut out = Out::new(MemSink::new(alloc, Vec::new(alloc)));
+        let words = words(alloc, &["check", "s.scn"])?;
         let mut meter = Meter::new(alloc);
         assert_eq!(rt;
-            simulate(alloc, &words, &mut files, &mut sink, &mut meter),
+            simulate(alloc, &words, &mut files, &mut out, &mut meter),
             status
         );
     }

@@ -4,7 +4,6 @@ use input_refusals::InputRefusal;
 use sim_inputs::{Inputs, read_inputs};
 use sim_outside::MemFiles;
 use std::alloc::Global;
-use std::process::Abort;
 use std::test::Fail;
 use texts::{Blame, Text};
 
@@ -14,31 +13,60 @@ type Files = &'static [(&'static [u8], &'static [u8])];
 /// A blame: the file, the line, and the letter and number of the rule.
 type Place = (&'static [u8], Option<u32>, u8, u8);
 
-const TAKEN: Files = &[
-    (b"d/s", b"scenario 1\nnode N n.can\ndatabase b.dbc"),
+/// A program of 900,000 cells.
+const LARGE: &[u8] = b"variables { byte a[900000]; }";
+
+/// A program of as many cells as one may have.
+const LARGEST: &[u8] = b"variables { byte a[1000000]; }";
+
+/// Files of a scenario that is taken, and how many event procedures each of its nodes has.
+const TAKEN: [(Files, &[usize]); 3] = [
     (
-        b"d/b.dbc",
-        b"BO_ 1 Engine: 1 N\n SG_ Speed : 0|8@1+ (1,0) [0|0] \"\" N",
+        &[
+            (b"d/s", b"scenario 1\nnode N n.can\ndatabase b.dbc"),
+            (
+                b"d/b.dbc",
+                b"BO_ 1 Engine: 1 N\n SG_ Speed : 0|8@1+ (1,0) [0|0] \"\" N",
+            ),
+            (
+                b"d/n.can",
+                b"includes { #include \"u.cin\" } on start { f(); }",
+            ),
+            (b"d/u.cin", b"void f() { write(\"f\"); }"),
+        ],
+        &[1],
     ),
+    // Two nodes may have one name for different things, and one file may be that of two nodes.
     (
-        b"d/n.can",
-        b"includes { #include \"u.cin\" } on start { f(); }",
+        &[
+            (b"d/s", b"scenario 1\nnode N n\nnode M m\nnode O n\npicks 1"),
+            (b"d/n", b"variables { int x; } on start { x = 1; }"),
+            (b"d/m", b"on start { } void x() { } on key 'a' { x(); }"),
+        ],
+        &[1, 2, 1],
     ),
-    (b"d/u.cin", b"void f() { write(\"f\"); }"),
+    // All programs together may have 4,000,000 cells.
+    (
+        &[
+            (
+                b"d/s",
+                b"scenario 1\nnode A n\nnode B n\nnode C n\nnode D n\nnode E m",
+            ),
+            (b"d/n", LARGEST),
+            (b"d/m", b""),
+        ],
+        &[0, 0, 0, 0, 0],
+    ),
 ];
 
-const BLAMES: [(Files, Place); 13] = [
+const BLAMES: [(Files, Place); 18] = [
     (&[(b"t", b"")], (b"s", None, b'F', 1)),
     (
         &[(b"s", b"scenario 1\nnode N n\nuntil x")],
         (b"s", Some(3), b'S', 7),
     ),
     (
-        &[(b"s", b"scenario 1\nnode N n\nnode M m")],
-        (b"s", None, b'N', 1),
-    ),
-    (
-        &[(b"s", b"scenario 1\nnode N n\nreplay r")],
+        &[(b"s", b"scenario 1\nnode N n\nnode M m\nreplay r")],
         (b"s", None, b'N', 1),
     ),
     (
@@ -93,6 +121,58 @@ const BLAMES: [(Files, Place); 13] = [
         ],
         (b"u", Some(3), b'E', 16),
     ),
+    // The sources of the nodes come one after another, each whole before the next is read.
+    (
+        &[
+            (b"s", b"scenario 1\nnode N n\nnode M m\ndatabase b"),
+            (b"n", b""),
+            (b"m", b"`"),
+        ],
+        (b"b", None, b'F', 1),
+    ),
+    (
+        &[(b"s", b"scenario 1\nnode N n\nnode M m"), (b"n", b"")],
+        (b"m", None, b'E', 7),
+    ),
+    (
+        &[
+            (b"s", b"scenario 1\nnode N n\nnode M m"),
+            (b"n", b""),
+            (b"m", b"\n\non start { x = 1; }"),
+        ],
+        (b"m", Some(3), b'E', 9),
+    ),
+    (
+        &[
+            (b"s", b"scenario 1\nnode N n\nnode M m"),
+            (b"n", b"\non start { x = 1; }"),
+            (b"m", b"`"),
+        ],
+        (b"n", Some(2), b'E', 9),
+    ),
+    // The file of the node with which the programs are too large together is to blame, once nothing of it is.
+    (
+        &[
+            (
+                b"s",
+                b"scenario 1\nnode A n\nnode B n\nnode C n\nnode D n\nnode E m\nnode F o",
+            ),
+            (b"n", LARGE),
+            (b"m", LARGE),
+        ],
+        (b"m", None, b'E', 29),
+    ),
+    (
+        &[
+            (
+                b"s",
+                b"scenario 1\nnode A n\nnode B n\nnode C n\nnode D n\nnode E m",
+            ),
+            (b"n", LARGEST),
+            (b"m", b"variables { int i; }"),
+        ],
+        (b"m", None, b'E', 29),
+    ),
 ];
 
 /// What the inputs of this name are in these files.
@@ -116,13 +196,17 @@ fn is_blame(blame: &Blame, place: &Place) -> bool {
 
 #[test]
 fn inputs_are_read(rt: HostRuntime) -> Result<(), Fail> {
-    let answer = read(rt.alloc(), b"d/s", TAKEN)?;
-    let Ok(inputs) = answer else {
-        assert!(rt; false);
-        return Ok(());
-    };
-    assert_eq!(rt; inputs.scenario.nodes.len(), 1);
-    assert_eq!(rt; inputs.code.code().handlers.len(), 1);
+    for (files, procedures) in TAKEN {
+        let answer = read(rt.alloc(), b"d/s", files)?;
+        let Ok(inputs) = answer else {
+            return Err(Fail::new("they are refused"));
+        };
+        assert_eq!(rt; inputs.scenario.nodes.len(), procedures.len());
+        assert_eq!(rt; inputs.codes.len(), procedures.len());
+        for (code, count) in inputs.codes.iter().zip(procedures) {
+            assert_eq!(rt; code.code().handlers.len(), *count);
+        }
+    }
     Ok(())
 }
 
@@ -130,7 +214,10 @@ fn inputs_are_read(rt: HostRuntime) -> Result<(), Fail> {
 fn the_first_broken_rule_is_to_blame(rt: HostRuntime) -> Result<(), Fail> {
     for (files, place) in BLAMES {
         let answer = read(rt.alloc(), b"s", files)?;
-        assert!(rt; matches!(&answer, Err(InputRefusal::Blamed(blame)) if is_blame(blame, &place)));
+        assert!(rt;
+            matches!(&answer, Err(InputRefusal::Blamed(blame)) if is_blame(blame, &place)),
+            "{place:?}"
+        );
     }
     Ok(())
 }

@@ -1,6 +1,3 @@
 -- Lemmas on the definitions of this crate.
-pub mod DueTimers
-pub mod EachPart
-pub mod EachRun
+pub mod FirstNodes
 pub mod Loaded
-pub mod OneRun

@@ -1,2 +1,4 @@
 -- Lemmas of the tests.
+pub mod FileLists
 pub mod NewBus
+pub mod NewRows

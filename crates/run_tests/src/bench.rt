@@ -1,15 +1,21 @@
-// What the tests run a node on, and the conditions of the calls that they make.
+// What the tests run nodes on, and the conditions of the calls that they make.
 
-ghost use Rattle.std.specs.Prelude.{◌≡◌, ◌≤◌, ◌^◌, None, IfOk};
-ghost use Rattle.can_bus.specs.Bus.{BitTakesTime, next_moment};
+ghost use Rattle.std.specs.Prelude.{◌≡◌, ◌<◌, ◌≤◌, ◌^◌, None, length, replicate, All, IfOk, IsTrue};
+ghost use Rattle.can_frame.specs.Frame.{FrameFields, IsFrame};
 ghost use Rattle.node_run.specs.Node.{HasRows};
-ghost use Rattle.sim_core.specs.Outcome.{IsNew};
+ghost use Rattle.sim_core.specs.Core.{HaveRows, IsLoaded};
+ghost use Rattle.sim_core.specs.declared.simulation.Phase.TheVariants.{New};
+ghost use Rattle.sim_play.specs.Play.{AreNewRows, StandInOrder};
+ghost use Rattle.run_tests.specs.Rows.{one_order};
 
 use arbitration::PlainBus;
+use bus_heap::HeapBus;
 use bytecode::Verified;
+use can_bus::Bus;
 use node_run::{Node, Round, Seen};
 use run_records::MemRecord;
-use scenario::KeyItem;
+use scenario::{KeyItem, Scenario};
+use sim_core::Core;
 use sim_inputs::{Inputs, read_inputs};
 use sim_outside::MemFiles;
 use stack_vm::Meter;
@@ -20,121 +26,162 @@ use texts::Text;
 /// The last moment of a run of a test.
 const LATEST: u64 = 86_400_000_000;
 
-/// What a run takes of a scenario and its source.
+/// The most nodes of a run of a test.
+const MOST_NODES: usize = 64;
+
+/// The nodes of a scenario of a test, and their files.
+const NODES: [(&str, &str); 2] = [("A", "a.can"), ("B", "b.can")];
+
+/// What a run takes of a scenario and its sources.
 #[derive(Drop)]
 pub(crate) struct Course {
-    pub(crate) code: Verified,
+    pub(crate) codes: Vec<Verified>,
     pub(crate) keys: Vec<KeyItem>,
+    pub(crate) picks: Vec<u32>,
     pub(crate) bit: u32,
     pub(crate) turns: u64,
     pub(crate) until: u64,
+    ghost takes_time: { 1 ≤ bit },
     ghost in_time: { until ≤ 2 ^ 63 },
+    ghost in_range: { All (λ key. key.key < 127) keys.items },
 }
 
-/// The files of a scenario of the node N, with these further items, and of this source.
-fn files(alloc: Global, items: &str, source: &str) -> Result<MemFiles, Fail> {
-    let scenario = format!(in alloc; "scenario 1\nnode N n.can\n{items}")?;
+/// The files of a scenario of the nodes A and B, or of A alone, with these further items, and of their
+/// sources.
+fn files(alloc: Global, items: &str, sources: &[&str]) -> Result<MemFiles, Fail> {
+    let mut scenario = String::from_str(alloc, "scenario 1\n")?;
     let mut held = Vec::new(alloc);
+    for ((name, file), source) in NODES.iter().zip(sources) {
+        scenario.push_str(&format!(in alloc; "node {name} {file}\n")?)?;
+        held.push((
+            Text::make(alloc, file.as_bytes())?,
+            source.as_bytes().to_vec(alloc)?,
+        ))?;
+    }
+    scenario.push_str(items)?;
     held.push((
         Text::make(alloc, b"s.scn")?,
         scenario.as_bytes().to_vec(alloc)?,
     ))?;
-    held.push((
-        Text::make(alloc, b"n.can")?,
-        source.as_bytes().to_vec(alloc)?,
-    ))?;
     Ok(MemFiles::new(held, Vec::new(alloc)))
 }
 
+/// Whether each of these keys can be pressed.
+fn are_keys(keys: &[KeyItem]) -> bool
+    ensures { IsTrue result → All (λ key. key.key < 127) keys.now }
+{
+    keys.iter().all(|key| key.key < 127)
+}
+
 /// What a run takes of these inputs.
-fn course_of(alloc: Global, inputs: Inputs) -> Result<Course, Fail> {
-    let keys = inputs.scenario.keys.to_vec(alloc)?;
-    let (bit, turns) = (inputs.scenario.bit, inputs.scenario.turns);
-    let until = inputs.scenario.until;
-    if until > LATEST {
-        return Err("too late".into());
+fn course_of(inputs: Inputs) -> Result<Course, Fail> {
+    let Inputs {
+        scenario,
+        codes,
+        ..
+    } = inputs;
+    let Scenario {
+        keys,
+        picks,
+        bit,
+        turns,
+        until,
+        ..
+    } = scenario;
+    if bit == 0 || until > LATEST || !are_keys(&keys) {
+        return Err("no time, too late, or no key".into());
     }
     Ok(Course {
-        code: inputs.code,
+        codes,
         keys,
+        picks,
         bit,
         turns,
         until,
     })
 }
 
-/// What a run takes of a scenario of the node N, with these further items, and of this source.
-fn read_course(alloc: Global, items: &str, source: &str) -> Result<Course, Fail> {
-    let mut files = files(alloc, items, source)?;
+/// What a run takes of a scenario of the nodes A and B, or of A alone, with these further items, and of their
+/// sources.
+fn read_course(alloc: Global, items: &str, sources: &[&str]) -> Result<Course, Fail> {
+    let mut files = files(alloc, items, sources)?;
     let name = Text::make(alloc, b"s.scn")?;
-    let inputs = read_inputs(alloc, &name, &mut files)?;
-    course_of(alloc, inputs)
+    course_of(read_inputs(alloc, &name, &mut files)?)
 }
 
-/// A node of this code, whose rows stand first in a meter.
-fn node(alloc: Global, code: Verified, turns: u64) -> Result<Node, Fail>
-    ensures new { IfOk result IsNew }
-    ensures first { IfOk result (λ node. node.first_row ≡ 0) }
+/// Nodes of these codes, and a meter with their rows, one behind the other.
+fn load_nodes(alloc: Global, codes: Vec<Verified>, turns: u64) -> Result<(Vec<Node>, Meter), Fail>
+    ensures loaded { IfOk result (λ made. All IsLoaded made.0.items) }
+    ensures rows { IfOk result (λ made. AreNewRows made.0.items made.1) }
 {
-    Ok(Node::load(alloc, code, 0, turns)?)
-}
-
-/// A meter with the rows of a node.
-fn meter(alloc: Global, node: &Node) -> Result<Meter, Fail>
-    requires { node.now.first_row ≡ 0 }
-    ensures { IfOk result (λ meter. HasRows meter node.now) }
-{
-    let handlers = node.code().code().handlers.len();
+    let mut nodes = Vec::new(alloc);
     let mut meter = Meter::new(alloc);
-    meter.open_rows(u32::try_from(handlers)?)?;
-    if meter.rows() < handlers {
-        return Err("too few rows".into());
+    for code in codes {
+        let handlers = u32::try_from(code.code().handlers.len())?;
+        let first_row = meter.open_rows(handlers)?;
+        nodes.push(Node::load(alloc, code, first_row, turns)?)?;
     }
-    Ok(meter)
+    Ok((nodes, meter))
 }
 
-/// A bus on which nothing was requested.
-fn bus(alloc: Global, bit: u32) -> Result<PlainBus, Fail>
-    ensures sound { IfOk result BitTakesTime }
-    ensures idle { IfOk result (λ bus. next_moment bus ≡ None) }
-{
-    if bit == 0 {
-        return Err("a bit takes time".into());
-    }
-    Ok(PlainBus::make(alloc, bit))
-}
-
-/// A node that was loaded, with its rows, and the bus, the keys and the end moment of its run.
+/// A simulation of which nothing has happened yet, and a meter with the rows of its nodes.
 #[derive(Drop)]
-pub(crate) struct Start {
-    pub(crate) node: Node,
-    pub(crate) bus: PlainBus,
+pub(crate) struct Start<B: Bus> {
+    pub(crate) core: Core<B>,
     pub(crate) meter: Meter,
-    pub(crate) keys: Vec<KeyItem>,
-    pub(crate) until: u64,
-    ghost new: { IsNew node },
-    ghost rows: { HasRows meter node },
-    ghost sound: { BitTakesTime bus },
-    ghost idle: { next_moment bus ≡ None },
-    ghost in_time: { until ≤ 2 ^ 63 },
+    ghost is_new: { core.phase ≡ New },
+    ghost in_order: { StandInOrder 0 core.nodes (length meter) } by { one_order 0 core.nodes (length meter) },
+    ghost zeros: { meter ≡ replicate (length meter) (record { runs = 0; turns = 0 }) },
+    ghost rows: { HaveRows meter core.nodes },
 }
 
-impl Start {
-    /// The start of a run of this source, by a scenario with these items.
-    pub(crate) fn make(alloc: Global, items: &str, source: &str) -> Result<Start, Fail> {
-        let course = read_course(alloc, items, source)?;
-        let (bit, until) = (course.bit, course.until);
-        let node = node(alloc, course.code, course.turns)?;
-        let meter = meter(alloc, &node)?;
-        let bus = bus(alloc, bit)?;
-        Ok(Start {
-            node,
-            bus,
-            meter,
-            keys: course.keys,
-            until,
-        })
+/// The start of a run on this bus.
+fn start_on<B: Bus + Drop>(alloc: Global, course: Course, bus: B) -> Result<Start<B>, Fail>
+    requires new_bus { B.meaning.next_moment bus ≡ None }
+    requires sound_bus { B.meaning.sound bus }
+    requires frames { (frame : FrameFields) → B.meaning.carries bus frame → IsFrame frame }
+    requires serves { MOST_NODES < B.meaning.nodes bus }
+{
+    let Course {
+        codes,
+        keys,
+        picks,
+        turns,
+        until,
+        ..
+    } = course;
+    let (nodes, meter) = load_nodes(alloc, codes, turns)?;
+    if nodes.len() > MOST_NODES {
+        return Err("too many nodes".into());
     }
+    let core = Core::make(alloc, nodes, bus, keys, Vec::new(alloc), picks, until);
+    Ok(Start { core, meter })
+}
+
+/// The start of a run of what a scenario and its sources give.
+pub(crate) fn start_of(alloc: Global, course: Course) -> Result<Start<PlainBus>, Fail> {
+    let bus = PlainBus::make(alloc, course.bit);
+    start_on(alloc, course, bus)
+}
+
+/// The start of a run of these sources, by a scenario with these items.
+pub(crate) fn plain_start(
+    alloc: Global,
+    items: &str,
+    sources: &[&str],
+) -> Result<Start<PlainBus>, Fail> {
+    start_of(alloc, read_course(alloc, items, sources)?)
+}
+
+/// The same start, on a bus that keeps its requests in a heap.
+pub(crate) fn heap_start(
+    alloc: Global,
+    items: &str,
+    sources: &[&str],
+) -> Result<Start<HeapBus>, Fail> {
+    let course = read_course(alloc, items, sources)?;
+    let bus = HeapBus::make(alloc, course.bit);
+    start_on(alloc, course, bus)
 }
 
 /// A node with its rows, the bus on which it stands, and what it leaves behind.
@@ -150,13 +197,16 @@ pub(crate) struct Bench {
 impl Bench {
     /// A node of this source, as it is loaded, where each task has so many turns.
     pub(crate) fn make(alloc: Global, source: &str, turns: u64) -> Result<Bench, Fail> {
-        let course = read_course(alloc, "", source)?;
-        let bit = course.bit;
-        let node = node(alloc, course.code, turns)?;
-        let meter = meter(alloc, &node)?;
+        let mut course = read_course(alloc, "", &[source])?;
+        let bus = PlainBus::make(alloc, course.bit);
+        let Some(code) = course.codes.pop() else {
+            return Err("no code".into());
+        };
+        let mut meter = Meter::new(alloc);
+        let first_row = meter.open_rows(u32::try_from(code.code().handlers.len())?)?;
         Ok(Bench {
-            node,
-            bus: bus(alloc, bit)?,
+            node: Node::load(alloc, code, first_row, turns)?,
+            bus,
             into: MemRecord::new(alloc),
             meter,
         })

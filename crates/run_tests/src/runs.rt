@@ -1,96 +1,117 @@
 // Runs to their ends.
 
-use crate::bench::Start;
-use crate::entries::{Entry, check_entries};
+use crate::bench::{Start, heap_start, plain_start};
+use crate::entries::{Entry, check_entries, check_rows};
+use crate::pairs::PAIRS;
+use can_bus::Bus;
 use run_records::MemRecord;
-use sim_core::run_until;
 use stack_vm::Meter;
 use std::alloc::Global;
+use std::process::Abort;
 use std::test::Fail;
 
-/// What a run of this source leaves, and how often its procedures ran, by a scenario with these items.
-pub(crate) fn ran(alloc: Global, items: &str, source: &str) -> Result<(MemRecord, Meter), Fail> {
-    let Start {
-        mut node,
-        mut bus,
-        mut meter,
-        keys,
-        until,
-    } = Start::make(alloc, items, source)?;
-    let mut into = MemRecord::new(alloc);
-    let ran = run_until(
-        alloc, &mut node, &mut bus, &keys, until, &mut into, &mut meter,
-    );
-    match ran {
-        Ok(()) => Ok((into, meter)),
-        Err(fault) => Err(fault.into()),
-    }
+/// A run, and what it must leave.
+#[derive(Clone, Copy)]
+pub(crate) struct Run {
+    /// The further items of its scenario.
+    pub(crate) items: &'static str,
+    /// The sources of its nodes.
+    pub(crate) sources: &'static [&'static str],
+    /// Its entries.
+    pub(crate) entries: &'static [Entry],
+    /// The runs and turns of each procedure, node by node.
+    pub(crate) rows: &'static [(u64, u64)],
 }
 
-/// A run: the items of its scenario, its source, its entries, and the runs and turns of each procedure.
-type Run = (
-    &'static str,
-    &'static str,
-    &'static [Entry],
-    &'static [(u64, u64)],
-);
+/// What a run leaves, and how often its procedures ran.
+pub(crate) fn ran<B: Bus + Drop>(
+    alloc: Global,
+    start: Start<B>,
+) -> Result<(MemRecord, Meter), Fail> {
+    let Start {
+        mut core,
+        mut meter,
+    } = start;
+    let mut into = MemRecord::new(alloc);
+    core.run_until(&mut into, &mut meter)?;
+    Ok((into, meter))
+}
 
 const RUNS: [Run; 5] = [
     // Of two requests the one with the lower identifier goes first; the node sees its own frames.
-    (
-        "",
-        "variables { message 0x1 a = {dlc = 0}; message 0x0 b = {dlc = 0}; } \
-         on start { output(a); output(b); write(\"go\"); } on message 0x1 { write(\"%d\", this.dir); }",
-        &[
+    Run {
+        items: "",
+        sources: &[
+            "variables { message 0x1 a = {dlc = 0}; message 0x0 b = {dlc = 0}; } \
+             on start { output(a); output(b); write(\"go\"); } on message 0x1 { write(\"%d\", this.dir); }",
+        ],
+        entries: &[
             Entry::Line(0, "go"),
             Entry::Frame(100, 0, 0),
             Entry::Frame(200, 1, 0),
             Entry::Line(200, "1"),
         ],
-        &[(1, 0), (1, 0)],
-    ),
+        rows: &[(1, 0), (1, 0)],
+    },
     // Without a frame or a key the moments are those of the timers.
-    (
-        "",
-        "variables { msTimer t; msTimer c; int n; } on start { setTimer(t, 5); setTimerCyclic(c, 2); } \
-         on timer c { n++; } on timer t { write(\"%d\", n); stop(); } on stopMeasurement { write(\"end\"); }",
-        &[Entry::Line(5000, "2"), Entry::Line(5000, "end")],
-        &[(1, 0), (2, 0), (1, 0), (1, 0)],
-    ),
+    Run {
+        items: "",
+        sources: &[
+            "variables { msTimer t; msTimer c; int n; } on start { setTimer(t, 5); setTimerCyclic(c, 2); } \
+             on timer c { n++; } on timer t { write(\"%d\", n); stop(); } \
+             on stopMeasurement { write(\"end\"); }",
+        ],
+        entries: &[Entry::Line(5000, "2"), Entry::Line(5000, "end")],
+        rows: &[(1, 0), (2, 0), (1, 0), (1, 0)],
+    },
     // A key at the end moment is pressed, and a later one is not.
-    (
-        "until 1\nkey 0 a\nkey 1 b\nkey 2 a",
-        "on stopMeasurement { write(\"end\"); } on key * { write(\"%c\", this); }",
-        &[
+    Run {
+        items: "until 1\nkey 0 a\nkey 1 b\nkey 2 a",
+        sources: &["on stopMeasurement { write(\"end\"); } on key * { write(\"%c\", this); }"],
+        entries: &[
             Entry::Line(0, "a"),
             Entry::Line(1000, "b"),
             Entry::Line(1000, "end"),
         ],
-        &[(1, 0), (2, 0)],
-    ),
+        rows: &[(1, 0), (2, 0)],
+    },
     // A frame that has not ended at the end moment is not there.
-    (
-        "until 0",
-        "variables { message 0x0 m; } on preStart { output(m); write(\"before\"); } on message * { stop(); }",
-        &[Entry::Line(0, "before")],
-        &[(1, 0), (0, 0)],
-    ),
-    ("", "", &[], &[]),
+    Run {
+        items: "until 0",
+        sources: &[
+            "variables { message 0x0 m; } on preStart { output(m); write(\"before\"); } \
+             on message * { stop(); }",
+        ],
+        entries: &[Entry::Line(0, "before")],
+        rows: &[(1, 0), (0, 0)],
+    },
+    Run {
+        items: "",
+        sources: &[""],
+        entries: &[],
+        rows: &[],
+    },
 ];
 
+/// A run leaves what it must.
+fn check_run<B: Bus + Drop>(
+    rt: &(impl AllocGlobal + Abort),
+    start: Start<B>,
+    run: &Run,
+) -> Result<(), Fail> {
+    let (into, meter) = ran(rt.alloc(), start)?;
+    check_entries(rt, into.noted(), run.entries);
+    check_rows(rt, &meter, run.rows);
+    Ok(())
+}
+
+// On either bus each run leaves the same entries and rows.
 #[test]
-fn entries_stand_in_order(rt: HostRuntime) -> Result<(), Fail> {
-    for (items, source, wanted, rows) in RUNS {
-        let (into, meter) = ran(rt.alloc(), items, source)?;
-        check_entries(&rt, into.noted(), wanted);
-        assert_eq!(rt; meter.rows(), rows.len());
-        for (place, (runs, turns)) in rows.iter().enumerate() {
-            let row = meter.row(place);
-            assert!(rt;
-                row.is_some_and(|row| row.runs == *runs && row.turns == *turns),
-                "{row:?}"
-            );
-        }
+fn runs_leave_what_they_must(rt: HostRuntime) -> Result<(), Fail> {
+    let alloc = rt.alloc();
+    for run in RUNS.iter().chain(&PAIRS) {
+        check_run(&rt, plain_start(alloc, run.items, run.sources)?, run)?;
+        check_run(&rt, heap_start(alloc, run.items, run.sources)?, run)?;
     }
     Ok(())
 }
@@ -178,7 +199,10 @@ fn each_procedure_can_end_a_run(rt: HostRuntime) -> Result<(), Fail> {
     let alloc = rt.alloc();
     for (place, statement, usual, then) in ENDS {
         let source = source_with(alloc, place, statement)?;
-        let (into, _) = ran(alloc, "until 3\nkey 2 k\nturns 3", &source)?;
+        let (into, _) = ran(
+            alloc,
+            plain_start(alloc, "until 3\nkey 2 k\nturns 3", &[&source])?,
+        )?;
         let mut wanted = Vec::new(alloc);
         for entry in USUAL.iter().take(usual).chain(then) {
             wanted.push(*entry)?;

@@ -1,5 +1,6 @@
 // Many timers that are due at one moment.
 
+use crate::bench::plain_start;
 use crate::runs::ran;
 use run_records::Noted;
 use std::alloc::Global;
@@ -38,12 +39,13 @@ fn is_due(alloc: Global, noted: &Noted, timer: usize) -> Result<bool, Fail> {
 
 #[test]
 fn timers_of_one_moment_go_in_the_order_of_their_settings(rt: HostRuntime) -> Result<(), Fail> {
-    let (into, meter) = ran(rt.alloc(), "", &source(rt.alloc(), 0)?)?;
+    let alloc = rt.alloc();
+    let (into, meter) = ran(alloc, plain_start(alloc, "", &[&source(alloc, 0)?])?)?;
     assert_eq!(rt; into.noted().len(), TIMERS);
     assert_eq!(rt; meter.rows(), TIMERS + 1);
     for (place, noted) in into.noted().iter().enumerate() {
         assert!(rt;
-            is_due(rt.alloc(), noted, timer_at(place))?,
+            is_due(alloc, noted, timer_at(place))?,
             "{noted:?} in place {place}"
         );
     }
@@ -52,9 +54,13 @@ fn timers_of_one_moment_go_in_the_order_of_their_settings(rt: HostRuntime) -> Re
 
 #[test]
 fn timers_without_a_procedure_are_taken(rt: HostRuntime) -> Result<(), Fail> {
-    let (into, meter) = ran(rt.alloc(), "", &source(rt.alloc(), TIMERS - 1)?)?;
+    let alloc = rt.alloc();
+    let (into, meter) = ran(
+        alloc,
+        plain_start(alloc, "", &[&source(alloc, TIMERS - 1)?])?,
+    )?;
     assert_eq!(rt; meter.rows(), 2);
     assert_eq!(rt; into.noted().len(), 1);
-    assert!(rt; is_due(rt.alloc(), &into.noted()[0], TIMERS - 1)?);
+    assert!(rt; is_due(alloc, &into.noted()[0], TIMERS - 1)?);
     Ok(())
 }

@@ -3,6 +3,7 @@
 #![tactic(auto)]
 
 use sim_outside::{RealFiles, RealSink};
+use sim_play::Out;
 use sim_run::simulate;
 use stack_vm::Meter;
 use std::process::ExitCode;
@@ -20,7 +21,7 @@ fn main(rt: HostRuntime) -> ExitCode {
     match words(&rt) {
         Ok(words) => {
             let mut files = RealFiles::new(&rt);
-            let mut out = RealSink::new(&rt);
+            let mut out = Out::new(RealSink::new(&rt));
             let mut meter = Meter::new(rt.alloc());
             let status = simulate(rt.alloc(), &words, &mut files, &mut out, &mut meter);
             ExitCode::from(status.number())

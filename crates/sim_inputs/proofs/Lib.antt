@@ -4,3 +4,5 @@ pub mod KeyLemmas
 pub mod OneReading
 pub mod BaseLemmas
 pub mod InputsLemmas
+pub mod NodeCount
+pub mod NodeLemmas

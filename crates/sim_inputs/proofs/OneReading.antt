@@ -1,7 +1,8 @@
--- A name leads to one scenario with one program, or has one first blame.
-use Rattle.std.proofs.Common.{◌≡◌, ◌≤◌, ℕ, List, [], ◌∷◌, Option, inl, inr, sym, ap, subst, ◌∙◌, arith}
+-- A name leads to one scenario with one program for each node, or has one first blame.
+use Rattle.std.proofs.Common.{◌≡◌, ◌≤◌, ◌+◌, ℕ, List, [], ◌∷◌, Option, inl, inr, refl, sym, ap, subst, ◌∙◌, arith}
 use Rattle.std.specs.Prelude.{◌⊎◌}
-use Rattle.std.specs.List.{flat_map}
+use Rattle.std.specs.List.{flat_map, sum_by}
+use Rattle.std.proofs.lemmas.List.Sums.{sum_by-cons}
 use Rattle.std.specs.Str.Lines.{lines}
 use Rattle.sim_outside.specs.Folder.{beside}
 use Rattle.texts.specs.declared.blame.Blame.{Blame}
@@ -22,6 +23,7 @@ use Rattle.source_compiler.specs.Source.{IsProgramBlame, IsSource, IsSourceBlame
 use Rattle.input_refusals.specs.Blame.{without_column}
 use Rattle.sim_inputs.specs.Database.{BaseAt, IsBaseBlame}
 use Rattle.sim_inputs.specs.Law.{SayTheSame}
+use Rattle.sim_inputs.specs.Nodes.{AreSources, AreWithin, IsNodesBlame, IsSumBlame, NodeSource, cells_in, weight_in}
 use Rattle.source_compiler.specs.Program.{AreTreesOf, FilesAt, IsFilesBlame, IsOffenceBlame, IsSizeBlame, most}
 use Rattle.sim_inputs.specs.Scenario.{ScenarioAt, scenario_limit}
 use Rattle.source_compiler.proofs.FileLemmas.{one_parse_blame, one_program, one_screen_blame, parsed_or_blame, screened_or_blame}
@@ -45,18 +47,12 @@ say_the_same text scenario other is also = record {
   replay = is.said.replay ∙ sym also.said.replay;
 }
 
-one_scenario : (contents : Contents) (name : List ℕ) (scenario other : Scenario) (node third : NodeItem) → ScenarioAt contents name scenario node → ScenarioAt contents name other third → SayTheSame scenario other
-one_scenario contents name scenario other node third at also =
+one_scenario : (contents : Contents) (name : List ℕ) (scenario other : Scenario) → ScenarioAt contents name scenario → ScenarioAt contents name other → SayTheSame scenario other
+one_scenario contents name scenario other at also =
     let same = one_text contents scenario_limit name at.text also.text at.held also.held in
     say_the_same also.text scenario other (subst (λ t. IsScenario t scenario) same at.is) also.is
 
-one_node : (contents : Contents) (name : List ℕ) (scenario other : Scenario) (node third : NodeItem) → ScenarioAt contents name scenario node → ScenarioAt contents name other third → node ≡ third
-one_node contents name scenario other node third at also =
-    let same = (one_scenario contents name scenario other node third at also).nodes in
-    let both : node ∷ [] ≡ third ∷ [] = sym at.alone.nodes ∙ same ∙ also.alone.nodes in
-    cc
-
--- ---- the source
+-- ---- the source of one node
 
 one_outcome : (contents : Contents) (name : List ℕ) (one other : Outcome) → IsExpansion contents name one → IsExpansion contents name other → one ≡ other
 one_outcome contents name one other is also = visit-unique contents name file_limit name nothing_met one other is also
@@ -131,74 +127,135 @@ source_or_blame contents name base files program blame source (inr (others, at, 
     let same = one_files contents name others files at source.files_at in
     program_or_blame contents name base files program blame source (subst (λ (f : List SourceFile). IsProgramBlame base name f blame) same first)
 
+-- a file has one source
+one_source : (contents : Contents) (name : List ℕ) (base : List DbcMessage) (source other : NodeSource) →
+    IsSource contents name base source.files source.program → IsSource contents name base other.files other.program → source ≡ other
+one_source contents name base source other is also =
+    let files = one_files contents name source.files other.files is.files_at also.files_at in
+    let trees = subst (λ (f : List SourceFile). AreTreesOf f source.program) files is.trees in
+    let programs = one_program other.files source.program other.program trees also.trees in
+    (λ i. record { files = files i; program = programs i })
+
+-- ---- the sources of all nodes
+
+one_sources : (contents : Contents) (name : List ℕ) (base : List DbcMessage) (nodes : List NodeItem) (sources others : List NodeSource) →
+    AreSources contents name base nodes sources → AreSources contents name base nodes others → sources ≡ others
+one_sources contents name base [] [] [] are also = refl
+one_sources contents name base [] [] (y ∷ others) are also = absurd also
+one_sources contents name base [] (x ∷ sources) others are also = absurd are
+one_sources contents name base (node ∷ nodes) [] others are also = absurd are
+one_sources contents name base (node ∷ nodes) (x ∷ sources) [] are also = absurd also
+one_sources contents name base (node ∷ nodes) (x ∷ sources) (y ∷ others) are also =
+    let head = one_source contents (beside name node.file) base x y are.0 also.0 in
+    let tail = one_sources contents name base nodes sources others are.1 also.1 in
+    (λ i. head i ∷ tail i)
+
+-- the blame of a node with a source, or of those behind it
+abbrev IsBlameBehind : Contents → List ℕ → List DbcMessage → ℕ → ℕ → NodeItem → List NodeItem → Blame → NodeSource → Type 0
+IsBlameBehind contents name base cells weights node nodes blame source =
+    IsSumBlame (beside name node.file) (cells + cells_in base source) (weights + weight_in source) blame
+    ⊎ (AreWithin (cells + cells_in base source) (weights + weight_in source)
+    × IsNodesBlame contents name base (cells + cells_in base source) (weights + weight_in source) nodes blame)
+
+sum_or_within : (name : List ℕ) (cells weights : ℕ) (blame : Blame) → AreWithin cells weights → IsSumBlame name cells weights blame → ⊥
+sum_or_within name cells weights blame within (inl many, is) = absurd (omega arith)
+sum_or_within name cells weights blame within (inr heavy, is) = absurd (omega arith)
+
+one_nodes_blame : (contents : Contents) (name : List ℕ) (base : List DbcMessage) (cells weights : ℕ) (nodes : List NodeItem) (blame other : Blame) →
+    IsNodesBlame contents name base cells weights nodes blame → IsNodesBlame contents name base cells weights nodes other → blame ≡ other
+one_nodes_blame contents name base cells weights [] blame other one two = absurd one
+one_nodes_blame contents name base cells weights (node ∷ nodes) blame other (inl one) (inl two) = one_source_blame contents (beside name node.file) base blame other one two
+one_nodes_blame contents name base cells weights (node ∷ nodes) blame other (inl one) (inr (source, is, two)) =
+    absurd (source_or_blame contents (beside name node.file) base source.files source.program blame is one)
+one_nodes_blame contents name base cells weights (node ∷ nodes) blame other (inr (source, is, one)) (inl two) =
+    absurd (source_or_blame contents (beside name node.file) base source.files source.program other is two)
+one_nodes_blame contents name base cells weights (node ∷ nodes) blame other (inr (source, is, one)) (inr (third, also, two)) =
+    let same = one_source contents (beside name node.file) base source third is also in
+    let moved = subst (λ (s : NodeSource). IsBlameBehind contents name base cells weights node nodes blame s) same one in
+    elim moved as (λ _. blame ≡ other) [
+      | inl sum ↦ elim two as (λ _. blame ≡ other) [
+        | inl sum_too ↦ sum.1 ∙ sym sum_too.1
+        | inr (within, later) ↦ absurd (sum_or_within (beside name node.file) _ _ blame within sum)
+      ]
+      | inr (within, later) ↦ elim two as (λ _. blame ≡ other) [
+        | inl sum ↦ absurd (sum_or_within (beside name node.file) _ _ other within sum)
+        | inr (within_too, later_too) ↦ one_nodes_blame contents name base (cells + cells_in base third) (weights + weight_in third) nodes blame other later later_too
+      ]
+    ]
+
+-- sources that fit together have no blame
+nodes_or_blame : (contents : Contents) (name : List ℕ) (base : List DbcMessage) (cells weights : ℕ) (nodes : List NodeItem) (sources : List NodeSource) (blame : Blame) →
+    AreSources contents name base nodes sources → AreWithin (cells + sum_by (cells_in base) sources) (weights + sum_by weight_in sources) →
+    IsNodesBlame contents name base cells weights nodes blame → ⊥
+nodes_or_blame contents name base cells weights [] sources blame are fit first = first
+nodes_or_blame contents name base cells weights (node ∷ nodes) [] blame are fit first = absurd are
+nodes_or_blame contents name base cells weights (node ∷ nodes) (source ∷ sources) blame are fit (inl own) =
+    source_or_blame contents (beside name node.file) base source.files source.program blame are.0 own
+nodes_or_blame contents name base cells weights (node ∷ nodes) (source ∷ sources) blame are fit (inr (other, is, behind)) =
+    let same = one_source contents (beside name node.file) base other source is are.0 in
+    let moved = subst (λ (s : NodeSource). IsBlameBehind contents name base cells weights node nodes blame s) same behind in
+    let cells_split = sum_by-cons (cells_in base) source sources in
+    let weights_split = sum_by-cons weight_in source sources in
+    elim moved as (λ _. ⊥) [
+      | inl sum ↦ sum_or_within (beside name node.file) (cells + cells_in base source) (weights + weight_in source) blame (omega arith, omega arith) sum
+      | inr (within, later) ↦ nodes_or_blame contents name base (cells + cells_in base source) (weights + weight_in source) nodes sources blame are.1 (omega arith, omega arith) later
+    ]
+
 -- ---- all inputs
 
-one_later_blame : (contents : Contents) (name : List ℕ) (scenario : Scenario) (node : NodeItem) (blame other : Blame) →
-    IsLaterBlame contents name scenario node blame → IsLaterBlame contents name scenario node other → blame ≡ other
-one_later_blame contents name scenario node blame other (inl one) (inl two) = one_base_blame contents name scenario.database blame other one two
-one_later_blame contents name scenario node blame other (inl one) (inr (base, at, two)) = absurd (base_or_blame contents name scenario.database base blame at one)
-one_later_blame contents name scenario node blame other (inr (base, at, one)) (inl two) = absurd (base_or_blame contents name scenario.database base other at two)
-one_later_blame contents name scenario node blame other (inr (base, at, one)) (inr (more, at_too, two)) =
+one_later_blame : (contents : Contents) (name : List ℕ) (scenario : Scenario) (blame other : Blame) → IsLaterBlame contents name scenario blame → IsLaterBlame contents name scenario other → blame ≡ other
+one_later_blame contents name scenario blame other (inl one) (inl two) = one_base_blame contents name scenario.database blame other one two
+one_later_blame contents name scenario blame other (inl one) (inr (base, at, two)) = absurd (base_or_blame contents name scenario.database base blame at one)
+one_later_blame contents name scenario blame other (inr (base, at, one)) (inl two) = absurd (base_or_blame contents name scenario.database base other at two)
+one_later_blame contents name scenario blame other (inr (base, at, one)) (inr (more, at_too, two)) =
     let same = one_base contents name scenario.database base more at at_too in
-    one_source_blame contents (beside name node.file) more blame other (subst (λ (b : List DbcMessage). IsSourceBlame contents (beside name node.file) b blame) same one) two
+    one_nodes_blame contents name more 0 0 scenario.nodes.items blame other
+    (subst (λ (b : List DbcMessage). IsNodesBlame contents name b 0 0 scenario.nodes.items blame) same one) two
 
--- what comes behind a scenario rests on its database and its node alone
-abbrev IsBehind : Contents → List ℕ → Option (List ℕ) → List ℕ → Blame → Type 0
-IsBehind contents name database file blame =
+-- what comes behind a scenario rests on its database and its nodes alone
+abbrev IsBehind : Contents → List ℕ → Option (List ℕ) → List NodeItem → Blame → Type 0
+IsBehind contents name database nodes blame =
     IsBaseBlame contents name database blame
-    ⊎ ((base : List DbcMessage) × BaseAt contents name database base × IsSourceBlame contents (beside name file) base blame)
+    ⊎ ((base : List DbcMessage) × BaseAt contents name database base × IsNodesBlame contents name base 0 0 nodes blame)
 
-moved_later : (contents : Contents) (name : List ℕ) (scenario other : Scenario) (node third : NodeItem) (blame : Blame) →
-    scenario.database ≡ other.database → node ≡ third → IsLaterBlame contents name scenario node blame → IsLaterBlame contents name other third blame
-moved_later contents name scenario other node third blame database same later =
-    subst (λ (n : NodeItem). IsBehind contents name other.database n.file blame) same
-    (subst (λ d. IsBehind contents name d node.file blame) database later)
+moved_later : (contents : Contents) (name : List ℕ) (scenario other : Scenario) (blame : Blame) → SayTheSame scenario other → IsLaterBlame contents name scenario blame → IsLaterBlame contents name other blame
+moved_later contents name scenario other blame same later =
+    subst (λ (n : List NodeItem). IsBehind contents name other.database n blame) same.nodes
+    (subst (λ d. IsBehind contents name d scenario.nodes.items blame) same.database later)
 
 -- one blame is the first
 pub one_blame : (contents : Contents) (name : List ℕ) (blame other : Blame) → IsFirstBlame contents name blame → IsFirstBlame contents name other → blame ≡ other
 one_blame contents name blame other (inl one) (inl two) = one_scenario_blame contents name blame other one two
-one_blame contents name blame other (inl one) (inr (scenario, node, at, two)) = absurd (scenario_or_blame contents name scenario node blame at one)
-one_blame contents name blame other (inr (scenario, node, at, one)) (inl two) = absurd (scenario_or_blame contents name scenario node other at two)
-one_blame contents name blame other (inr (scenario, node, at, one)) (inr (scenario_too, node_too, at_too, two)) =
-    let same = one_scenario contents name scenario scenario_too node node_too at at_too in
-    let nodes = one_node contents name scenario scenario_too node node_too at at_too in
-    one_later_blame contents name scenario_too node_too blame other
-    (moved_later contents name scenario scenario_too node node_too blame same.database nodes one) two
+one_blame contents name blame other (inl one) (inr (scenario, at, two)) = absurd (scenario_or_blame contents name scenario blame at one)
+one_blame contents name blame other (inr (scenario, at, one)) (inl two) = absurd (scenario_or_blame contents name scenario other at two)
+one_blame contents name blame other (inr (scenario, at, one)) (inr (scenario_too, at_too, two)) =
+    one_later_blame contents name scenario_too blame other
+    (moved_later contents name scenario scenario_too blame (one_scenario contents name scenario scenario_too at at_too) one) two
 
-later_or_accepted : (contents : Contents) (name : List ℕ) (scenario : Scenario) (base : List DbcMessage) (files : List SourceFile) (program : Program) (blame : Blame) →
-    (is : AreAccepted contents name scenario base files program) → IsLaterBlame contents name scenario is.node blame → ⊥
-later_or_accepted contents name scenario base files program blame is (inl first) = base_or_blame contents name scenario.database base blame is.base_at first
-later_or_accepted contents name scenario base files program blame is (inr (more, at, first)) =
+later_or_accepted : (contents : Contents) (name : List ℕ) (scenario : Scenario) (base : List DbcMessage) (sources : List NodeSource) (blame : Blame) →
+    AreAccepted contents name scenario base sources → IsLaterBlame contents name scenario blame → ⊥
+later_or_accepted contents name scenario base sources blame is (inl first) = base_or_blame contents name scenario.database base blame is.base_at first
+later_or_accepted contents name scenario base sources blame is (inr (more, at, first)) =
     let same = one_base contents name scenario.database more base at is.base_at in
-    source_or_blame contents (beside name is.node.file) base files program blame is.source
-    (subst (λ (b : List DbcMessage). IsSourceBlame contents (beside name is.node.file) b blame) same first)
+    let fit = is.fit in
+    nodes_or_blame contents name base 0 0 scenario.nodes.items sources blame is.sources_at (omega arith, omega arith)
+    (subst (λ (b : List DbcMessage). IsNodesBlame contents name b 0 0 scenario.nodes.items blame) same first)
 
 -- accepted inputs have no blame
-pub not_both : (contents : Contents) (name : List ℕ) (scenario : Scenario) (base : List DbcMessage) (files : List SourceFile) (program : Program) (blame : Blame) →
-    AreAccepted contents name scenario base files program → IsFirstBlame contents name blame → ⊥
-not_both contents name scenario base files program blame is (inl first) = scenario_or_blame contents name scenario is.node blame is.scenario_at first
-not_both contents name scenario base files program blame is (inr (other, node, at, first)) =
-    let same = one_scenario contents name other scenario node is.node at is.scenario_at in
-    let nodes = one_node contents name other scenario node is.node at is.scenario_at in
-    later_or_accepted contents name scenario base files program blame is
-    (moved_later contents name other scenario node is.node blame same.database nodes first)
+pub not_both : (contents : Contents) (name : List ℕ) (scenario : Scenario) (base : List DbcMessage) (sources : List NodeSource) (blame : Blame) →
+    AreAccepted contents name scenario base sources → IsFirstBlame contents name blame → ⊥
+not_both contents name scenario base sources blame is (inl first) = scenario_or_blame contents name scenario blame is.scenario_at first
+not_both contents name scenario base sources blame is (inr (other, at, first)) =
+    later_or_accepted contents name scenario base sources blame is
+    (moved_later contents name other scenario blame (one_scenario contents name other scenario at is.scenario_at) first)
 
-moved_base : (contents : Contents) (name : List ℕ) (database other : Option (List ℕ)) (base : List DbcMessage) → database ≡ other → BaseAt contents name database base → BaseAt contents name other base
-moved_base contents name database other base same at = subst (λ d. BaseAt contents name d base) same at
-
-moved_files : (contents : Contents) (name : List ℕ) (node third : NodeItem) (files : List SourceFile) → node ≡ third → FilesAt contents (beside name node.file) files → FilesAt contents (beside name third.file) files
-moved_files contents name node third files same at = subst (λ (n : NodeItem). FilesAt contents (beside name n.file) files) same at
-
--- accepted inputs are one scenario, with one database, and one program of files
-pub one_accepted : (contents : Contents) (name : List ℕ) (scenario other : Scenario) (base more : List DbcMessage) (files others : List SourceFile) (program third : Program) →
-    AreAccepted contents name scenario base files program → AreAccepted contents name other more others third →
-    SayTheSame scenario other × (base ≡ more) × (files ≡ others) × (program ≡ third)
-one_accepted contents name scenario other base more files others program third is also =
-    let same = one_scenario contents name scenario other is.node also.node is.scenario_at also.scenario_at in
-    let nodes = one_node contents name scenario other is.node also.node is.scenario_at also.scenario_at in
-    let bases = one_base contents name other.database base more
-    (moved_base contents name scenario.database other.database base same.database is.base_at) also.base_at in
-    let sources = one_files contents (beside name also.node.file) files others
-    (moved_files contents name is.node also.node files nodes is.source.files_at) also.source.files_at in
-    let trees = subst (λ (f : List SourceFile). AreTreesOf f program) sources is.source.trees in
-    (same, bases, sources, one_program others program third trees also.source.trees)
+-- accepted inputs are one scenario, with one database, and one program of files for each node
+pub one_accepted : (contents : Contents) (name : List ℕ) (scenario other : Scenario) (base more : List DbcMessage) (sources others : List NodeSource) →
+    AreAccepted contents name scenario base sources → AreAccepted contents name other more others →
+    SayTheSame scenario other × (base ≡ more) × (sources ≡ others)
+one_accepted contents name scenario other base more sources others is also =
+    let same = one_scenario contents name scenario other is.scenario_at also.scenario_at in
+    let bases = one_base contents name other.database base more (subst (λ d. BaseAt contents name d base) same.database is.base_at) also.base_at in
+    let nodes = subst (λ (n : List NodeItem). AreSources contents name base n sources) same.nodes is.sources_at in
+    let moved = subst (λ (b : List DbcMessage). AreSources contents name b other.nodes.items sources) bases nodes in
+    (same, bases, one_sources contents name more other.nodes.items sources others moved also.sources_at)

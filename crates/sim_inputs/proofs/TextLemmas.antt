@@ -1,5 +1,5 @@
 -- A file is one scenario or one database, or has one blame.
-use Rattle.std.proofs.Common.{◌≡◌, ◌≢◌, ◌<◌, ◌+◌, ℕ, List, [], ◌∷◌, length, Option, Some, None, inl, inr, refl, sym, ap, subst, ◌∙◌, arith, rules}
+use Rattle.std.proofs.Common.{◌≡◌, ◌≢◌, ◌<◌, ◌+◌, ℕ, List, [], length, Option, Some, None, inl, inr, sym, ap, subst, ◌∙◌, arith}
 use Rattle.std.proofs.lemmas.Bool.{cases_order}
 use Rattle.std.specs.Prelude.{◌⊎◌, IsSome}
 use Rattle.texts.specs.declared.blame.Blame.{Blame}
@@ -11,13 +11,12 @@ use Rattle.dbc_reader.proofs.OneReading.{one_database, no_refusal, one_refusal}
 use Rattle.scenario.specs.Item.{items_of}
 use Rattle.scenario.specs.Rule.{IsBroken, IsFirstBroken, nodes_of, rule_at}
 use Rattle.scenario.specs.Scenario.{IsScenario}
-use Rattle.scenario.specs.declared.scenario.NodeItem.{NodeItem}
 use Rattle.scenario.specs.declared.scenario.Scenario.{Scenario}
 use Rattle.std.specs.Str.Lines.{lines}
 use Rattle.sim_inputs.specs.Blame.{Holds, IsFileBlame, statement_rule, twice_rule}
 use Rattle.input_refusals.specs.Blame.{line_blame}
 use Rattle.sim_inputs.specs.Database.{BaseAt, IsBaseBlame, IsDatabaseBlame, IsStatementBlame, database_limit}
-use Rattle.sim_inputs.specs.Scenario.{HasOneNode, IsLineBlame, IsNotYet, IsNotYetBlame, IsScenarioBlame, ScenarioAt, scenario_limit}
+use Rattle.sim_inputs.specs.Scenario.{IsLineBlame, IsNotYetBlame, IsScenarioBlame, ScenarioAt, scenario_limit}
 
 -- ---- files
 
@@ -94,30 +93,23 @@ one_line_blame text name blame other (line, rule, refused, is) (line_too, rule_t
     let rules : rule ≡ rule_too = λ i. record { group = groups i; number = same.1 i } in
     is ∙ (λ i. line_blame name (same.0 i) (rules i)) ∙ sym also
 
--- two scenarios of a text have the same nodes
-pub same_nodes : (text : List ℕ) (scenario other : Scenario) → IsScenario text scenario → IsScenario text other → scenario.nodes.items ≡ other.nodes.items
-same_nodes text scenario other is also = is.said.nodes ∙ sym also.said.nodes
-
--- and the same log
+-- two scenarios of a text replay the same log
 pub same_replay : (text : List ℕ) (scenario other : Scenario) → IsScenario text scenario → IsScenario text other → scenario.replay ≡ other.replay
 same_replay text scenario other is also = is.said.replay ∙ sym also.said.replay
 
-not_yet_or_one : (scenario other : Scenario) (node : NodeItem) → scenario.nodes.items ≡ other.nodes.items → scenario.replay ≡ other.replay → HasOneNode scenario node → IsNotYet other → ⊥
-not_yet_or_one scenario other node nodes replay one (inl some) = let none = subst IsSome (sym replay ∙ one.no_replay) some in cc
-not_yet_or_one scenario other node nodes replay one (inr many) =
-    let sized : length other.nodes.items ≡ length (node ∷ []) = ap length (sym nodes ∙ one.nodes) in
-    absurd (omega arith)
+replayed_or_not : (found other : Option (List ℕ)) → found ≡ other → found ≡ None → IsSome other → ⊥
+replayed_or_not found other same none some = let other_none = subst IsSome (sym same ∙ none) some in cc
 
 -- a name that stands for a scenario has no blame
-pub scenario_or_blame : (contents : Contents) (name : List ℕ) (scenario : Scenario) (node : NodeItem) (blame : Blame) → ScenarioAt contents name scenario node → IsScenarioBlame contents name blame → ⊥
-scenario_or_blame contents name scenario node blame at (inl file) = held_or_blamed contents scenario_limit name at.text blame at.held file
-scenario_or_blame contents name scenario node blame at (inr (text, held, inl line)) =
+pub scenario_or_blame : (contents : Contents) (name : List ℕ) (scenario : Scenario) (blame : Blame) → ScenarioAt contents name scenario → IsScenarioBlame contents name blame → ⊥
+scenario_or_blame contents name scenario blame at (inl file) = held_or_blamed contents scenario_limit name at.text blame at.held file
+scenario_or_blame contents name scenario blame at (inr (text, held, inl line)) =
     let same = one_text contents scenario_limit name at.text text at.held held in
     scenario_or_line text name scenario blame (subst (λ t. IsScenario t scenario) same at.is) line
-scenario_or_blame contents name scenario node blame at (inr (text, held, inr (other, is, beyond, also))) =
+scenario_or_blame contents name scenario blame at (inr (text, held, inr (other, is, beyond, also))) =
     let same = one_text contents scenario_limit name at.text text at.held held in
     let here = subst (λ t. IsScenario t scenario) same at.is in
-    not_yet_or_one scenario other node (same_nodes text scenario other here is) (same_replay text scenario other here is) at.alone beyond
+    replayed_or_not scenario.replay other.replay (same_replay text scenario other here is) at.no_replay beyond
 
 text_blame : (text name : List ℕ) (blame other : Blame) → IsLineBlame text name blame ⊎ IsNotYetBlame text name blame → IsLineBlame text name other ⊎ IsNotYetBlame text name other → blame ≡ other
 text_blame text name blame other (inl line) (inl line_too) = one_line_blame text name blame other line line_too
@@ -189,21 +181,3 @@ one_database_blame contents name blame other (inr (text, held, is)) (inr (text_t
 pub one_base_blame : (contents : Contents) (name : List ℕ) (database : Option (List ℕ)) (blame other : Blame) → IsBaseBlame contents name database blame → IsBaseBlame contents name database other → blame ≡ other
 one_base_blame contents name None blame other first also = absurd first
 one_base_blame contents name (Some file) blame other first also = one_database_blame contents _ blame other first also
-
--- ---- the node of a scenario
-
-one_item : {X : Type 0} (xs : List X) → 0 < length xs → ¬ (1 < length xs) → (x : X) × (xs ≡ x ∷ [])
-one_item [] some few = absurd (omega arith)
-one_item (x ∷ []) some few = (x, refl)
-one_item (x ∷ y ∷ xs) some few = absurd (few (omega arith))
-
-no_some : (found : Option (List ℕ)) → ¬ IsSome found → found ≡ None
-no_some None none = refl
-no_some (Some x) none = absurd (none (search rules))
-
--- a scenario of which nothing is left for later has one node
-pub has_one_node : (text : List ℕ) (scenario : Scenario) → IsScenario text scenario → ¬ IsNotYet scenario → (node : NodeItem) × HasOneNode scenario node
-has_one_node text scenario is now =
-    let some : 0 < length scenario.nodes.items = subst (λ (n : List NodeItem). 0 < length n) (sym is.said.nodes) is.some_node in
-    let one = one_item scenario.nodes.items some (λ many. now (inr many)) in
-    (one.0, record { nodes = one.1; no_replay = no_some scenario.replay (λ replay. now (inl replay)) })

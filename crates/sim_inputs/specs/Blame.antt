@@ -2,7 +2,7 @@
 use Rattle.std.specs.Prelude.{◌≡◌, ◌<◌, ◌≤◌, ◌⊎◌, ℕ, List, length, Some, None}
 use Rattle.texts.specs.declared.blame.Blame.{Blame}
 use Rattle.texts.specs.declared.blame.Rule.{Rule}
-use Rattle.capl_include.specs.Blame.{file_blame, too_long_rule}
+use Rattle.capl_include.specs.Blame.{file_blame, source_rule, too_long_rule}
 use Rattle.capl_include.specs.Expansion.{Contents}
 
 -- F01: there is no file of the name
@@ -20,6 +20,10 @@ statement_rule = record { group = 68; number = 1 }
 -- D02: an identifier or a name of a database stands for the second time
 abbrev pub twice_rule : Rule
 twice_rule = record { group = 68; number = 2 }
+
+-- E29: the programs so far are too large together
+abbrev pub too_large_rule : Rule
+too_large_rule = source_rule 29
 
 -- the file of a name is held, with at most so many bytes
 abbrev pub Holds : Contents → ℕ → List ℕ → List ℕ → Type 0

@@ -5,4 +5,5 @@ pub mod Blame
 pub mod Database
 pub mod Inside
 pub mod Law
+pub mod Nodes
 pub mod Scenario

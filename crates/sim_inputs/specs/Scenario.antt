@@ -1,10 +1,9 @@
 -- The scenario of a name, and what is to blame where there is none that is taken.
-use Rattle.std.specs.Prelude.{◌≡◌, ◌<◌, ◌^◌, ◌⊎◌, ℕ, List, [], ◌∷◌, length, None, IsSome}
+use Rattle.std.specs.Prelude.{◌≡◌, ◌^◌, ◌⊎◌, ℕ, List, None, IsSome}
 use Rattle.texts.specs.declared.blame.Blame.{Blame}
 use Rattle.texts.specs.declared.blame.Rule.{Rule}
 use Rattle.scenario.specs.Scenario.{IsScenario, IsRefusal}
 use Rattle.scenario.specs.declared.refusal.ScenarioRefusal.TheVariants.{Broken}
-use Rattle.scenario.specs.declared.scenario.NodeItem.{NodeItem}
 use Rattle.scenario.specs.declared.scenario.Scenario.{Scenario}
 use Rattle.capl_include.specs.Blame.{file_blame}
 use Rattle.capl_include.specs.Expansion.{Contents}
@@ -15,29 +14,23 @@ use Rattle.input_refusals.specs.Blame.{line_blame}
 abbrev pub scenario_limit : ℕ
 scenario_limit = 2 ^ 20
 
--- a scenario has this node alone, and replays no log
-pub record HasOneNode (scenario : Scenario) (node : NodeItem) : Type 0 where
-  pub nodes : scenario.nodes.items ≡ node ∷ []
-  pub no_replay : scenario.replay ≡ None
-
--- a scenario replays a log, or has more than one node, which the program does not run yet
+-- a scenario replays a log, which the program does not do yet
 abbrev pub IsNotYet : Scenario → Type 0
-IsNotYet scenario = IsSome scenario.replay ⊎ (1 < length scenario.nodes.items)
+IsNotYet scenario = IsSome scenario.replay
 
--- the file of a name is this scenario, which has this node alone
-pub record ScenarioAt (contents : Contents) (name : List ℕ) (scenario : Scenario) (node : NodeItem) :
-    Type 0 where
+-- the file of a name is this scenario, which replays no log
+pub record ScenarioAt (contents : Contents) (name : List ℕ) (scenario : Scenario) : Type 0 where
   pub text : List ℕ
   pub held : Holds contents scenario_limit name text
   pub is : IsScenario text scenario
-  pub alone : HasOneNode scenario node
+  pub no_replay : scenario.replay ≡ None
 
 -- a line of the text of a scenario breaks a rule of S01 to S12, the first that does
 abbrev pub IsLineBlame : List ℕ → List ℕ → Blame → Type 0
 IsLineBlame text name blame =
     (line : ℕ) × (rule : Rule) × IsRefusal text (Broken line rule) × (blame ≡ line_blame name line rule)
 
--- the text is a scenario, of which some part is not taken yet (N01)
+-- the text is a scenario, which is not taken yet (N01)
 abbrev pub IsNotYetBlame : List ℕ → List ℕ → Blame → Type 0
 IsNotYetBlame text name blame =
     (scenario : Scenario) × IsScenario text scenario × IsNotYet scenario

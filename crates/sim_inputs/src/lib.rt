@@ -1,9 +1,10 @@
-//! What a simulation reads: a scenario, its database and the source of its node, read and checked.
+//! What a simulation reads: a scenario, its database and the sources of its nodes, read and checked.
 //!
 //! [`read_inputs`] reads the files that the name of a scenario leads to, in one order, and gives the
-//! scenario with the code of its node, or the first rule that a file breaks. Which inputs are accepted
-//! and which blame is the first is defined in `specs/Accepted.antt` and the files that this names, over
-//! what the files hold; [`laws`] says that a name has at most one such scenario and program or blame.
+//! scenario with the code and the names of the files of each node, or the first rule that a file breaks.
+//! Which inputs are accepted and which blame is the first is defined in `specs/Accepted.antt` and the files
+//! that this names, over what the files hold; [`laws`] says that a name has at most one such scenario and
+//! programs or blame.
 //!
 //! `specs/Inside/` has what private functions mean.
 #![tactic(auto)]
@@ -14,5 +15,6 @@ mod database;
 mod files;
 mod inputs;
 pub mod laws;
+mod nodes;
 mod rules;
 mod scenario_file;

@@ -1,4 +1,4 @@
-// The rules that scenarios and databases break, and files that are not there.
+// The rules that scenarios, databases and the programs of nodes together break, and files that are not there.
 
 use texts::Rule;
 
@@ -30,4 +30,10 @@ pub(crate) const STATEMENT: Rule = Rule {
 pub(crate) const TWICE: Rule = Rule {
     group: b'D',
     number: 2,
+};
+
+/// The programs of the nodes so far are too large together.
+pub(crate) const TOO_LARGE: Rule = Rule {
+    group: b'E',
+    number: 29,
 };

@@ -1,13 +1,12 @@
 // The scenario.
 
-ghost use Rattle.std.specs.Prelude.{◌≡◌, ◌<◌, ◌≤◌, ◌^◌, ◌⊎◌, ◌↔◌, length, IfOk, IfSome, IsErrOf, IsTrue};
+ghost use Rattle.std.specs.Prelude.{◌≡◌, ◌<◌, ◌≤◌, ◌^◌, ◌⊎◌, length, IfOk, IfSome, IsErrOf, None};
 ghost use Rattle.scenario.specs.Scenario.{IsScenario};
 ghost use Rattle.scenario.specs.Within.{IsWithin};
-ghost use Rattle.scenario.specs.declared.scenario.NodeItem.{NodeItem};
 ghost use Rattle.texts.specs.Fault.{HasRisen};
 ghost use Rattle.sim_inputs.specs.Answer.{IsTaken};
 ghost use Rattle.input_refusals.specs.Agreement.{Agrees, Judges};
-ghost use Rattle.sim_inputs.specs.Scenario.{HasOneNode, IsLineBlame, IsNotYet, IsNotYetBlame, IsScenarioBlame, ScenarioAt};
+ghost use Rattle.sim_inputs.specs.Scenario.{IsLineBlame, IsNotYetBlame, IsScenarioBlame, ScenarioAt};
 
 use crate::files::read_text;
 use crate::rules::NOT_YET;
@@ -20,15 +19,14 @@ use texts::Text;
 /// The most bytes of a scenario.
 const SCENARIO_LIMIT: usize = 1 << 20;
 
-/// The scenario of this name, which has one node and replays no log.
+/// The scenario of this name, which replays no log.
 pub(crate) fn read_scenario<F: Files>(
     alloc: Global,
     name: &Text,
     files: &mut F,
 ) -> Result<Scenario, InputRefusal>
     ensures told { IfSome (F.held files.old) (λ contents.
-        Agrees (λ scenario. (node : NodeItem) × ScenarioAt contents name.now scenario node)
-        (IsScenarioBlame contents name.now) result) }
+        Agrees (ScenarioAt contents name.now) (IsScenarioBlame contents name.now) result) }
     ensures taken { IfOk result IsTaken }
     ensures within { IfOk result IsWithin }
     ensures failed { IsErrOf result InputRefusal.Failed → HasRisen (F.faults files.old) (F.faults files.new) }
@@ -43,8 +41,7 @@ pub(crate) fn read_scenario<F: Files>(
 /// The scenario that the text of this file is.
 fn scenario_of(alloc: Global, name: &Text, text: &[u8]) -> Result<Scenario, InputRefusal>
     requires { length text.now < 2 ^ 32 }
-    ensures judged { Judges
-        (λ scenario. IsScenario text.now scenario × ((node : NodeItem) × HasOneNode scenario node))
+    ensures judged { Judges (λ scenario. IsScenario text.now scenario × (scenario.replay ≡ None))
         (λ blame. IsLineBlame text.now name.now blame ⊎ IsNotYetBlame text.now name.now blame) result }
     ensures within { IfOk result IsWithin }
 {
@@ -55,15 +52,9 @@ fn scenario_of(alloc: Global, name: &Text, text: &[u8]) -> Result<Scenario, Inpu
         }
         Err(ScenarioRefusal::NoMemory) => return Err(InputRefusal::NoMemory),
     };
-    if is_not_yet(&scenario) {
+    // The program replays no log yet.
+    if scenario.replay.is_some() {
         return Err(blamed_file(alloc, name, NOT_YET));
     }
     Ok(scenario)
-}
-
-/// Whether the scenario is one that the program does not run yet.
-fn is_not_yet(scenario: &Scenario) -> bool
-    ensures { IsTrue result ↔ IsNotYet scenario.now }
-{
-    scenario.replay.is_some() || scenario.nodes.len() > 1
 }

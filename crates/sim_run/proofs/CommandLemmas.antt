@@ -1,26 +1,45 @@
 -- The words are one command on one name.
-use Rattle.std.proofs.Common.{◌≡◌, ℕ, List, [], ◌∷◌, length, get_or, refl, sym, ◌∙◌, arith}
+use Rattle.std.proofs.Common.{◌≡◌, ℕ, List, [], ◌∷◌, ap, refl, sym, ◌∙◌, arith}
 use Rattle.sim_run.specs.declared.command.Command.{Command}
-use Rattle.sim_run.specs.declared.command.Command.TheVariants.{Window, Log}
+use Rattle.sim_run.specs.declared.command.Command.TheVariants.{Check, Window, Log, Run, Profile}
 use Rattle.sim_run.specs.Command.{IsCommand, command_word}
 
--- a list of two items is made of them
-pub two_items : {A : Type 0} (xs : List A) (x y : A) → length xs ≡ 2 → x ≡ get_or xs 0 x → y ≡ get_or xs 1 y → xs ≡ x ∷ y ∷ []
-two_items [] x y count first second = absurd (omega arith)
-two_items (a ∷ []) x y count first second = absurd (omega arith)
-two_items (a ∷ b ∷ []) x y count first second = cc
-two_items (a ∷ b ∷ c ∷ xs) x y count first second = absurd (omega arith)
+-- the first byte of a word
+abbrev first_byte : List ℕ → ℕ
+first_byte [] = 0
+first_byte (byte ∷ bytes) = byte
 
--- two first words that are equal are of one command
-one_word : (command other : Command) → command_word command ≡ command_word other → command ≡ other
-one_word Window Window same = refl
-one_word Window Log same = cc
-one_word Log Window same = cc
-one_word Log Log same = refl
+-- the first bytes of the words differ
+by_first : (command other : Command) → first_byte (command_word command) ≡ first_byte (command_word other) → command ≡ other
+by_first Check Check same = refl
+by_first Check Window same = absurd (omega (arith, same))
+by_first Check Log same = absurd (omega (arith, same))
+by_first Check Run same = absurd (omega (arith, same))
+by_first Check Profile same = absurd (omega (arith, same))
+by_first Window Check same = absurd (omega (arith, same))
+by_first Window Window same = refl
+by_first Window Log same = absurd (omega (arith, same))
+by_first Window Run same = absurd (omega (arith, same))
+by_first Window Profile same = absurd (omega (arith, same))
+by_first Log Check same = absurd (omega (arith, same))
+by_first Log Window same = absurd (omega (arith, same))
+by_first Log Log same = refl
+by_first Log Run same = absurd (omega (arith, same))
+by_first Log Profile same = absurd (omega (arith, same))
+by_first Run Check same = absurd (omega (arith, same))
+by_first Run Window same = absurd (omega (arith, same))
+by_first Run Log same = absurd (omega (arith, same))
+by_first Run Run same = refl
+by_first Run Profile same = absurd (omega (arith, same))
+by_first Profile Check same = absurd (omega (arith, same))
+by_first Profile Window same = absurd (omega (arith, same))
+by_first Profile Log same = absurd (omega (arith, same))
+by_first Profile Run same = absurd (omega (arith, same))
+by_first Profile Profile same = refl
 
 -- the words are one command on one name
 pub one_command : (words : List (List ℕ)) (command other : Command) (name third : List ℕ) → IsCommand words command name → IsCommand words other third → (command ≡ other) × (name ≡ third)
 one_command words command other name third is also =
     let same : command_word command ∷ name ∷ [] ≡ command_word other ∷ third ∷ [] = sym is ∙ also in
     let first : command_word command ≡ command_word other = cc in
-    (one_word command other first, cc)
+    (by_first command other (ap first_byte first), cc)

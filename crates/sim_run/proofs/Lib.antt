@@ -1,5 +1,8 @@
 -- The lemmas of this crate.
-pub mod AnswerLemmas
 pub mod CommandLemmas
-pub mod Growth
-pub mod RunLemmas
+pub mod FileLemmas
+pub mod KeyLemmas
+pub mod LoadedLemmas
+pub mod ShownLemmas
+pub mod AnswerLemmas
+pub mod WrittenLemmas

@@ -1,4 +1,4 @@
 -- What private functions mean. No public clause speaks of it.
 pub mod Answer
-pub mod Ran
-pub mod Prints
+pub mod Loaded
+pub mod Played

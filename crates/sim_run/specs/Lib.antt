@@ -2,7 +2,6 @@
 pub mod Answer
 pub mod Command
 pub mod Inside
-pub mod Log
 pub mod Run
+pub mod Shown
 pub mod Status
-pub mod Window

@@ -1,59 +1,79 @@
 // The top call.
 
-ghost use Rattle.std.specs.Prelude.{◌≡◌, ◌↔◌, ◌⊎◌, List, [], ℕ, Some, IsErrOf, map, string_bytes};
+ghost use Rattle.std.specs.Prelude.{◌≡◌, ◌↔◌, ◌⊎◌, List, [], ℕ, Some, IsErrOf, IsSome, map, string_bytes};
 ghost use Rattle.texts.specs.Fault.{HasRisen};
-ghost use Rattle.sim_outside.specs.Sink.{GrowsBy, Writes};
+ghost use Rattle.sim_outside.specs.Sink.{GrowsBy};
 ghost use Rattle.capl_include.specs.Expansion.{Contents};
+ghost use Rattle.dbc_reader.specs.declared.message.DbcMessage.{DbcMessage};
 ghost use Rattle.scenario.specs.Within.{IsWithin};
+ghost use Rattle.scenario.specs.declared.scenario.Scenario.{Scenario};
 ghost use Rattle.stack_vm.specs.declared.meter.MeterRow.{MeterRow};
-ghost use Rattle.sim_inputs.specs.Answer.{IsTaken};
-ghost use Rattle.sim_run.specs.Answer.{IsAnswer, IsBegun, printed};
-ghost use Rattle.sim_run.specs.Command.{IsNoCommand};
+ghost use Rattle.sim_inputs.specs.Accepted.{AreAccepted};
+ghost use Rattle.sim_inputs.specs.Answer.{AreCoded, HaveCodeForEach, IsTaken};
+ghost use Rattle.sim_inputs.specs.Nodes.{NodeSource};
+ghost use Rattle.sim_play.specs.Out.{IsUnused};
+ghost use Rattle.sim_run.specs.Answer.{IsAnswer, IsBegun, IsShownInPart};
+ghost use Rattle.sim_run.specs.Command.{IsCommand, IsNoCommand, show_of};
 ghost use Rattle.sim_run.specs.Inside.Answer.{status_after};
-ghost use Rattle.sim_run.specs.Inside.Prints.{PrintsRun};
-ghost use Rattle.sim_run.specs.declared.status.Status.{Status};
+ghost use Rattle.sim_run.specs.Inside.Played.{AnswersInputs, PlaysInputs};
+ghost use Rattle.sim_run.specs.declared.command.Command.{Command};
 
 use crate::blame::write_blame;
-use crate::command::{Command, command_of};
-use crate::log::{first_second, write_log};
-use crate::run::run_node;
+use crate::command::{Command, command_of, show_of};
+use crate::run::{core_of, labels_of, load_nodes};
 use crate::status::Status;
-use crate::window::write_window;
+use bus_heap::HeapBus;
 use input_refusals::InputRefusal;
-use run_records::Noted;
-use scenario::Scenario;
+use node_run::TaskFault;
+use run_laws::laws::runs_of_code_are_runs_of_sources;
+use sim_inputs::laws::one_reading;
 use sim_inputs::{Inputs, read_inputs};
 use sim_outside::{Files, Sink, SinkRefusal};
+use sim_play::{Out, Show, play};
+use source_laws::laws::compiled_procedures_end_as_in_the_source;
 use stack_vm::Meter;
 use std::alloc::Global;
 use texts::Text;
 
 /// Runs the command that the words are, over these files, and writes the answer.
 ///
-/// `window NAME` writes one line for each text that the node of the scenario NAME writes, and `log NAME`
-/// one line for each frame that leaves the wire, up to the end moment. The meter, which has no rows, gets
-/// one for each event procedure of the node, in program order. What is written waits in memory for the
-/// end of the run.
+/// `check NAME` writes `ok` where the inputs of the scenario NAME are accepted. `window NAME` writes one line
+/// for each text that a node writes, `log NAME` one for each frame that leaves the wire, and `run NAME` both,
+/// each line as it happens, up to the end moment. `profile NAME` writes at the end how often each event
+/// procedure ran and how many turns it took. The meter, which has no rows, gets one for each event procedure,
+/// nodes in the order of the scenario and procedures in program order; for `check` it gets none.
 pub fn simulate<F: Files, S: Sink>(
     alloc: Global,
     words: &[String],
     files: &mut F,
-    out: &mut S,
+    out: &mut Out<S>,
     meter: &mut Meter,
 ) -> Status
-    requires { meter.old ≡ [] }
+    requires no_rows { meter.old ≡ [] }
+    requires unused { IsUnused out.old }
 
     // The whole answer, where it was written to its end, with its rows.
     ensures whole { (contents : Contents) → F.held files.old ≡ Some contents →
         (result ≡ Status.Done) ⊎ (result ≡ Status.Refused) →
         (bytes : List ℕ) × IsAnswer contents (map string_bytes words.now) result bytes meter.new
-        × GrowsBy (S.written out.old) (S.written out.new) bytes }
+        × GrowsBy (S.written out.old.sink) (S.written out.new.sink) bytes }
 
     // After a fault nothing was written, or a beginning of the answer; nothing where a read failed.
     ensures prefix { (contents : Contents) → F.held files.old ≡ Some contents →
         (result ≡ Status.WriteFault) ⊎ (result ≡ Status.OutOfMemory) →
-        IsBegun contents (map string_bytes words.now) (S.written out.old) (S.written out.new) }
-    ensures nothing_after_read_fault { result ≡ Status.ReadFault → S.written out.new ≡ S.written out.old }
+        IsBegun contents (map string_bytes words.now) (S.written out.old.sink) (S.written out.new.sink) }
+    ensures nothing_after_read_fault { result ≡ Status.ReadFault →
+        S.written out.new.sink ≡ S.written out.old.sink }
+
+    // Each line is handed over before later tasks run: where a write failed, no event procedure has more runs
+    // than up to the first line that is missing.
+    ensures as_it_happens { (contents : Contents) → F.held files.old ≡ Some contents →
+        (command : Command) → (name : List ℕ) → IsCommand (map string_bytes words.now) command name →
+        IsSome (show_of command) →
+        (scenario : Scenario) → (base : List DbcMessage) → (sources : List NodeSource) →
+        AreAccepted contents name scenario base sources → result ≡ Status.WriteFault →
+        IsShownInPart contents (map string_bytes words.now)
+        (S.written out.old.sink) (S.written out.new.sink) meter.new }
 
     // Words that are no command touch nothing.
     ensures usage { (result ≡ Status.Usage) ↔ IsNoCommand (map string_bytes words.now) }
@@ -66,16 +86,18 @@ pub fn simulate<F: Files, S: Sink>(
 
     // Each fault has its cause.
     ensures read_fault { result ≡ Status.ReadFault → HasRisen (F.faults files.old) (F.faults files.new) }
-    ensures write_fault { result ≡ Status.WriteFault → HasRisen (S.faults out.old) (S.faults out.new) }
+    ensures write_fault { result ≡ Status.WriteFault →
+        HasRisen (S.faults out.old.sink) (S.faults out.new.sink) }
 
     // With no cause for another status the answer is written, where there is memory.
     ensures complete { (contents : Contents) → F.held files.old ≡ Some contents →
         (bytes : List ℕ) → (rows : List MeterRow) →
         IsAnswer contents (map string_bytes words.now) Status.Done bytes rows →
         ¬ HasRisen (F.faults files.old) (F.faults files.new) →
-        ¬ HasRisen (S.faults out.old) (S.faults out.new) →
+        ¬ HasRisen (S.faults out.old.sink) (S.faults out.new.sink) →
         (result ≡ Status.Done) ⊎ (result ≡ Status.OutOfMemory) }
 {
+    one_reading();
     let Some((command, name)) = command_of(words) else {
         return Status::Usage;
     };
@@ -83,7 +105,10 @@ pub fn simulate<F: Files, S: Sink>(
         return Status::OutOfMemory;
     };
     match read_inputs(alloc, &name, files) {
-        Ok(inputs) => status_after(Status::Done, write_run(alloc, command, inputs, out, meter)),
+        Ok(inputs) => {
+            let written = answer_inputs(alloc, command, inputs, out, meter);
+            status_after(Status::Done, written)
+        }
         Err(InputRefusal::Blamed(blame)) => {
             status_after(Status::Refused, write_blame(alloc, &blame, out))
         }
@@ -92,46 +117,64 @@ pub fn simulate<F: Files, S: Sink>(
     }
 }
 
-/// Runs the node of the inputs, and then writes what the command prints.
-fn write_run<S: Sink>(
+/// Answers a command over inputs: `ok` where it shows no run, and else what it shows of theirs.
+fn answer_inputs<S: Sink>(
     alloc: Global,
     command: Command,
     inputs: Inputs,
-    out: &mut S,
+    out: &mut Out<S>,
     meter: &mut Meter,
 ) -> Result<(), SinkRefusal>
     requires within { IsWithin inputs.scenario }
     requires taken { IsTaken inputs.scenario }
+    requires code_for_each { HaveCodeForEach inputs }
+    requires coded { AreCoded inputs }
     requires no_rows { meter.old ≡ [] }
-    ensures prints { PrintsRun command inputs (S.written out.old) (S.written out.new) meter.new result }
-    ensures failed { IsErrOf result SinkRefusal.Failed → HasRisen (S.faults out.old) (S.faults out.new) }
+    requires unused { IsUnused out.old }
+    ensures answers { AnswersInputs (show_of command) inputs
+        (S.written out.old.sink) (S.written out.new.sink) meter.new result }
+    ensures failed { IsErrOf result SinkRefusal.Failed →
+        HasRisen (S.faults out.old.sink) (S.faults out.new.sink) }
 {
-    let Inputs { scenario, code } = inputs;
-    let noted = run_node(alloc, &scenario, code, meter)?;
-    write_entries(alloc, command, &scenario, noted.noted(), out)?;
-    Ok(())
+    match show_of(command) {
+        None => out.answer(b"ok\n"),
+        Some(show) => play_inputs(alloc, show, inputs, out, meter),
+    }
 }
 
-/// Writes what the command prints of the entries of a run.
-fn write_entries<S: Sink>(
+/// Shows the run of inputs.
+fn play_inputs<S: Sink>(
     alloc: Global,
-    command: Command,
-    scenario: &Scenario,
-    entries: &[Noted],
-    out: &mut S,
+    show: Show,
+    inputs: Inputs,
+    out: &mut Out<S>,
+    meter: &mut Meter,
 ) -> Result<(), SinkRefusal>
-    requires within { IsWithin scenario.now }
-    requires taken { IsTaken scenario.now }
-    ensures grows { Writes (S.written out.old) (S.written out.new)
-        (printed command scenario.now entries.now) result }
-    ensures failed { IsErrOf result SinkRefusal.Failed → HasRisen (S.faults out.old) (S.faults out.new) }
+    requires within { IsWithin inputs.scenario }
+    requires taken { IsTaken inputs.scenario }
+    requires code_for_each { HaveCodeForEach inputs }
+    requires coded { AreCoded inputs }
+    requires no_rows { meter.old ≡ [] }
+    requires unused { IsUnused out.old }
+    ensures plays { PlaysInputs show inputs
+        (S.written out.old.sink) (S.written out.new.sink) meter.new result }
+    ensures failed { IsErrOf result SinkRefusal.Failed →
+        HasRisen (S.faults out.old.sink) (S.faults out.new.sink) }
 {
-    match command {
-        Command::Window => write_window(alloc, scenario.nodes[0].name.bytes(), entries, out),
-        Command::Log => {
-            let first = first_second(scenario.epoch);
-            write_log(alloc, first, scenario.interface.bytes(), entries, out)
-        }
+    compiled_procedures_end_as_in_the_source();
+    runs_of_code_are_runs_of_sources::<HeapBus>();
+    let Inputs {
+        scenario,
+        codes,
+        files,
+    } = inputs;
+    let nodes = load_nodes(alloc, codes, scenario.turns, meter)?;
+    let labels = labels_of(alloc, &scenario, files)?;
+    let mut core = core_of(alloc, nodes, scenario);
+    match play(alloc, &mut core, show, &labels, out, meter) {
+        Ok(()) => Ok(()),
+        Err(TaskFault::Record) => Err(SinkRefusal::Failed),
+        Err(TaskFault::NoMemory) => Err(SinkRefusal::NoMemory),
     }
 }
 

@@ -1,62 +1,115 @@
-// Running the node of a scenario.
+// The nodes of a scenario, and the simulation of them.
 
-ghost use Rattle.std.specs.Prelude.{◌≡◌, ◌≤◌, ℕ, List, [], IfOk};
-ghost use Rattle.bytecode.specs.declared.code.Code.{Code};
-ghost use Rattle.capl_include.specs.declared.expanded.SourceFile.{SourceFile};
-ghost use Rattle.capl_tree.specs.declared.file.Program.{Program};
-ghost use Rattle.dbc_reader.specs.declared.message.DbcMessage.{DbcMessage};
+ghost use Rattle.std.specs.Prelude.{◌≡◌, ◌≤◌, ◌<◌, ◌++◌, [], All, IfOk, OnOk, length, map, replicate};
+ghost use Rattle.can_bus.specs.Bus.{new_bus};
+ghost use Rattle.node_run.specs.Node.{loaded};
+ghost use Rattle.node_run.specs.Sound.{IsSound};
 ghost use Rattle.scenario.specs.Within.{IsWithin};
-ghost use Rattle.source_compiler.specs.Code.{IsCodeFor};
-ghost use Rattle.sim_run.specs.Inside.Ran.{HasRunFor};
+ghost use Rattle.sim_core.specs.Core.{IsLoaded, new_core};
+ghost use Rattle.sim_run.specs.Inside.Loaded.{AreLoaded, no_run, rows_of_code};
+ghost use Rattle.sim_run.specs.Inside.Played.{labels_with};
+ghost use Rattle.sim_run.specs.Shown.{first_second};
 
 use bus_heap::HeapBus;
 use bytecode::Verified;
+use items::Items;
 use node_run::Node;
-use run_laws::laws::{runs_of_code_are_runs_of_sources, sources_have_one_run};
-use run_records::MemRecord;
-use scenario::Scenario;
-use sim_core::run_until;
-use source_laws::laws::compiled_procedures_end_as_in_the_source;
+use scenario::{Epoch, NodeItem, Scenario};
+use sim_core::Core;
+use sim_play::Labels;
 use stack_vm::Meter;
 use std::alloc::Global;
-use texts::NoMemory;
+use texts::{NoMemory, Text};
 
-/// Runs the node of a scenario, which has this code, and gives what happened in order: the lines that it
-/// wrote and the frames that left the wire. The meter gets a row for each of its event procedures.
-///
-/// Takes the time of the run, and memory linear in what happened.
-pub(crate) fn run_node(
+/// The nodes that run these codes, in order, each with its rows in the meter behind those of the nodes before
+/// it.
+pub(crate) fn load_nodes(
     alloc: Global,
-    scenario: &Scenario,
-    code: Verified,
+    codes: Vec<Verified>,
+    turns: u64,
     meter: &mut Meter,
-) -> Result<MemRecord, NoMemory>
-    requires within { IsWithin scenario.now }
+) -> Result<Vec<Node>, NoMemory>
     requires no_rows { meter.old ≡ [] }
-    ensures { IfOk result (λ noted. HasRunFor scenario.now code noted meter.new) }
+    ensures { IfOk result (λ nodes. AreLoaded turns codes.items nodes.items meter.new) }
 {
-    compiled_procedures_end_as_in_the_source();
-    runs_of_code_are_runs_of_sources::<HeapBus>();
-    sources_have_one_run::<HeapBus>();
+    let mut nodes = Vec::new(alloc);
+    for code in codes {
+        nodes.push(load_node(alloc, code, turns, meter)?)?;
+    }
+    Ok(nodes)
+}
+
+/// The node that runs this code, with its rows behind those that the meter has.
+fn load_node(alloc: Global, code: Verified, turns: u64, meter: &mut Meter) -> Result<Node, NoMemory>
+    ensures loaded { IfOk result (λ node. node ≡ loaded code (length meter.old) turns) }
+    ensures sound { IfOk result (λ node. IsSound node.doing.node) }
+    ensures rows { OnOk result (meter.new ≡ meter.old ++ replicate (rows_of_code code) no_run) }
+{
     let Ok(handlers) = u32::try_from(code.code().handlers.len()) else {
         return Err(NoMemory);
     };
     let first_row = meter.open_rows(handlers)?;
-    let mut node = Node::load(alloc, code, first_row, scenario.turns)?;
-    let mut bus = HeapBus::make(alloc, scenario.bit);
-    let mut noted = MemRecord::new(alloc);
-    let keys = scenario.keys.as_slice();
-    match run_until(
-        alloc,
-        &mut node,
-        &mut bus,
-        keys,
-        scenario.until,
-        &mut noted,
-        meter,
-    ) {
-        Ok(()) => Ok(noted),
-        // A record in memory has no fault but want of memory.
-        Err(_) => Err(NoMemory),
+    Node::load(alloc, code, first_row, turns)
+}
+
+/// Under which names the nodes of a scenario are shown, which have these files.
+pub(crate) fn labels_of(
+    alloc: Global,
+    scenario: &Scenario,
+    files: Items<Items<Text>>,
+) -> Result<Labels, NoMemory>
+    ensures { IfOk result (λ labels. labels ≡ labels_with scenario.now files) }
+{
+    let names = names_of(alloc, &scenario.nodes)?;
+    let interface = Text::make(alloc, scenario.interface.bytes())?;
+    let second = Text::make(alloc, scenario.interface.bytes())?;
+    Ok(Labels {
+        names,
+        files,
+        interface,
+        second,
+        epoch: first_second(scenario.epoch),
+        skipped: 0,
+    })
+}
+
+/// The names of nodes.
+fn names_of(alloc: Global, nodes: &[NodeItem]) -> Result<Items<Text>, NoMemory>
+    ensures { IfOk result (λ names. names ≡ map (λ node. node.name) nodes.now) }
+{
+    let mut names = Vec::new(alloc);
+    for node in nodes {
+        names.push(Text::make(alloc, node.name.bytes())?)?;
     }
+    Ok(Items::from_list(names))
+}
+
+/// The second at which the measurement begins, where no log is replayed.
+fn first_second(epoch: Epoch) -> u64
+    ensures { result ≡ first_second epoch }
+{
+    match epoch {
+        Epoch::At(seconds) => seconds,
+        Epoch::First => 0,
+    }
+}
+
+/// The simulation of these nodes on the bus of a scenario, with its keys and its picks.
+pub(crate) fn core_of(alloc: Global, nodes: Vec<Node>, scenario: Scenario) -> Core<HeapBus>
+    requires loaded { All IsLoaded nodes.items }
+    requires few { length nodes.items ≤ 64 }
+    requires within { IsWithin scenario }
+    requires bytes { All (λ key. key.key < 256) scenario.keys.items }
+    ensures { result ≡ new_core nodes.items (new_bus scenario.bit) scenario.keys.items [] scenario.picks.items
+        scenario.until }
+{
+    let Scenario {
+        bit,
+        until,
+        picks,
+        keys,
+        ..
+    } = scenario;
+    let bus = HeapBus::make(alloc, bit);
+    Core::make(alloc, nodes, bus, keys, Vec::new(alloc), picks, until)
 }

@@ -2,12 +2,13 @@
 use Rattle.std.proofs.Common.{◌≡◌, ◌≢◌, ◌≤◌, ◌+◌, ℕ, List, [], ◌∷◌, length, Option, Some, None, sym, ap, subst, ◌∙◌, arith, length-append}
 use Rattle.std.specs.Prelude.{sum_by}
 use Rattle.std.specs.List.{AllPairs, flat_map, filter_map, cons_option}
+use Rattle.std.proofs.lemmas.Bool.Decides.{nat_tests}
 use Rattle.std.proofs.lemmas.List.{length-replicate}
 use Rattle.std.proofs.lemmas.List.Concat.{flat_map-cons}
 use Rattle.std.proofs.lemmas.List.Sums.{sum_by-cons}
 use Rattle.dbc_reader.specs.declared.message.DbcMessage.{DbcMessage}
 use Rattle.capl_tree.specs.declared.file.Program.{Program}
-use Rattle.capl_tree.specs.Weight.{weight}
+use Rattle.capl_tree.specs.Weight.{saturated, weight}
 use Rattle.typed_tree.specs.Size.{size}
 use Rattle.typed_tree.specs.Sound.{IsSound}
 use Rattle.typed_tree.specs.declared.program.Typed.{Typed}
@@ -64,6 +65,21 @@ few_cells base program lines typed is =
     (let counted = cells_counted base program is.order (line_in lines) in
     let few = is.few_cells in
     omega arith)
+
+small_told : (told number : ℕ) → told ≡ saturated number → number ≤ most → told ≡ number
+small_told told number is small = grind (arith, nat_tests)
+
+-- the cells that are told of the typed program of an accepted one are the program's
+pub cells_told : (base : List DbcMessage) (program : Program) (lines : List (List ℕ)) (typed : Typed) (told : ℕ) →
+    IsAccepted base program lines typed → told ≡ saturated (cell_count typed) → told ≡ cells_of_program base program
+cells_told base program lines typed told is said =
+    let counted : cell_count typed ≡ cells_of_program base program =
+    ap (λ (t : Typed). cell_count t) is.typed_is ∙ cells_counted base program is.order (line_in lines) in
+    small_told told (cells_of_program base program) (said ∙ ap saturated counted) is.few_cells
+
+-- the weight that is told of a program that is not too heavy is the program's
+pub weight_told : (program : Program) (told : ℕ) → weight program ≤ most → told ≡ saturated (weight program) → told ≡ weight program
+weight_told program told light said = small_told told (weight program) said light
 
 -- the code of an accepted program is within the program's weight, as typed programs are
 pub within_weight : (base : List DbcMessage) (program : Program) (lines : List (List ℕ)) (typed : Typed) → IsAccepted base program lines typed →

@@ -16,16 +16,17 @@ ghost use Rattle.input_refusals.specs.Agreement.{IsBlamedOrNoMemory, Judges};
 ghost use Rattle.source_compiler.specs.Compiled.{IsCompiled};
 ghost use Rattle.source_compiler.specs.Program.{AreTreesOf, HasTree, IsFirstFile, IsOffenceBlame, IsParseBlame, IsScreenBlame, IsScreened, IsSizeBlame, IsTokenBlame, IsTreeBlame, lines_of, most, name_in, offence_blame};
 
+use crate::compiled::Compiled;
 use crate::rules::{NOT_SPELLED, TOO_DEEP, TOO_LARGE, source_rule};
 use bytecode::Verified;
 use capl_include::SourceFile;
 use capl_lexer::screen;
 use capl_meaning::Offence;
 use capl_parser::{ParseRefusal, parse};
-use capl_tree::{FileTree, Program};
+use capl_tree::{FileTree, Program, weight_of};
 use check_types::{CheckRefusal, check};
 use dbc_reader::Database;
-use gen_stmt::{CompileRefusal, compile};
+use gen_stmt::{CompileRefusal, cells_of, compile};
 use input_refusals::{InputRefusal, blamed_file, blamed_line};
 use items::Items;
 use std::alloc::Global;
@@ -34,13 +35,13 @@ use typed_source::laws::code_is_within_the_weight;
 use typed_tree::Typed;
 
 /// The code of the program of these files, the last of which has this name, with the messages of a
-/// database.
+/// database; the sizes of the program, and the names of its files.
 pub(crate) fn code_of(
     alloc: Global,
     name: &Text,
     files: &[SourceFile],
     base: Option<&Database>,
-) -> Result<Verified, InputRefusal>
+) -> Result<Compiled, InputRefusal>
     requires { token_count files.now ≤ token_limit }
     ensures { Judges (IsCompiled (messages_of base.entry) files.now)
         (IsProgramBlame (messages_of base.entry) name.now files.now) result }
@@ -50,7 +51,13 @@ pub(crate) fn code_of(
     let typed = check_program(alloc, name, files, &program, base)?;
     code_is_within_the_weight();
     let code = compile_program(alloc, name, &program, &typed)?;
-    Ok(code)
+    let names = names_of(alloc, files)?;
+    Ok(Compiled {
+        code,
+        cells: cells_of(&typed),
+        weight: weight_of(&program),
+        files: Items::from_list(names),
+    })
 }
 
 /// Blames the first token of the first file that has one which a program may not have.
@@ -147,6 +154,18 @@ fn lines_in(alloc: Global, file: &SourceFile) -> Result<Vec<u32>, NoMemory>
         row.push(token.line)?;
     }
     Ok(row)
+}
+
+/// The names of these files.
+fn names_of(alloc: Global, files: &[SourceFile]) -> Result<Vec<Text>, NoMemory>
+    ensures { IfOk result (λ names. names.items ≡ map (λ file. file.name) files.now) }
+{
+    let mut names = Vec::new(alloc);
+    for file in files {
+        let name = Text::make(alloc, file.name.bytes())?;
+        names.push(name)?;
+    }
+    Ok(names)
 }
 
 /// The refusal that blames an offence, or that of want of memory.

@@ -7,12 +7,12 @@ ghost use Rattle.check_names.specs.Names.{messages_of};
 ghost use Rattle.texts.specs.Fault.{HasRisen};
 ghost use Rattle.source_compiler.specs.Source.{IsSourceBlame};
 ghost use Rattle.input_refusals.specs.Agreement.{Agrees};
-ghost use Rattle.source_compiler.specs.Compiled.{IsCompiledSource};
-ghost use Rattle.source_compiler.specs.Program.{FilesAt, IsFilesBlame};
+ghost use Rattle.source_compiler.specs.Compiled.{IsCoded, IsCompiledSource};
+ghost use Rattle.source_compiler.specs.Program.{FilesAt, IsFilesBlame, most};
 
+use crate::compiled::Compiled;
 use crate::program::code_of;
 use crate::rules::without_column;
-use bytecode::Verified;
 use capl_include::{ExpandRefusal, SourceFile, expand};
 use dbc_reader::Database;
 use input_refusals::InputRefusal;
@@ -21,23 +21,28 @@ use sim_outside::Files;
 use std::alloc::Global;
 use texts::Text;
 
-/// The code of the source of this name, with the messages of a database.
+/// The code of the source of this name, with the messages of a database; the sizes of its program, and the
+/// names of its files.
 pub fn read_source<F: Files>(
     alloc: Global,
     name: &Text,
     base: Option<&Database>,
     files: &mut F,
-) -> Result<Verified, InputRefusal>
+) -> Result<Compiled, InputRefusal>
     ensures told { IfSome (F.held files.old) (λ contents.
         Agrees (IsCompiledSource contents name.now (messages_of base.entry))
         (IsSourceBlame contents name.now (messages_of base.entry)) result) }
+    // It was made of some program, which is the trees of its files, also where the contents are not told.
+    ensures coded { IfOk result (IsCoded (messages_of base.entry)) }
+    // The sizes are within the limits of a program, also where the contents are not told.
+    ensures small { IfOk result (λ compiled. (compiled.cells ≤ most) × (compiled.weight ≤ most)) }
     ensures failed { IsErrOf result InputRefusal.Failed → HasRisen (F.faults files.old) (F.faults files.new) }
     ensures faults_stay { F.faults files.old ≤ F.faults files.new }
     ensures contents_stay { F.held files.new ≡ F.held files.old }
 {
     let sources = read_files(alloc, name, files)?;
-    let code = code_of(alloc, name, sources.as_slice(), base)?;
-    Ok(code)
+    let compiled = code_of(alloc, name, sources.as_slice(), base)?;
+    Ok(compiled)
 }
 
 /// The files of the program of this name, in program order.

@@ -3,6 +3,7 @@ pub mod Effects
 pub mod Following
 pub mod SeenEvents
 pub mod SourceCode
+pub mod SoundSources
 pub mod SourceRuns
 pub mod Tasks
 pub mod TimerEffects

@@ -4,3 +4,4 @@ pub mod Reaction
 pub mod Ends
 pub mod Source
 pub mod Stands
+pub mod Sound

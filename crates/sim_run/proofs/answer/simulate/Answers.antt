@@ -1,12 +1,15 @@
 -- What was written of the answer.
-use Rattle.std.proofs.Common.{map, inl, refl, sym, subst}
-use Rattle.std.specs.Prelude.{string_bytes}
+use Rattle.std.proofs.Common.{◌∙◌, List, ℕ, map, refl, sym, subst}
+use Rattle.std.specs.Prelude.{IsSome, string_bytes}
+use Rattle.sim_inputs.specs.Accepted.{IsFirstBlame}
 use Rattle.sim_text.specs.Blame.{blame_line}
-use Rattle.sim_run.specs.Command.{IsCommand}
-use Rattle.sim_run.proofs.AnswerLemmas.{answer_of_blame, blame_partly, blame_whole, done_or_refused, run_partly, run_whole}
+use Rattle.sim_run.specs.Command.{IsCommand, show_of}
+use Rattle.sim_run.specs.declared.command.Command.{Command}
+use Rattle.sim_run.proofs.CommandLemmas.{one_command}
+use Rattle.sim_run.proofs.WrittenLemmas.{answer_of_blame, blame_partly, inputs_as_it_happens, inputs_partly, inputs_whole}
 use Rattle.sim_run.proofs.answer.simulate.Goals as goal
 
--- what was written is what the run of the inputs prints
+-- what was written is the answer over the inputs
 pub returns-in-Ok-read_inputs-clause-whole : goal.returns-in-Ok-read_inputs-clause-whole
 returns-in-Ok-read_inputs-clause-whole g c = λ contents told.
     let words = map string_bytes c.args.words.now in
@@ -14,7 +17,7 @@ returns-in-Ok-read_inputs-clause-whole g c = λ contents told.
     let words_are = subst (IsCommand words command) (sym c.in-Ok.ensures) c.in-Some.ensures in
     let are = rw told at c.in-Ok-read_inputs.ensures.told in
     rw c.status_after.ensures
-    (run_whole contents words command c.in-Ok.name c.in-Ok-read_inputs.inputs c.write_run.result _ _ c.write_run.new.meter words_are are c.write_run.ensures.prints)
+    (inputs_whole contents words command c.in-Ok.name c.in-Ok-read_inputs.inputs c.answer_inputs-written.result _ _ c.answer_inputs-written.new.meter words_are are c.answer_inputs-written.ensures.answers)
 
 -- or a beginning of it
 pub returns-in-Ok-read_inputs-clause-prefix : goal.returns-in-Ok-read_inputs-clause-prefix
@@ -24,44 +27,36 @@ returns-in-Ok-read_inputs-clause-prefix g c = λ contents told.
     let words_are = subst (IsCommand words command) (sym c.in-Ok.ensures) c.in-Some.ensures in
     let are = rw told at c.in-Ok-read_inputs.ensures.told in
     rw c.status_after.ensures
-    (run_partly contents words command c.in-Ok.name c.in-Ok-read_inputs.inputs c.write_run.result _ _ c.write_run.new.meter words_are are c.write_run.ensures.prints)
+    (inputs_partly contents words command c.in-Ok.name c.in-Ok-read_inputs.inputs c.answer_inputs-written.result _ _ c.answer_inputs-written.new.meter words_are are c.answer_inputs-written.ensures.answers)
 
--- the line of the blame is the answer
-pub returns-in-Err-Blamed-clause-whole : goal.returns-in-Err-Blamed-clause-whole
-returns-in-Err-Blamed-clause-whole g c = λ contents told.
+-- each line was written before later tasks ran
+pub returns-in-Ok-read_inputs-clause-as_it_happens : goal.returns-in-Ok-read_inputs-clause-as_it_happens
+returns-in-Ok-read_inputs-clause-as_it_happens g c = λ contents told other name other_are shows scenario base sources accepted failed.
     let words = map string_bytes c.args.words.now in
-    let blame = c.in-Err-Blamed.blame in
-    let words_are = subst (IsCommand words c.in-Some.command) (sym c.in-Ok.ensures) c.in-Some.ensures in
-    let first = rw (told, c.in-Err-Blamed.field-0-is) at c.in-Err-Blamed.ensures.told in
-    let answer = answer_of_blame contents words c.in-Some.command c.in-Ok.name blame c.args.meter.now words_are first c.requires in
-    let grows = rw c.in-Err-Blamed.blame-is at c.write_blame.ensures.grows in
-    rw c.status_after-in-Err-Blamed.ensures (blame_whole contents words c.write_blame.result _ _ (blame_line blame) c.args.meter.now answer grows)
+    let command = c.in-Some.command in
+    let words_are = subst (IsCommand words command) (sym c.in-Ok.ensures) c.in-Some.ensures in
+    let are = rw told at c.in-Ok-read_inputs.ensures.told in
+    let same = one_command words other command name c.in-Ok.name other_are words_are in
+    inputs_as_it_happens contents words command c.in-Ok.name c.in-Ok-read_inputs.inputs c.answer_inputs-written.result _ _ c.answer_inputs-written.new.meter words_are are
+    c.answer_inputs-written.ensures.answers (show_of command) refl (subst (λ (k : Command). IsSome (show_of k)) same.0 shows) (sym c.status_after.ensures ∙ failed)
 
--- or a beginning of it
+-- or a beginning of the line of a blame
 pub returns-in-Err-Blamed-clause-prefix : goal.returns-in-Err-Blamed-clause-prefix
 returns-in-Err-Blamed-clause-prefix g c = λ contents told.
     let words = map string_bytes c.args.words.now in
     let blame = c.in-Err-Blamed.blame in
     let words_are = subst (IsCommand words c.in-Some.command) (sym c.in-Ok.ensures) c.in-Some.ensures in
     let first = rw (told, c.in-Err-Blamed.field-0-is) at c.in-Err-Blamed.ensures.told in
-    let answer = answer_of_blame contents words c.in-Some.command c.in-Ok.name blame c.args.meter.now words_are first c.requires in
+    let answer = answer_of_blame contents words c.in-Some.command c.in-Ok.name blame c.args.meter.now words_are first c.requires.no_rows in
     let grows = rw c.in-Err-Blamed.blame-is at c.write_blame.ensures.grows in
     rw c.status_after-in-Err-Blamed.ensures (blame_partly contents words c.write_blame.result _ _ (blame_line blame) c.args.meter.now answer grows)
 
--- the blame's answer is not Done
-pub returns-in-Err-Blamed-clause-complete : goal.returns-in-Err-Blamed-clause-complete
-returns-in-Err-Blamed-clause-complete g c = λ contents told bytes rows done no_read_fault no_write_fault.
+-- accepted inputs have no blame
+pub returns-in-Err-Blamed-clause-as_it_happens : goal.returns-in-Err-Blamed-clause-as_it_happens
+returns-in-Err-Blamed-clause-as_it_happens g c = λ contents told other name other_are shows scenario base sources accepted failed.
     let words = map string_bytes c.args.words.now in
     let blame = c.in-Err-Blamed.blame in
     let words_are = subst (IsCommand words c.in-Some.command) (sym c.in-Ok.ensures) c.in-Some.ensures in
     let first = rw (told, c.in-Err-Blamed.field-0-is) at c.in-Err-Blamed.ensures.told in
-    let answer = answer_of_blame contents words c.in-Some.command c.in-Ok.name blame c.args.meter.now words_are first c.requires in
-    absurd (done_or_refused contents words bytes (blame_line blame) rows c.args.meter.now done answer)
-
--- there was no memory for the name of the scenario
-pub returns-in_default-make-clause-prefix : goal.returns-in_default-make-clause-prefix
-returns-in_default-make-clause-prefix g c = λ contents told ended. inl refl
-
--- or for what it leads to
-pub returns-clause-prefix : goal.returns-clause-prefix
-returns-clause-prefix g c = λ contents told ended. inl refl
+    let same = one_command words c.in-Some.command other c.in-Ok.name name words_are other_are in
+    absurd (c.one_reading.ensures.not_both contents name scenario base sources blame accepted (subst (λ (n : List ℕ). IsFirstBlame contents n blame) same.1 first))

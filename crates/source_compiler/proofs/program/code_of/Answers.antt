@@ -1,5 +1,6 @@
--- What is known of a typed program that is compiled, and what is to blame of one that is too heavy.
-use Rattle.std.proofs.Common.{◌≡◌, ◌≤◌, ◌<◌, inr}
+-- What is known of a typed program that is compiled, how large it is, and what is to blame of one that is too
+-- heavy.
+use Rattle.std.proofs.Common.{◌≡◌, ◌≤◌, ◌<◌, ◌∙◌, inr}
 use Rattle.bytecode.specs.declared.code.Code.{Code}
 use Rattle.capl_include.specs.Blame.{file_blame, source_rule}
 use Rattle.capl_tree.specs.Weight.{weight}
@@ -7,8 +8,9 @@ use Rattle.check_names.specs.Names.{messages_of}
 use Rattle.code_listing.specs.Program.{IsCodeOf}
 use Rattle.source_compiler.specs.Source.{IsProgramBlame}
 use Rattle.source_compiler.specs.Compiled.{IsCompiled}
+use Rattle.source_compiler.specs.declared.compiled.Compiled.{Compiled}
 use Rattle.source_compiler.specs.Program.{lines_of, most}
-use Rattle.source_compiler.proofs.CellLemmas.{few_cells, within_weight}
+use Rattle.source_compiler.proofs.CellLemmas.{cells_told, few_cells, weight_told, within_weight}
 use Rattle.input_refusals.proofs.Passing.{judged_on}
 use Rattle.source_compiler.proofs.program.code_of.Goals as goal
 
@@ -29,8 +31,28 @@ returns-in_err-code c =
     let name = c.args.name.now in
     let files = c.args.files.now in
     let program = c.in_ok-program.program in
-    judged_on {A = Code} {B = Code} (λ code. IsCodeOf c.in_ok-typed.typed code × (weight program ≤ most))
+    judged_on {A = Code} {B = Compiled} (λ code. IsCodeOf c.in_ok-typed.typed code × (weight program ≤ most))
     (λ blame. (most < weight program) × (blame ≡ file_blame name (source_rule 29))) (IsCompiled base files) (IsProgramBlame base name files)
     c.in_err-code.field-0.0 c.from_residual-in_err-code.result c.from_residual-in_err-code.ensures.1
     (λ blame heavy. inr (inr (c.in_ok-screen_files.ensures, (program, c.in_ok-program.ensures, inr (c.in_ok-typed.ensures.no_offence, inr heavy.0, heavy.1)))))
     c.in_err-code.ensures
+
+-- a program that is compiled
+pub returns : goal.returns
+returns c =
+    let base = messages_of c.args.base in
+    let program = c.in_ok-program.program in
+    let lines = lines_of c.args.files.now in
+    let typed = c.in_ok-typed.typed in
+    record {
+      screened = c.in_ok-screen_files.ensures;
+      program = program;
+      trees = c.in_ok-program.ensures;
+      light = c.in_ok-code.ensures.1;
+      made = record {
+        code_is = (typed, c.in_ok-typed.ensures, c.in_ok-code.ensures.0);
+        cells_are = cells_told base program lines typed c.cells_of.result c.in_ok-typed.ensures c.cells_of.ensures;
+        weight_is = weight_told program c.weight_of.result c.in_ok-code.ensures.1 c.weight_of.ensures;
+        files_are = c.from_list.ensures ∙ c.in_ok-names.ensures;
+      };
+    }

@@ -1,0 +1,6 @@
+-- The names of the nodes so far.
+use Rattle.std.proofs.Common.{◌≡◌, map, take}
+use Rattle.sim_run.proofs.run.names_of.Given as goal
+
+abbrev pub invariant-loop-node : goal.invariant-loop-node
+invariant-loop-node l = l.names.items ≡ map (λ node. node.name) (take l.node-index l.nodes)
