@@ -12,8 +12,13 @@ output is:
     slow    a pipe of one page, from which few bytes are taken at a time
     room    a file that takes as many bytes as this file says, and then fails
 
+A folder that is run more than once has such files for each run, whose names go on with
+the same `-` and word: `words-log`, `stdout-log`, `status-log`.
+
 Each scenario runs in a copy of its folder, for at most 60 seconds, and nothing
-may stand on standard error. Then `capl` is tried: without words and when asked for help,
+may stand on standard error. Then examples/body-bus runs under random picks: its frames,
+the lines of each of its nodes and its profile have to be the same under all of them.
+Last `capl` is tried: without words and when asked for help,
 in a checkout with the released program and nothing built, where that program is of the
 sources, and in one whose sources are others, where it has to build and cannot.
 The last line is 'N passed, M failed'.
@@ -23,6 +28,7 @@ import fcntl
 import hashlib
 import os
 import pathlib
+import random
 import resource
 import shutil
 import subprocess
@@ -36,10 +42,22 @@ EXPECTATIONS = ("words", "stdout", "status", "full", "slow", "room")
 PAGE = 4096
 FEW = 7
 
+# The random picks over BUS: how many lists, how many picks in each (a pick for each task), and the seed.
+BUS = ROOT / "examples" / "body-bus"
+LISTS = 20
+PICKS = 1000
+SEED = 20
 
-def words_of(folder):
+
+def trials_of(group):
+    """The runs of the folders of a group: each a folder, and what the names of its files go on with."""
+    paths = [path for name in ("words", "words-*") for path in (ROOT / group).glob(f"*/{name}")]
+    return sorted((path.parent, path.name.removeprefix("words")) for path in paths)
+
+
+def words_of(folder, which):
     """The words of a scenario, one a line; no bytes are no words."""
-    data = (folder / "words").read_bytes()
+    data = (folder / f"words{which}").read_bytes()
     return data.removesuffix(b"\n").split(b"\n") if data else []
 
 
@@ -69,51 +87,94 @@ def limit_files(size):
     resource.setrlimit(resource.RLIMIT_FSIZE, (size, size))
 
 
-def started(program, folder, work, **output):
+def started(program, words, work, **output):
     """Runs the program in a folder to its end."""
-    return subprocess.run([program, *words_of(folder)], cwd=work, stdin=subprocess.DEVNULL,
+    return subprocess.run([program, *words], cwd=work, stdin=subprocess.DEVNULL,
                           stderr=subprocess.PIPE, timeout=SECONDS, **output)
 
 
-def run(program, folder, work):
+def copied(folder, work):
+    """Copies what the program reads of a folder."""
+    names = [name for it in EXPECTATIONS for name in (it, f"{it}-*")]
+    shutil.copytree(folder, work, symlinks=True, ignore=shutil.ignore_patterns(*names))
+
+
+def run(program, folder, which, work):
     """Runs a scenario in a copy of its folder, and gives status, output and error output."""
-    shutil.copytree(folder, work, symlinks=True, ignore=shutil.ignore_patterns(*EXPECTATIONS))
-    if (folder / "full").exists():
+    copied(folder, work)
+    words = words_of(folder, which)
+    if (folder / f"full{which}").exists():
         with open("/dev/full", "wb") as out:
-            done = started(program, folder, work, stdout=out)
+            done = started(program, words, work, stdout=out)
         return done.returncode, None, done.stderr
-    if (folder / "slow").exists():
+    if (folder / f"slow{which}").exists():
         taken = bytearray()
         with slow_pipe(taken) as out:
-            done = started(program, folder, work, stdout=out)
+            done = started(program, words, work, stdout=out)
         return done.returncode, bytes(taken), done.stderr
-    if (folder / "room").exists():
-        size = int((folder / "room").read_text())
+    if (folder / f"room{which}").exists():
+        size = int((folder / f"room{which}").read_text())
         with tempfile.TemporaryFile() as out:
             # The signal of a file that is too long stays ignored, as it is here, so that the write fails.
-            done = started(program, folder, work, stdout=out, restore_signals=False,
+            done = started(program, words, work, stdout=out, restore_signals=False,
                            preexec_fn=lambda: limit_files(size))
             out.seek(0)
             return done.returncode, out.read(), done.stderr
-    done = started(program, folder, work, stdout=subprocess.PIPE)
+    done = started(program, words, work, stdout=subprocess.PIPE)
     return done.returncode, done.stdout, done.stderr
 
 
-def faults_of(program, folder):
+def faults_of(program, folder, which):
     """What is wrong with a scenario, a line for each difference."""
     with tempfile.TemporaryDirectory() as keep:
         try:
-            status, out, err = run(program, folder, pathlib.Path(keep) / "work")
+            status, out, err = run(program, folder, which, pathlib.Path(keep) / "work")
         except subprocess.TimeoutExpired:
             return [f"no end within {SECONDS} seconds"]
     faults = []
-    want = int((folder / "status").read_text())
+    want = int((folder / f"status{which}").read_text())
     if status != want:
         faults.append(f"status {status}, not {want}")
-    if out is not None and out != (folder / "stdout").read_bytes():
-        faults.append(f"wrote {out[:400]!r}, not {(folder / 'stdout').read_bytes()[:400]!r}")
+    if out is not None and out != (asked := (folder / f"stdout{which}").read_bytes()):
+        faults.append(f"wrote {out[:400]!r}, not {asked[:400]!r}")
     if err:
         faults.append(f"standard error has {err[:400]!r}")
+    return faults
+
+
+def told_apart(out):
+    """The lines of each node, and under an empty name all others, which are frames or those of a profile."""
+    lines = {}
+    for line in out.splitlines():
+        name = line.split(b" ", 3)[2] if line.startswith(b"w ") else b""
+        lines.setdefault(name, []).append(line)
+    return lines
+
+
+def outs_of_picks(program, command):
+    """What a command on BUS writes without picks, and then with each list of random ones."""
+    chance = random.Random(SEED)
+    lists = ["", *(" ".join(str(chance.randrange(2**32)) for _ in range(PICKS)) for _ in range(LISTS))]
+    with tempfile.TemporaryDirectory() as keep:
+        work = pathlib.Path(keep) / "work"
+        copied(BUS, work)
+        scenario = (work / "body.scn").read_text()
+        for picks in lists:
+            (work / "body.scn").write_text(f"{scenario}picks {picks}\n" if picks else scenario)
+            yield started(program, [command, "body.scn"], work, stdout=subprocess.PIPE).stdout
+
+
+def faults_of_picks(program):
+    """What is wrong with BUS under random picks, beside its run without any."""
+    try:
+        outs = {command: list(outs_of_picks(program, command)) for command in ("run", "profile")}
+    except subprocess.TimeoutExpired:
+        return [f"no end within {SECONDS} seconds"]
+    faults = [f"{command}: list {number} of picks changes the frames, a node's lines or the profile"
+              for command, several in outs.items() for number, out in enumerate(several)
+              if told_apart(out) != told_apart(several[0])]
+    if len(set(outs["run"])) == 1:
+        faults.append("run: no list of picks changes in which order lines come")
     return faults
 
 
@@ -174,9 +235,9 @@ def main():
     if len(sys.argv) != 2:
         sys.exit("usage: run.py PROGRAM")
     program = str(pathlib.Path(sys.argv[1]).resolve())
-    folders = sorted(path.parent for group in ("examples", "tests/cases")
-                     for path in (ROOT / group).glob("*/words"))
-    trials = [(folder.relative_to(ROOT), faults_of(program, folder)) for folder in folders]
+    trials = [(f"{folder.relative_to(ROOT)}{which}", faults_of(program, folder, which))
+              for group in ("examples", "tests/cases") for folder, which in trials_of(group)]
+    trials += [("examples/body-bus under random picks", faults_of_picks(program))]
     trials += [(" ".join(["capl", *words]), list(faults_of_help(*words))) for words in ((), ("--help",), ("-h",))]
     trials += [("capl on a fresh clone", list(faults_of_released()))]
     passed = failed = 0
