@@ -37,22 +37,22 @@ pub rows_among : (handlers : List (List Handler)) (place : ℕ) (own : List Hand
 rows_among handlers place own is there = subst (λ (h : List Handler). row_count (take place handlers) + length h ≤ row_count handlers) (sym is) (sum_by_more_le length handlers place own there)
 
 -- the lines of nodes in two parts
-lines_from-append : (names names_then : List (List ℕ)) (files files_then : List (List (List ℕ))) (row : ℕ → MeterRow) (number : ℕ) (handlers handlers_then : List (List Handler))
+lines_from-append : (names names_then : List (List ℕ)) (files files_then : List (List (List ℕ))) (counts : ℕ → MeterRow) (number : ℕ) (handlers handlers_then : List (List Handler))
     → length names ≡ length handlers → length files ≡ length handlers
-    → lines_from (names ++ names_then) (files ++ files_then) row number (handlers ++ handlers_then)
-    ≡ lines_from names files row number handlers ++ lines_from names_then files_then row (number + row_count handlers) handlers_then
-lines_from-append [] names_then [] files_then row number [] handlers_then n f = ap (λ k. lines_from names_then files_then row k handlers_then) (omega arith)
-lines_from-append (name ∷ names) names_then (own_files ∷ files) files_then row number (own ∷ handlers) handlers_then n f =
+    → lines_from (names ++ names_then) (files ++ files_then) counts number (handlers ++ handlers_then)
+    ≡ lines_from names files counts number handlers ++ lines_from names_then files_then counts (number + row_count handlers) handlers_then
+lines_from-append [] names_then [] files_then counts number [] handlers_then n f = ap (λ k. lines_from names_then files_then counts k handlers_then) (omega arith)
+lines_from-append (name ∷ names) names_then (own_files ∷ files) files_then counts number (own ∷ handlers) handlers_then n f =
     let count : (number + length own) + row_count handlers ≡ number + row_count (own ∷ handlers) = omega (arith, sum_by-cons length own handlers) in
-    ap (λ (zs : List ℕ). handler_lines name own_files row number own ++ zs)
-    (lines_from-append names names_then files files_then row (number + length own) handlers handlers_then (omega (arith, n)) (omega (arith, f))
-    ∙ ap (λ k. lines_from names files row (number + length own) handlers ++ lines_from names_then files_then row k handlers_then) count)
-    ∙ sym (append_assoc (handler_lines name own_files row number own) (lines_from names files row (number + length own) handlers) (lines_from names_then files_then row (number + row_count (own ∷ handlers)) handlers_then))
-lines_from-append [] names_then [] files_then row number (own ∷ handlers) handlers_then n f = absurd (omega (arith, n))
-lines_from-append [] names_then (own_files ∷ files) files_then row number [] handlers_then n f = absurd (omega (arith, f))
-lines_from-append [] names_then (own_files ∷ files) files_then row number (own ∷ handlers) handlers_then n f = absurd (omega (arith, n))
-lines_from-append (name ∷ names) names_then files files_then row number [] handlers_then n f = absurd (omega (arith, n))
-lines_from-append (name ∷ names) names_then [] files_then row number (own ∷ handlers) handlers_then n f = absurd (omega (arith, f))
+    ap (λ (zs : List ℕ). handler_lines name own_files counts number own ++ zs)
+    (lines_from-append names names_then files files_then counts (number + length own) handlers handlers_then (omega (arith, n)) (omega (arith, f))
+    ∙ ap (λ k. lines_from names files counts (number + length own) handlers ++ lines_from names_then files_then counts k handlers_then) count)
+    ∙ sym (append_assoc (handler_lines name own_files counts number own) (lines_from names files counts (number + length own) handlers) (lines_from names_then files_then counts (number + row_count (own ∷ handlers)) handlers_then))
+lines_from-append [] names_then [] files_then counts number (own ∷ handlers) handlers_then n f = absurd (omega (arith, n))
+lines_from-append [] names_then (own_files ∷ files) files_then counts number [] handlers_then n f = absurd (omega (arith, f))
+lines_from-append [] names_then (own_files ∷ files) files_then counts number (own ∷ handlers) handlers_then n f = absurd (omega (arith, n))
+lines_from-append (name ∷ names) names_then files files_then counts number [] handlers_then n f = absurd (omega (arith, n))
+lines_from-append (name ∷ names) names_then [] files_then counts number (own ∷ handlers) handlers_then n f = absurd (omega (arith, f))
 
 -- a list is its beginning, the member at a place, and what is behind it
 cut_at : {A : Type 0} (xs : List A) (place : ℕ) (x : A) → x ≡ get_or xs place x → place < length xs → xs ≡ take place xs ++ (x ∷ drop (suc place) xs)
@@ -72,62 +72,62 @@ pub record StandsAt (names : List (List ℕ)) (files : List (List (List ℕ))) (
   pub as_many_files : length files ≡ length handlers
   pub there : place < length handlers
 
-module _ (names : List (List ℕ)) (files : List (List (List ℕ))) (row : ℕ → MeterRow) (handlers : List (List Handler)) (place : ℕ) (name : List ℕ) (own_files : List (List ℕ)) (own : List Handler)
+module _ (names : List (List ℕ)) (files : List (List (List ℕ))) (counts : ℕ → MeterRow) (handlers : List (List Handler)) (place : ℕ) (name : List ℕ) (own_files : List (List ℕ)) (own : List Handler)
     (at : StandsAt names files handlers place name own_files own) where
   -- the lines of the nodes before a place
   abbrev lines_before : List ℕ
-  lines_before = lines_from (take place names) (take place files) row 0 (take place handlers)
+  lines_before = lines_from (take place names) (take place files) counts 0 (take place handlers)
 
   -- those of the node at the place
   abbrev lines_here : List ℕ
-  lines_here = handler_lines name own_files row (row_count (take place handlers)) own
+  lines_here = handler_lines name own_files counts (row_count (take place handlers)) own
 
   split : (names_then : List (List ℕ)) (files_then : List (List (List ℕ))) (handlers_then : List (List Handler))
-      → lines_from (take place names ++ (name ∷ names_then)) (take place files ++ (own_files ∷ files_then)) row 0 (take place handlers ++ (own ∷ handlers_then))
-      ≡ lines_before ++ (lines_here ++ lines_from names_then files_then row (row_count (take place handlers) + length own) handlers_then)
+      → lines_from (take place names ++ (name ∷ names_then)) (take place files ++ (own_files ∷ files_then)) counts 0 (take place handlers ++ (own ∷ handlers_then))
+      ≡ lines_before ++ (lines_here ++ lines_from names_then files_then counts (row_count (take place handlers) + length own) handlers_then)
   split names_then files_then handlers_then =
       let there = at.there in
       let long_names = at.as_many_names in
       let long_files = at.as_many_files in
       let count : 0 + row_count (take place handlers) ≡ row_count (take place handlers) = omega arith in
-      lines_from-append (take place names) (name ∷ names_then) (take place files) (own_files ∷ files_then) row 0 (take place handlers) (own ∷ handlers_then)
+      lines_from-append (take place names) (name ∷ names_then) (take place files) (own_files ∷ files_then) counts 0 (take place handlers) (own ∷ handlers_then)
       (length-take-le place names (omega (arith, there, long_names)) ∙ sym (length-take-le place handlers (omega (arith, there))))
       (length-take-le place files (omega (arith, there, long_files)) ∙ sym (length-take-le place handlers (omega (arith, there))))
-      ∙ ap (λ k. lines_before ++ (handler_lines name own_files row k own ++ lines_from names_then files_then row (k + length own) handlers_then)) count
+      ∙ ap (λ k. lines_before ++ (handler_lines name own_files counts k own ++ lines_from names_then files_then counts (k + length own) handlers_then)) count
 
   -- the lines of one node more
-  lines_more : lines_from (take (place + 1) names) (take (place + 1) files) row 0 (take (place + 1) handlers) ≡ lines_before ++ lines_here
+  lines_more : lines_from (take (place + 1) names) (take (place + 1) files) counts 0 (take (place + 1) handlers) ≡ lines_before ++ lines_here
   lines_more =
       let there = at.there in
       let long_names = at.as_many_names in
       let long_files = at.as_many_files in
-      ap (λ (ns : List (List ℕ)). lines_from ns (take (place + 1) files) row 0 (take (place + 1) handlers)) (one_more names place name at.name_is (omega (arith, there, long_names)))
-      ∙ ap (λ (fs : List (List (List ℕ))). lines_from (take place names ++ (name ∷ [])) fs row 0 (take (place + 1) handlers)) (one_more files place own_files at.files_are (omega (arith, there, long_files)))
-      ∙ ap (λ (hs : List (List Handler)). lines_from (take place names ++ (name ∷ [])) (take place files ++ (own_files ∷ [])) row 0 hs) (one_more handlers place own at.own_are there)
+      ap (λ (ns : List (List ℕ)). lines_from ns (take (place + 1) files) counts 0 (take (place + 1) handlers)) (one_more names place name at.name_is (omega (arith, there, long_names)))
+      ∙ ap (λ (fs : List (List (List ℕ))). lines_from (take place names ++ (name ∷ [])) fs counts 0 (take (place + 1) handlers)) (one_more files place own_files at.files_are (omega (arith, there, long_files)))
+      ∙ ap (λ (hs : List (List Handler)). lines_from (take place names ++ (name ∷ [])) (take place files ++ (own_files ∷ [])) counts 0 hs) (one_more handlers place own at.own_are there)
       ∙ split [] [] [] ∙ ap (λ (zs : List ℕ). lines_before ++ zs) (append-nil lines_here)
 
   -- the lines of all nodes
-  lines_at : lines_from names files row 0 handlers
-      ≡ lines_before ++ (lines_here ++ lines_from (drop (suc place) names) (drop (suc place) files) row (row_count (take place handlers) + length own) (drop (suc place) handlers))
+  lines_at : lines_from names files counts 0 handlers
+      ≡ lines_before ++ (lines_here ++ lines_from (drop (suc place) names) (drop (suc place) files) counts (row_count (take place handlers) + length own) (drop (suc place) handlers))
   lines_at =
       let there = at.there in
       let long_names = at.as_many_names in
       let long_files = at.as_many_files in
-      ap (λ (ns : List (List ℕ)). lines_from ns files row 0 handlers) (cut_at names place name at.name_is (omega (arith, there, long_names)))
-      ∙ ap (λ (fs : List (List (List ℕ))). lines_from (take place names ++ (name ∷ drop (suc place) names)) fs row 0 handlers) (cut_at files place own_files at.files_are (omega (arith, there, long_files)))
-      ∙ ap (λ (hs : List (List Handler)). lines_from (take place names ++ (name ∷ drop (suc place) names)) (take place files ++ (own_files ∷ drop (suc place) files)) row 0 hs) (cut_at handlers place own at.own_are there)
+      ap (λ (ns : List (List ℕ)). lines_from ns files counts 0 handlers) (cut_at names place name at.name_is (omega (arith, there, long_names)))
+      ∙ ap (λ (fs : List (List (List ℕ))). lines_from (take place names ++ (name ∷ drop (suc place) names)) fs counts 0 handlers) (cut_at files place own_files at.files_are (omega (arith, there, long_files)))
+      ∙ ap (λ (hs : List (List Handler)). lines_from (take place names ++ (name ∷ drop (suc place) names)) (take place files ++ (own_files ∷ drop (suc place) files)) counts 0 hs) (cut_at handlers place own at.own_are there)
       ∙ split (drop (suc place) names) (drop (suc place) files) (drop (suc place) handlers)
 
   -- what was written has grown by the lines of one node more
-  pub grows_by_node : (a b c : Option (List ℕ)) (number : ℕ) → number ≡ row_count (take place handlers) → GrowsBy a b lines_before → GrowsBy b c (handler_lines name own_files row number own)
-      → GrowsBy a c (lines_from (take (place + 1) names) (take (place + 1) files) row 0 (take (place + 1) handlers))
+  pub grows_by_node : (a b c : Option (List ℕ)) (number : ℕ) → number ≡ row_count (take place handlers) → GrowsBy a b lines_before → GrowsBy b c (handler_lines name own_files counts number own)
+      → GrowsBy a c (lines_from (take (place + 1) names) (take (place + 1) files) counts 0 (take (place + 1) handlers))
   grows_by_node a b c number is first second =
-      grows_same a c (sym lines_more) (grows_more a b c lines_before lines_here first (subst (λ k. GrowsBy b c (handler_lines name own_files row k own)) is second))
+      grows_same a c (sym lines_more) (grows_more a b c lines_before lines_here first (subst (λ k. GrowsBy b c (handler_lines name own_files counts k own)) is second))
 
   -- it has grown by the lines of the first nodes and the beginning of those of the next
-  pub begins_by_node : (a b c : Option (List ℕ)) (number : ℕ) → number ≡ row_count (take place handlers) → GrowsBy a b lines_before → GrowsByPrefix b c (handler_lines name own_files row number own)
-      → GrowsByPrefix a c (lines_from names files row 0 handlers)
+  pub begins_by_node : (a b c : Option (List ℕ)) (number : ℕ) → number ≡ row_count (take place handlers) → GrowsBy a b lines_before → GrowsByPrefix b c (handler_lines name own_files counts number own)
+      → GrowsByPrefix a c (lines_from names files counts 0 handlers)
   begins_by_node a b c number is first second =
-      begins_more a b c lines_before lines_here (lines_from names files row 0 handlers)
-      (lines_from (drop (suc place) names) (drop (suc place) files) row (row_count (take place handlers) + length own) (drop (suc place) handlers))
-      first (subst (λ k. GrowsByPrefix b c (handler_lines name own_files row k own)) is second) lines_at
+      begins_more a b c lines_before lines_here (lines_from names files counts 0 handlers)
+      (lines_from (drop (suc place) names) (drop (suc place) files) counts (row_count (take place handlers) + length own) (drop (suc place) handlers))
+      first (subst (λ k. GrowsByPrefix b c (handler_lines name own_files counts k own)) is second) lines_at

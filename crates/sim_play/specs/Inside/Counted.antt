@@ -38,5 +38,5 @@ lines_from _ _ row number _ = []
 
 -- the profile, where it is asked for
 abbrev pub counted_last : Show → Labels → (ℕ → MeterRow) → List (List Handler) → List ℕ
-counted_last Profile labels row handlers = lines_from labels.names labels.files row 0 handlers
-counted_last _ labels row handlers = []
+counted_last Profile labels counts handlers = lines_from labels.names labels.files counts 0 handlers
+counted_last _ labels counts handlers = []
