@@ -55,11 +55,12 @@ fn verified(alloc: Global) -> Result<Verified, Fail> {
 }
 
 /// What is shown of the run, and what is written.
-const TEXTS: [(Show, &str); 4] = [
+const TEXTS: [(Show, &str); 5] = [
     (Show::Window, "w 0.000000 N x\n"),
     (Show::Log, ""),
     (Show::Both, "w 0.000000 N x\n"),
     (Show::Profile, "p N N.can:4 start 1 0\n"),
+    (Show::Summary, "gen 1 frames 0 lines 1 turns 0\n"),
 ];
 
 #[test]

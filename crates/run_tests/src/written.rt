@@ -97,7 +97,7 @@ const WHOLE: &[(u64, u64)] = &[(1, 0), (1, 0), (1, 0), (1, 2)];
 const WINDOW: &str = "w 0.000000 A go\nw 0.000000 B b\nw 0.000100 B m\nw 0.001000 A key\n";
 
 // A line that is refused ends the run: its task is not counted, and no later one happens.
-const CASES: [Case; 9] = [
+const CASES: [Case; 13] = [
     (Show::Window, 0, &[], true, WINDOW, WHOLE),
     (
         Show::Window,
@@ -165,6 +165,24 @@ const CASES: [Case; 9] = [
         "p A A.can:1 start 1 0\np A",
         WHOLE,
     ),
+    (
+        Show::Summary,
+        0,
+        &[],
+        true,
+        "gen 2 frames 2 lines 4 turns 2\n",
+        WHOLE,
+    ),
+    (
+        Show::Summary,
+        2,
+        &[],
+        true,
+        "gen 2 frames 2 lines 5 turns 2\n",
+        WHOLE,
+    ),
+    (Show::Summary, 0, &[(1, 0)], false, "", WHOLE),
+    (Show::Summary, 0, &[(1, 5)], false, "gen 2", WHOLE),
 ];
 
 #[test]

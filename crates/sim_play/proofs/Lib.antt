@@ -6,3 +6,4 @@ mod PlayLemmas
 mod ProfileLemmas
 pub mod RowLemmas
 mod ShowLemmas
+mod SummaryLemmas

@@ -1,5 +1,5 @@
 -- What was played, and what of it where a fault ended it.
-use Rattle.std.proofs.Common.{◌≡◌, ℕ, ◌+◌, ◌<◌, ◌≤◌, inl, inr, List, [], ◌∷◌, ◌++◌, Option, length, map, take, arith, refl, ap, ap₂, sym, subst, ◌∙◌}
+use Rattle.std.proofs.Common.{◌≡◌, ℕ, ◌+◌, ◌<◌, ◌≤◌, ◌≢◌, inl, inr, List, [], ◌∷◌, ◌++◌, Option, length, map, take, arith, refl, ap, ap₂, sym, subst, ◌∙◌}
 use Rattle.std.specs.Option.{unwrap_or}
 use Rattle.std.proofs.lemmas.List.{append-nil, append_assoc}
 use Rattle.can_bus.specs.Meaning.{BusMeaning}
@@ -21,7 +21,7 @@ use Rattle.sim_play.specs.Profile.{handler_lines, profile_of}
 use Rattle.sim_play.specs.Show.{shown, shown_first}
 use Rattle.sim_play.specs.declared.labels.Labels.{Labels}
 use Rattle.sim_play.specs.declared.labels.Show.{Show}
-use Rattle.sim_play.specs.declared.labels.Show.TheVariants.{Window, Log, Both, Profile}
+use Rattle.sim_play.specs.declared.labels.Show.TheVariants.{Window, Log, Both, Profile, Summary}
 use Rattle.sim_play.proofs.CodeStays.{codes_of, codes_stay}
 use Rattle.sim_play.proofs.Grows.{begins_more, grows_more, grows_none, grows_same}
 use Rattle.sim_play.proofs.NodeLines.{as_many}
@@ -50,12 +50,13 @@ profile_counted (name ∷ names) (own ∷ files) row other number (node ∷ node
     (lines_same name own row other number handlers (λ k less. same k (omega (arith, ends, less))) ∙ ap (λ n. handler_lines name own other n handlers) (sym order.0))
     (profile_counted names files row other (number + length handlers) nodes end order.1 same)
 
-last_counted : (show : Show) (labels : Labels) (row other : ℕ → MeterRow) (nodes : List NodeInRound) (end : ℕ) → StandInOrder 0 nodes end → ((k : ℕ) → k < end → row k ≡ other k)
-    → counted_last show labels row (handlers_of nodes) ≡ shown_last show labels nodes other
-last_counted Window labels row other nodes end order same = refl
-last_counted Log labels row other nodes end order same = refl
-last_counted Both labels row other nodes end order same = refl
-last_counted Profile labels row other nodes end order same = profile_counted labels.names labels.files row other 0 nodes end order same
+last_counted : (show : Show) (labels : Labels) (row : ℕ → MeterRow) (nodes : List NodeInRound) (list : List Step) (end : ℕ) → show ≢ Summary → StandInOrder 0 nodes end
+    → ((k : ℕ) → k < end → row k ≡ row_then (rows_of nodes) list k) → counted_last show labels row (handlers_of nodes) ≡ shown_last show labels nodes list
+last_counted Window labels row nodes list end other order same = refl
+last_counted Log labels row nodes list end other order same = refl
+last_counted Both labels row nodes list end other order same = refl
+last_counted Profile labels row nodes list end other order same = profile_counted labels.names labels.files row (row_then (rows_of nodes) list) 0 nodes end order same
+last_counted Summary labels row nodes list end other order same = absurd (other refl)
 
 -- ---- nodes after a run
 
@@ -93,35 +94,36 @@ rows_stay {before} {after} {meter} {meter_after} rows shows =
     let long = shows.metered.as_many in
     omega (arith, ends, same, long)
 
--- the rows in a meter after a run are those of its steps
-last_is : {B : Type 0} {bus : BusMeaning B} {show : Show} {labels : Labels} {before after : CoreState B} {w v : Option (List ℕ)} {meter meter_after : List MeterRow} → AreNewRows before.nodes meter
-    → (shows : HasShown bus show labels before after w v meter meter_after)
-    → counted_last show labels (row_in meter_after) (handlers_of after.nodes) ≡ shown_last show labels before.nodes (row_then (rows_of before.nodes) (steps shows.rounds before.picks))
-last_is {show} {labels} {before} {after} {meter} {meter_after} rows shows =
+-- the profile by the rows in a meter after a run is that of its steps
+pub last_is : {B : Type 0} {bus : BusMeaning B} {show : Show} {labels : Labels} {before after : CoreState B} {w v : Option (List ℕ)} {meter meter_after : List MeterRow} → show ≢ Summary → AreNewRows before.nodes meter
+    → (shows : HasShown bus show labels before after w v meter meter_after) (nodes : List NodeInRound) → nodes ≡ after.nodes
+    → counted_last show labels (row_in meter_after) (handlers_of nodes) ≡ shown_last show labels before.nodes (steps shows.rounds before.picks)
+last_is {show} {labels} {before} {after} {meter} {meter_after} other rows shows nodes are =
     let list : List Step = steps shows.rounds before.picks in
     let long = shows.metered.as_many in
-    ap (λ (hs : List (List Handler)). counted_last show labels (row_in meter_after) hs) (handlers_stay shows)
-    ∙ last_counted show labels (row_in meter_after) (row_then (rows_of before.nodes) list) before.nodes (length meter) rows.in_order
+    ap (λ (ns : List NodeInRound). counted_last show labels (row_in meter_after) (handlers_of ns)) are
+    ∙ ap (λ (hs : List (List Handler)). counted_last show labels (row_in meter_after) hs) (handlers_stay shows)
+    ∙ last_counted show labels (row_in meter_after) before.nodes list (length meter) other rows.in_order
     (λ k less. ap (λ (o : Option MeterRow). unwrap_or o (record { runs = 0; turns = 0 })) (counts_then rows shows.metered k (omega (arith, long, less))))
 
 -- ---- what was played
 
 run_is : (show : Show) (labels : Labels) (nodes : List NodeInRound) (list : List Step)
-    → shown_run show labels nodes list ≡ shown_first show labels ++ (shown show labels (entries list) ++ shown_last show labels nodes (row_then (rows_of nodes) list))
-run_is show labels nodes list = append_assoc (shown_first show labels) (shown show labels (entries list)) (shown_last show labels nodes (row_then (rows_of nodes) list))
+    → shown_run show labels nodes list ≡ shown_first show labels ++ (shown show labels (entries list) ++ shown_last show labels nodes list)
+run_is show labels nodes list = append_assoc (shown_first show labels) (shown show labels (entries list)) (shown_last show labels nodes list)
 
 -- all of it
 pub has_played : {B : Type 0} {bus : BusMeaning B} {show : Show} {labels : Labels} {before after : CoreState B} (a b c d : Option (List ℕ)) {meter meter_after : List MeterRow} → AreNewRows before.nodes meter
-    → GrowsBy a b (shown_first show labels) → HasShown bus show labels before after b c meter meter_after
-    → (nodes : List NodeInRound) → nodes ≡ after.nodes → GrowsBy c d (counted_last show labels (row_in meter_after) (handlers_of nodes)) → HasPlayed bus show labels before a d meter_after
-has_played {show} {labels} {before} {after} a b c d {meter} {meter_after} rows first shows nodes are last =
+    → GrowsBy a b (shown_first show labels) → (shows : HasShown bus show labels before after b c meter meter_after)
+    → (last : List ℕ) → last ≡ shown_last show labels before.nodes (steps shows.rounds before.picks) → GrowsBy c d last → HasPlayed bus show labels before a d meter_after
+has_played {show} {labels} {before} {after} a b c d {meter} {meter_after} rows first shows last is grows =
     let list : List Step = steps shows.rounds before.picks in
     record {
       rounds = shows.rounds;
       end = shows.end;
       is_run = shows.is_run;
-      grows = grows_more a c d (shown_first show labels ++ shown show labels (entries list)) (shown_last show labels before.nodes (row_then (rows_of before.nodes) list))
-          (grows_more a b c (shown_first show labels) (shown show labels (entries list)) first shows.grows) (grows_same c d (ap (λ (ns : List NodeInRound). counted_last show labels (row_in meter_after) (handlers_of ns)) are ∙ last_is rows shows) last);
+      grows = grows_more a c d (shown_first show labels ++ shown show labels (entries list)) (shown_last show labels before.nodes list)
+          (grows_more a b c (shown_first show labels) (shown show labels (entries list)) first shows.grows) (grows_same c d is grows);
       counts = counts_then rows shows.metered;
     }
 
@@ -130,7 +132,7 @@ pub cut_first : {B : Type 0} {bus : BusMeaning B} {show : Show} {labels : Labels
     → GrowsByPrefix a b (shown_first show labels) → IsPlayedInPart bus show labels core a b meter meter
 cut_first {show} {labels} {core} a b meter run begins =
     let list : List Step = steps run.rounds core.picks in
-    let behind : List ℕ = shown show labels (entries list) ++ shown_last show labels core.nodes (row_then (rows_of core.nodes) list) in
+    let behind : List ℕ = shown show labels (entries list) ++ shown_last show labels core.nodes list in
     record {
       rounds = run.rounds;
       end = run.end;
@@ -153,7 +155,7 @@ cut_run {show} {labels} {core} a b c first part =
       end = part.end;
       is_run = part.is_run;
       begins = begins_more a b c (shown_first show labels) (shown show labels (entries list)) (shown_run show labels core.nodes list)
-          (shown_last show labels core.nodes (row_then (rows_of core.nodes) list)) first part.begins (run_is show labels core.nodes list);
+          (shown_last show labels core.nodes list) first part.begins (run_is show labels core.nodes list);
       front = part.front;
       rest = part.rest;
       are = part.are;
@@ -161,15 +163,15 @@ cut_run {show} {labels} {core} a b c first part =
       metered = part.metered;
     }
 
--- all that is shown before the run and of it, and a beginning of the profile
+-- all that is shown before the run and of it, and a beginning of what is shown at its end
 pub cut_last : {B : Type 0} {bus : BusMeaning B} {show : Show} {labels : Labels} {before after : CoreState B} (a b c d : Option (List ℕ)) {meter meter_after : List MeterRow} → AreNewRows before.nodes meter
-    → GrowsBy a b (shown_first show labels) → HasShown bus show labels before after b c meter meter_after
-    → (nodes : List NodeInRound) → nodes ≡ after.nodes → GrowsByPrefix c d (counted_last show labels (row_in meter_after) (handlers_of nodes))
+    → GrowsBy a b (shown_first show labels) → (shows : HasShown bus show labels before after b c meter meter_after)
+    → (written : List ℕ) → written ≡ shown_last show labels before.nodes (steps shows.rounds before.picks) → GrowsByPrefix c d written
     → IsPlayedInPart bus show labels before a d meter meter_after
-cut_last {show} {labels} {before} {after} a b c d {meter} {meter_after} rows first shows nodes are begins =
+cut_last {show} {labels} {before} {after} a b c d {meter} {meter_after} rows first shows written is begins =
     let list : List Step = steps shows.rounds before.picks in
-    let last : List ℕ = shown_last show labels before.nodes (row_then (rows_of before.nodes) list) in
-    let part : GrowsByPrefix c d last = subst (λ (t : List ℕ). GrowsByPrefix c d t) (ap (λ (ns : List NodeInRound). counted_last show labels (row_in meter_after) (handlers_of ns)) are ∙ last_is rows shows) begins in
+    let last : List ℕ = shown_last show labels before.nodes list in
+    let part : GrowsByPrefix c d last = subst (λ (t : List ℕ). GrowsByPrefix c d t) is begins in
     record {
       rounds = shows.rounds;
       end = shows.end;

@@ -2,3 +2,4 @@
 pub mod Pieces
 pub mod Counted
 pub mod Shown
+pub mod Tallied

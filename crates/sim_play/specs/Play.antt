@@ -1,5 +1,6 @@
 -- What it is to play a simulation: to run it whole and show what a command asks for.
-use Rattle.std.specs.Prelude.{◌≡◌, ◌⊎◌, ℕ, ◌+◌, ◌<◌, ◌≤◌, ◌^◌, List, [], ◌∷◌, ◌++◌, length, Option, Some, slice_get, take, replicate, All, ⊤}
+use Rattle.std.specs.Prelude.{◌≡◌, ◌⊎◌, ℕ, ◌+◌, ◌<◌, ◌^◌, List, [], ◌∷◌, ◌++◌, length, map, Option, Some, slice_get, take, replicate, All, ⊤}
+use Rattle.std.specs.List.{range_with_len, sum_by}
 use Rattle.sim_outside.specs.Sink.{GrowsBy, GrowsByPrefix}
 use Rattle.can_bus.specs.Meaning.{BusMeaning}
 use Rattle.stack_vm.specs.declared.meter.MeterRow.{MeterRow}
@@ -13,9 +14,10 @@ use Rattle.run_meaning.specs.Steps.{Step, entries, steps}
 use Rattle.sim_core.specs.Core.{CoreState, rows_of, run_of}
 use Rattle.sim_play.specs.Profile.{profile_of}
 use Rattle.sim_play.specs.Show.{shown, shown_first}
+use Rattle.sim_play.specs.Summary.{summary_of}
 use Rattle.sim_play.specs.declared.labels.Labels.{Labels}
 use Rattle.sim_play.specs.declared.labels.Show.{Show}
-use Rattle.sim_play.specs.declared.labels.Show.TheVariants.{Profile}
+use Rattle.sim_play.specs.declared.labels.Show.TheVariants.{Profile, Summary}
 
 -- ---- conditions
 
@@ -50,16 +52,26 @@ pub record AreNewRows (nodes : List NodeInRound) (meter : List MeterRow) : Type 
 
 -- ---- what is played
 
--- the profile, where it is asked for
-abbrev pub shown_last : Show → Labels → List NodeInRound → (ℕ → MeterRow) → List ℕ
-shown_last Profile labels nodes row = profile_of labels.names labels.files row nodes
-shown_last _ labels nodes row = []
+-- how many event procedures nodes have
+abbrev pub procedures_of : List NodeInRound → ℕ
+procedures_of nodes = sum_by (λ node. length node.doing.node.memory.code.handlers) nodes
+
+-- the rows of nodes after steps, in order
+abbrev pub rows_then : List NodeInRound → List Step → List MeterRow
+rows_then nodes list = map (row_then (rows_of nodes) list) (range_with_len 0 (procedures_of nodes))
+
+-- what is shown at the end of steps: the profile or the summary, where it is asked for
+abbrev pub shown_last : Show → Labels → List NodeInRound → List Step → List ℕ
+shown_last Profile labels nodes list =
+    profile_of labels.names labels.files (row_then (rows_of nodes) list) nodes
+shown_last Summary labels nodes list = summary_of labels (length nodes) (entries list) (rows_then nodes list)
+shown_last _ labels nodes list = []
 
 -- all that is shown of a run with these steps
 abbrev pub shown_run : Show → Labels → List NodeInRound → List Step → List ℕ
 shown_run show labels nodes list =
     shown_first show labels ++ shown show labels (entries list)
-    ++ shown_last show labels nodes (row_then (rows_of nodes) list)
+    ++ shown_last show labels nodes list
 
 -- A simulation was played: there is a run of it, what was written has grown by all that is shown of its
 -- steps, and each row of the meter is that of the steps.

@@ -14,6 +14,9 @@ pub enum Show {
     Both,
     /// Nothing as it happens, and at the end how often each event procedure ran and how many turns it took.
     Profile,
+    /// Nothing as it happens, and at the end one line with the number of nodes, of log lines, of window lines
+    /// and of turns.
+    Summary,
 }
 
 /// Under which names a run is shown.

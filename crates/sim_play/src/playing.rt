@@ -17,6 +17,7 @@ use crate::out::Out;
 use crate::piece::write_piece;
 use crate::profile::show_profile;
 use crate::record::{ShowRecord, shows_texts};
+use crate::summary::play_summary;
 use can_bus::Bus;
 use node_run::{Node, TaskFault};
 use sim_core::Core;
@@ -58,6 +59,9 @@ pub fn play<B: Bus, S: Sink>(
 {
     core.has_a_run();
     out.played = true;
+    if show == Show::Summary {
+        return play_summary(alloc, core, labels, &mut out.sink, meter);
+    }
     show_first(alloc, show, labels, &mut out.sink)?;
     show_run(alloc, core, show, labels, &mut out.sink, meter)?;
     show_last(alloc, core.nodes(), show, labels, &mut out.sink, meter)?;

@@ -108,7 +108,7 @@ fn file_of(files: &[Text], file: u32) -> &[u8]
 }
 
 /// The row of a number, and one of zeros past the end.
-fn row_in(meter: &Meter, number: usize) -> MeterRow
+pub(crate) fn row_in(meter: &Meter, number: usize) -> MeterRow
     ensures { result ≡ row_in meter.now number }
 {
     meter.row(number).unwrap_or(MeterRow { runs: 0, turns: 0 })

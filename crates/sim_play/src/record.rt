@@ -69,7 +69,7 @@ pub(crate) fn shows_texts(show: Show) -> bool
 {
     match show {
         Show::Window | Show::Both => true,
-        Show::Log | Show::Profile => false,
+        Show::Log | Show::Profile | Show::Summary => false,
     }
 }
 
@@ -79,7 +79,7 @@ fn shows_frames(show: Show) -> bool
 {
     match show {
         Show::Log | Show::Both => true,
-        Show::Window | Show::Profile => false,
+        Show::Window | Show::Profile | Show::Summary => false,
     }
 }
 
