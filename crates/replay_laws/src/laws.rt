@@ -55,3 +55,30 @@ pub fn reproduced<R: Reaction>()
     one_reading();
     written_lines_read();
 }
+
+/// A log line can carry each frame that a replay asks for.
+pub fn replays_can_be_logged()
+    ensures { (log interface : List ℕ) (bit : ℕ) (item : Epoch) (replay : Replay) →
+        IsReplay log interface bit item replay → All (λ request. IsLoggable request.frame) replay.list }
+{}
+
+/// What one run records, another reproduces: where the log of a run is replayed, on a bus with the same bits
+/// and up to the same end moment, a run whose nodes ask for no frame and not to stop has the same log.
+pub fn recorded_and_reproduced<R: Reaction, Q: Reaction>()
+    ensures { (names : ℕ → List ℕ) (bit epoch until : ℕ) (item : Epoch) (replay : Replay)
+        (nodes : List R.Node) (others : List Q.Node) (keys further : List KeyItem)
+        (requests : List Request) (rounds again : List Passed) (after : RunState R.Node BusState)
+        (end : RunState Q.Node BusState) (picks others_picks : List ℕ) →
+        1 ≤ bit → until < 2 ^ 64 → epoch < 2 ^ 32 → IsInterface (names 1) →
+        IsRun R.reacts one_channel until (new_run nodes (new_bus bit) keys requests) rounds after →
+        AllTasks AsksLoggable rounds → All (λ request. IsLoggable request.frame) requests →
+        IsReplay (log_of names epoch (entries (steps rounds picks))) (names 1) bit item replay →
+        replay.epoch ≡ epoch →
+        IsRun Q.reacts one_channel until (new_run others (new_bus bit) further replay.list) again end →
+        AllTasks AsksNothing again →
+        log_of names epoch (entries (steps again others_picks))
+        ≡ log_of names epoch (entries (steps rounds picks)) }
+{
+    recorded::<R>();
+    reproduced::<Q>();
+}
