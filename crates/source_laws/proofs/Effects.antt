@@ -1,9 +1,10 @@
 -- What holds of each effect that a part of a source may have holds of all effects of its runs.
 use mathlib.Core.Former.{Count}
-use Rattle.std.proofs.Common.{◌≡◌, ◌-◌, ℕ, zero, suc, Bool, true, false, List, [], ◌∷◌, Option, Some, None, All, refl}
+use Rattle.std.proofs.Common.{◌≡◌, ◌-◌, ℕ, zero, suc, Bool, true, false, List, [], ◌∷◌, ◌++◌, Option, Some, None, All, refl}
 use Rattle.std.specs.Prelude.{ℤ, pos, negsuc, unwrap_or, if◌then◌else◌, map, nat_lt}
+use Rattle.std.specs.List.{flat_map}
 use Rattle.std.specs.Ordering.{int_eq}
-use Rattle.std.proofs.lemmas.List.Elements.{All-push}
+use Rattle.std.proofs.lemmas.List.Elements.{All-cons, All-head, All-nil, All-push, All-tail}
 use Rattle.int_kinds.specs.declared.kinds.Kind.{Kind}
 use Rattle.int_kinds.specs.declared.kinds.Kind.TheVariants.{Long}
 use Rattle.int_kinds.specs.declared.operators.BinOp.{BinOp}
@@ -35,10 +36,23 @@ use Rattle.capl_meaning.specs.Message.{Held, HeldVariable, array_in, is_number_p
 use Rattle.capl_meaning.specs.Operator.{prefix_value, truth_of}
 use Rattle.capl_meaning.specs.Sort.{is_number, kind_in, sort_of}
 use Rattle.capl_meaning.specs.Constant.{branches_kind, elements_of, operands_kind, prefix_kind}
-use Rattle.capl_meaning.specs.Store.{message_cells, timer_number, unit_of}
+use Rattle.capl_meaning.specs.Calls.{calls_in, calls_in_labels, calls_in_part, calls_in_row, calls_of, calls_of_arms, calls_of_else, calls_of_groups, calls_of_row}
+use Rattle.capl_meaning.specs.Store.{MessageRecord, message_cells, timer_number, unit_of}
 use Rattle.capl_meaning.specs.Expression.{InBytes, InElement, InField, InNumber, InSignal, Memory, Nowhere, Setting, Spot, call_value, calling, element_spot, field_spot, gives_or_traps, held_message, indexing, kind_of_elements, operates, part_spot, place_spot, reads, spot_of, step_operator, steps, stores, timer_in, value_of, value_of_name, values_of, with_arguments, with_store}
 use Rattle.capl_meaning.specs.Statement.{alone_of, arms_of, assigns, calls_alone, cancels, drops, else_of, fitting_pieces, for_test, group_for, groups_of, labels_of, numbers_of, part_of, returns, sends, sets, sets_timer, stmt_of, stmts_of, unless_closed, with_line, with_timer, wrapped_to, writes_line}
 use Rattle.capl_meaning.specs.Procedure.{runs}
+
+-- ---- what holds of the names of two lists
+
+-- what holds of all holds of the first
+pub All-front : {X : Type 0} (Q : X → Type 0) (xs ys : List X) → All Q (xs ++ ys) → All Q xs
+All-front Q [] ys all = All-nil Q
+All-front Q (x ∷ xs) ys all = All-cons Q x xs (All-head Q x (xs ++ ys) all) (All-front Q xs ys (All-tail Q x (xs ++ ys) all))
+
+-- and of those behind them
+pub All-back : {X : Type 0} (Q : X → Type 0) (xs ys : List X) → All Q (xs ++ ys) → All Q ys
+All-back Q [] ys all = all
+All-back Q (x ∷ xs) ys all = All-back Q xs ys (All-tail Q x (xs ++ ys) all)
 
 -- ---- runs, over any memory
 
@@ -229,9 +243,11 @@ module _ (P : Effect → Type 0) (s : Setting) (call : Calls Memory) (calls : (f
     values_fine (more_of-Expr first rest) w fine =
         then_fine P (value_of s call first w) (λ n w. run_map (λ ns. n ∷ ns) (values_of s call rest w)) (value_fine first w fine) (λ n w fine. map_fine P (λ ns. n ∷ ns) (values_of s call rest w) (values_fine rest w fine))
 
-  -- ---- expressions that stand alone, where the effects on timers and the others are so
+  -- ---- expressions that stand alone, where the effects are so that calls of such names have
 
-  module _ (lines : (text : List ℕ) → P (Line text)) (sent : (frame : _) → P (Send frame)) (stopped : P Stop)
+  module _ (Q : List ℕ → Type 0) (lines : (text : List ℕ) → P (Line text))
+      (sent : (name : List ℕ) → Q name → callee s.scope.names name ≡ OfLanguage builtin.Output → (message : MessageRecord) → P (Send (frame_of (message_cells message))))
+      (stopped : (name : List ℕ) → Q name → callee s.scope.names name ≡ OfLanguage builtin.Stop → P Stop)
       (set : (e : Expr) (v : Variable) → timer_in s.scope e ≡ Some v → (cyclic : Bool) (n : ℤ) → P (Set (timer_number s.scope.names v) (micros (unwrap_or (unit_of v.form) 0) n) cyclic))
       (cancelled : (e : Expr) (v : Variable) → timer_in s.scope e ≡ Some v → P (Cancel (timer_number s.scope.names v))) where
     effect_fine : (e : Effect) → P e → (w : World Memory) → All P w.effects → All P (after_effect e w).effects
@@ -260,10 +276,10 @@ module _ (P : Effect → Type 0) (s : Setting) (call : Calls Memory) (calls : (f
     line_fine (Some pieces) es w fine =
         then_fine P (numbers_of s call es w) (λ ns w. Gives GoesOn (with_line s pieces es ns w)) (numbers_fine es w fine) (λ ns w fine. effect_fine _ (lines _) w fine)
 
-    sends_fine : (o : Option Held) → Keeps P (sends s o)
-    sends_fine None w fine = fine
-    sends_fine (Some held) w fine =
-        unless_fine (λ w. after_effect (Send (frame_of (message_cells (held_message s.this w.memory.store held)))) w) (λ w fine. effect_fine _ (sent _) w fine) w fine
+    sends_fine : ((message : MessageRecord) → P (Send (frame_of (message_cells message)))) → (o : Option Held) → Keeps P (sends s o)
+    sends_fine each None w fine = fine
+    sends_fine each (Some held) w fine =
+        unless_fine (λ w. after_effect (Send (frame_of (message_cells (held_message s.this w.memory.store held)))) w) (λ w fine. effect_fine _ (each (held_message s.this w.memory.store held)) w fine) w fine
 
     timer_fine : (e : Expr) (o : Option Variable) → timer_in s.scope e ≡ o → (cyclic : Bool) (duration : Computes Memory) → Keeps P duration → Keeps P (sets_timer s o cyclic duration)
     timer_fine e None is cyclic duration keeps w fine = fine
@@ -278,32 +294,34 @@ module _ (P : Effect → Type 0) (s : Setting) (call : Calls Memory) (calls : (f
         unless_fine (λ w. after_effect (Cancel (timer_number s.scope.names v)) (with_timer (timer_number s.scope.names v) false w))
         (λ w fine. effect_fine _ (cancelled e v is) (with_timer (timer_number s.scope.names v) false w) fine) w fine
 
-    call_alone_fine : (c : Callee) (args : List Expr) (rest : Does Memory) → Keeps P rest → Keeps P (calls_alone s call c args rest)
-    call_alone_fine (OfLanguage builtin.Output) (message ∷ []) rest keeps w fine = sends_fine (message_in s.scope message) w fine
-    call_alone_fine (OfLanguage builtin.Write) (format ∷ arguments) rest keeps w fine = line_fine (fitting_pieces (map (sort_of s.scope) arguments) (text_in format)) arguments w fine
-    call_alone_fine (OfLanguage builtin.SetTimer) (timer ∷ duration ∷ []) rest keeps w fine =
+    call_alone_fine : (name : List ℕ) → Q name → (c : Callee) → callee s.scope.names name ≡ c → (args : List Expr) (rest : Does Memory) → Keeps P rest → Keeps P (calls_alone s call c args rest)
+    call_alone_fine name own (OfLanguage builtin.Output) is (message ∷ []) rest keeps w fine = sends_fine (sent name own is) (message_in s.scope message) w fine
+    call_alone_fine name own (OfLanguage builtin.Write) is (format ∷ arguments) rest keeps w fine =
+        line_fine (fitting_pieces (map (sort_of s.scope) arguments) (text_in format)) arguments w fine
+    call_alone_fine name own (OfLanguage builtin.SetTimer) is (timer ∷ duration ∷ []) rest keeps w fine =
         timer_fine timer (timer_in s.scope timer) refl false (value_of s call duration) (value_fine duration) w fine
-    call_alone_fine (OfLanguage builtin.SetTimerCyclic) (timer ∷ duration ∷ []) rest keeps w fine =
+    call_alone_fine name own (OfLanguage builtin.SetTimerCyclic) is (timer ∷ duration ∷ []) rest keeps w fine =
         timer_fine timer (timer_in s.scope timer) refl true (value_of s call duration) (value_fine duration) w fine
-    call_alone_fine (OfLanguage builtin.CancelTimer) (timer ∷ []) rest keeps w fine = cancels_fine timer (timer_in s.scope timer) refl w fine
-    call_alone_fine (OfLanguage builtin.Stop) [] rest keeps w fine = unless_fine (after_effect Stop) (λ w fine. effect_fine Stop stopped w fine) w fine
-    call_alone_fine c args rest keeps w fine = keeps w fine
+    call_alone_fine name own (OfLanguage builtin.CancelTimer) is (timer ∷ []) rest keeps w fine = cancels_fine timer (timer_in s.scope timer) refl w fine
+    call_alone_fine name own (OfLanguage builtin.Stop) is [] rest keeps w fine = unless_fine (after_effect Stop) (λ w fine. effect_fine Stop (stopped name own is) w fine) w fine
+    call_alone_fine name own c is args rest keeps w fine = keeps w fine
 
     assigns_fine : (l r : Option Held) (rest : Does Memory) → Keeps P rest → Keeps P (assigns s l r rest)
     assigns_fine (Some (HeldVariable v signals)) (Some from) rest keeps w fine = fine
     assigns_fine l r rest keeps w fine = keeps w fine
 
-    alone_fine : (e : Expr) → Keeps P (alone_of s call e)
-    alone_fine (tree.Paren inner at) w fine = alone_fine inner w fine
-    alone_fine (expr.Call' name shape args at) w fine =
-        call_alone_fine (callee s.scope.names name) (items-the_row-Expr _ args) (drops s call (expr.Call' name shape args at)) (drops_fine (expr.Call' name shape args at)) w fine
-    alone_fine (tree.Assign None left right at) w fine =
+    alone_fine : (e : Expr) → All Q (calls_in e) → Keeps P (alone_of s call e)
+    alone_fine (tree.Paren inner at) own w fine = alone_fine inner own w fine
+    alone_fine (expr.Call' name shape args at) own w fine =
+        call_alone_fine name (All-head Q name (calls_in_row args) own) (callee s.scope.names name) refl (items-the_row-Expr _ args) (drops s call (expr.Call' name shape args at))
+        (drops_fine (expr.Call' name shape args at)) w fine
+    alone_fine (tree.Assign None left right at) own w fine =
         assigns_fine (message_in s.scope left) (message_in s.scope right) (drops s call (tree.Assign None left right at)) (drops_fine (tree.Assign None left right at)) w fine
-    alone_fine e w fine = drops_fine e w fine
+    alone_fine e own w fine = drops_fine e w fine
 
-    part_of_fine : (part : Option Expr) → Keeps P (part_of s call part)
-    part_of_fine None w fine = fine
-    part_of_fine (Some e) w fine = alone_fine e w fine
+    part_of_fine : (part : Option Expr) → All Q (calls_in_part part) → Keeps P (part_of s call part)
+    part_of_fine None own w fine = fine
+    part_of_fine (Some e) own w fine = alone_fine e (All-front Q (calls_in e) [] own) w fine
 
     test_fine : (test : Option Expr) → Keeps P (for_test s call test)
     test_fine None w fine = fine
@@ -316,50 +334,69 @@ module _ (P : Effect → Type 0) (s : Setting) (call : Calls Memory) (calls : (f
     -- ---- statements
 
     mutual
-      stmt_fine : (n : ℕ) (statement : Stmt) → Keeps P (stmt_of s call n statement)
-      stmt_fine n stmt.Empty w fine = fine
-      stmt_fine n (stmt.Block' shape body) w fine = stmts_fine n body w fine
-      stmt_fine n (stmt.Decl declaration) w fine = fine
-      stmt_fine n (stmt.Expr e) w fine = alone_fine e w fine
-      stmt_fine n (stmt.If' shape arms last) w fine = arms_fine n arms (else_of s call n last) (λ w fine. else_fine n last w fine) w fine
-      stmt_fine n (tree.While test body) w fine =
-          loop_fine P (suc n) (value_of s call test) (stmt_of s call n body) nothing (λ w fine. value_fine test w fine) (λ w fine. stmt_fine n body w fine) (nothing_fine P) w fine
-      stmt_fine n (tree.Do body test) w fine =
-          round_fine P (stmt_of s call n body) (loop n (value_of s call test) (stmt_of s call n body) nothing) (λ w fine. stmt_fine n body w fine)
-          (loop_fine P n (value_of s call test) (stmt_of s call n body) nothing (λ w fine. value_fine test w fine) (λ w fine. stmt_fine n body w fine) (nothing_fine P)) w fine
-      stmt_fine n (tree.For init test step body) w fine =
-          followed_fine P (part_of s call init) (loop (suc n) (for_test s call test) (stmt_of s call n body) (part_of s call step)) (part_of_fine init)
-          (loop_fine P (suc n) (for_test s call test) (stmt_of s call n body) (part_of s call step) (test_fine test) (λ w fine. stmt_fine n body w fine) (part_of_fine step)) w fine
-      stmt_fine n (stmt.Switch' on shape groups) w fine =
+      stmt_fine : (n : ℕ) (statement : Stmt) → All Q (calls_of statement) → Keeps P (stmt_of s call n statement)
+      stmt_fine n stmt.Empty own w fine = fine
+      stmt_fine n (stmt.Block' shape body) own w fine = stmts_fine n body own w fine
+      stmt_fine n (stmt.Decl declaration) own w fine = fine
+      stmt_fine n (stmt.Expr e) own w fine = alone_fine e own w fine
+      stmt_fine n (stmt.If' shape arms last) own w fine =
+          arms_fine n arms (All-front Q (calls_of_arms arms) (calls_of_else last) own) (else_of s call n last) (λ w fine. else_fine n last (All-back Q (calls_of_arms arms) (calls_of_else last) own) w fine) w fine
+      stmt_fine n (tree.While test body) own w fine =
+          let inside = All-back Q (calls_in test) (calls_of body) own in
+          loop_fine P (suc n) (value_of s call test) (stmt_of s call n body) nothing (λ w fine. value_fine test w fine) (λ w fine. stmt_fine n body inside w fine) (nothing_fine P) w fine
+      stmt_fine n (tree.Do body test) own w fine =
+          let inside = All-front Q (calls_of body) (calls_in test) own in
+          round_fine P (stmt_of s call n body) (loop n (value_of s call test) (stmt_of s call n body) nothing) (λ w fine. stmt_fine n body inside w fine)
+          (loop_fine P n (value_of s call test) (stmt_of s call n body) nothing (λ w fine. value_fine test w fine) (λ w fine. stmt_fine n body inside w fine) (nothing_fine P)) w fine
+      stmt_fine n (tree.For init test step body) own w fine =
+          let first = All-front Q (calls_in_part init) (calls_in_part test ++ (calls_in_part step ++ calls_of body)) own in
+          let rest = All-back Q (calls_in_part test) (calls_in_part step ++ calls_of body) (All-back Q (calls_in_part init) (calls_in_part test ++ (calls_in_part step ++ calls_of body)) own) in
+          let inside = All-back Q (calls_in_part step) (calls_of body) rest in
+          followed_fine P (part_of s call init) (loop (suc n) (for_test s call test) (stmt_of s call n body) (part_of s call step)) (part_of_fine init first)
+          (loop_fine P (suc n) (for_test s call test) (stmt_of s call n body) (part_of s call step) (test_fine test) (λ w fine. stmt_fine n body inside w fine)
+          (part_of_fine step (All-front Q (calls_in_part step) (calls_of body) rest))) w fine
+      stmt_fine n (stmt.Switch' on shape groups) own w fine =
           let chosen : ℤ → ℕ = λ v. group_for (wrap (prefix_kind s.scope on) v) (labels_of s.scope (prefix_kind s.scope on) groups) in
+          let inside = All-back Q (calls_in on) (calls_of_groups groups) own in
           then_fine P (value_of s call on w) (λ v w. and_then (groups_of s call n groups (chosen v) w) leaving_switch) (value_fine on w fine)
-          (λ v w fine. then_fine P (groups_of s call n groups (chosen v) w) leaving_switch (groups_fine n groups (chosen v) w fine) (leaving_fine P))
-      stmt_fine n (stmt.Break at) w fine = fine
-      stmt_fine n (stmt.Continue at) w fine = fine
-      stmt_fine n (stmt.Return given at) w fine = returns_fine given w fine
+          (λ v w fine. then_fine P (groups_of s call n groups (chosen v) w) leaving_switch (groups_fine n groups inside (chosen v) w fine) (leaving_fine P))
+      stmt_fine n (stmt.Break at) own w fine = fine
+      stmt_fine n (stmt.Continue at) own w fine = fine
+      stmt_fine n (stmt.Return given at) own w fine = returns_fine given w fine
 
-      stmts_fine : (n : ℕ) {m : Count} (row : Row_of-Stmt m) → Keeps P (stmts_of s call n row)
-      stmts_fine n end_of-Stmt w fine = fine
-      stmts_fine n (more_of-Stmt first rest) w fine =
-          followed_fine P (stmt_of s call n first) (stmts_of s call n rest) (λ w fine. stmt_fine n first w fine) (λ w fine. stmts_fine n rest w fine) w fine
+      stmts_fine : (n : ℕ) {m : Count} (row : Row_of-Stmt m) → All Q (calls_of_row row) → Keeps P (stmts_of s call n row)
+      stmts_fine n end_of-Stmt own w fine = fine
+      stmts_fine n (more_of-Stmt first rest) own w fine =
+          let one = All-front Q (calls_of first) (calls_of_row rest) own in
+          let more = All-back Q (calls_of first) (calls_of_row rest) own in
+          followed_fine P (stmt_of s call n first) (stmts_of s call n rest) (λ w fine. stmt_fine n first one w fine) (λ w fine. stmts_fine n rest more w fine) w fine
 
-      arms_fine : (n : ℕ) {m : Count} (row : Row_of-Arm m) (last : Does Memory) → Keeps P last → Keeps P (arms_of s call n row last)
-      arms_fine n end_of-Arm last keeps w fine = keeps w fine
-      arms_fine n (more_of-Arm test body rest) last keeps w fine =
+      arms_fine : (n : ℕ) {m : Count} (row : Row_of-Arm m) → All Q (calls_of_arms row) → (last : Does Memory) → Keeps P last → Keeps P (arms_of s call n row last)
+      arms_fine n end_of-Arm own last keeps w fine = keeps w fine
+      arms_fine n (more_of-Arm test body rest) own last keeps w fine =
+          let behind = All-back Q (calls_in test) (calls_of body ++ calls_of_arms rest) own in
+          let one = All-front Q (calls_of body) (calls_of_arms rest) behind in
+          let more = All-back Q (calls_of body) (calls_of_arms rest) behind in
           deciding_fine P (value_of s call test w) (stmt_of s call n body) (arms_of s call n rest last) (value_fine test w fine)
-          (λ w fine. stmt_fine n body w fine) (λ w fine. arms_fine n rest last keeps w fine)
+          (λ w fine. stmt_fine n body one w fine) (λ w fine. arms_fine n rest more last keeps w fine)
 
-      else_fine : (n : ℕ) (last : Held-Stmt-If-1) → Keeps P (else_of s call n last)
-      else_fine n tree.NoElse w fine = fine
-      else_fine n (tree.Else body) w fine = stmt_fine n body w fine
+      else_fine : (n : ℕ) (last : Held-Stmt-If-1) → All Q (calls_of_else last) → Keeps P (else_of s call n last)
+      else_fine n tree.NoElse own w fine = fine
+      else_fine n (tree.Else body) own w fine = stmt_fine n body own w fine
 
-      groups_fine : (n : ℕ) {m : Count} (row : Row_of-Group m) (k : ℕ) → Keeps P (groups_of s call n row k)
-      groups_fine n end_of-Group k w fine = fine
-      groups_fine n (more_of-Group labels shape body rest) zero w fine =
-          followed_fine P (stmts_of s call n body) (groups_of s call n rest zero) (λ w fine. stmts_fine n body w fine) (λ w fine. groups_fine n rest zero w fine) w fine
-      groups_fine n (more_of-Group labels shape body rest) (suc k) w fine = groups_fine n rest k w fine
+      groups_fine : (n : ℕ) {m : Count} (row : Row_of-Group m) → All Q (calls_of_groups row) → (k : ℕ) → Keeps P (groups_of s call n row k)
+      groups_fine n end_of-Group own k w fine = fine
+      groups_fine n (more_of-Group labels shape body rest) own zero w fine =
+          let behind = All-back Q (calls_in_labels labels) (calls_of_row body ++ calls_of_groups rest) own in
+          let one = All-front Q (calls_of_row body) (calls_of_groups rest) behind in
+          let more = All-back Q (calls_of_row body) (calls_of_groups rest) behind in
+          followed_fine P (stmts_of s call n body) (groups_of s call n rest zero) (λ w fine. stmts_fine n body one w fine) (λ w fine. groups_fine n rest more zero w fine) w fine
+      groups_fine n (more_of-Group labels shape body rest) own (suc k) w fine =
+          let more = All-back Q (calls_of_row body) (calls_of_groups rest) (All-back Q (calls_in_labels labels) (calls_of_row body ++ calls_of_groups rest) own) in groups_fine n rest more k w fine
 
     -- the statements of a procedure
-    pub runs_fine : (n : ℕ) (body : List Stmt) → Keeps P (runs s call n body)
-    runs_fine n [] w fine = fine
-    runs_fine n (statement ∷ body) w fine = followed_fine P (stmt_of s call n statement) (runs s call n body) (stmt_fine n statement) (runs_fine n body) w fine
+    pub runs_fine : (n : ℕ) (body : List Stmt) → All Q (flat_map calls_of body) → Keeps P (runs s call n body)
+    runs_fine n [] own w fine = fine
+    runs_fine n (statement ∷ body) own w fine =
+        followed_fine P (stmt_of s call n statement) (runs s call n body) (stmt_fine n statement (All-front Q (calls_of statement) (flat_map calls_of body) own))
+        (runs_fine n body (All-back Q (calls_of statement) (flat_map calls_of body) own)) w fine

@@ -6,4 +6,5 @@ pub mod SourceCode
 pub mod SoundSources
 pub mod SourceRuns
 pub mod Tasks
+pub mod ProcedureEffects
 pub mod TimerEffects

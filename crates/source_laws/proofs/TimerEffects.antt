@@ -1,12 +1,10 @@
 -- The effects of a source's run on timers are on timers that are there, and for durations that can be set.
-use Rattle.std.proofs.Common.{◌≡◌, ℕ, zero, suc, ◌*◌, ◌^◌, ◌<◌, inl, inr, Bool, true, false, List, [], ◌∷◌, Option, Some, None, All, length, ap, sym, subst, arith, slice_get}
-use Rattle.std.specs.Prelude.{ℤ, pos, negsuc, ◌≤ℤ◌, if◌then◌else◌, int_le, unsigned_abs, unwrap_or, slice_index_or}
+use Rattle.std.proofs.Common.{◌≡◌, ℕ, zero, suc, ◌*◌, ◌^◌, ◌<◌, inl, inr, Bool, true, false, List, [], ◌∷◌, Some, None, All, length, ap, sym, subst, arith, slice_get}
+use Rattle.std.specs.Prelude.{ℤ, pos, negsuc, ◌≤ℤ◌, if◌then◌else◌, int_le, unsigned_abs, unwrap_or, slice_index_or, ⊤}
 use Rattle.std.specs.List.{AllByRecursion}
-use Rattle.std.specs.Option.{option_map_or}
 use Rattle.std.proofs.lemmas.Bool.{cases_lt}
 use Rattle.std.proofs.lemmas.Int.{ints}
 use Rattle.std.proofs.lemmas.List.{get_or_past}
-use Rattle.std.proofs.lemmas.List.Elements.{All-nil}
 use Rattle.int_kinds.specs.declared.kinds.Kind.TheVariants.{Long}
 use Rattle.int_kinds.specs.Kind.{Holds, high, wrap}
 use Rattle.int_kinds.proofs.Wrapping.{Holds-wrap}
@@ -16,21 +14,18 @@ use Rattle.capl_tree.specs.declared.file.Program.{Program}
 use Rattle.capl_tree.specs.declared.statement.Stmt.{Stmt}
 use Rattle.run_effects.specs.Duration.{IsUnit, micros}
 use Rattle.run_effects.specs.Effect.{Effect, Set, Cancel}
-use Rattle.control_flow.specs.World.{Run, Gives, Fails, run_map}
-use Rattle.control_flow.specs.Control.{Calls, End, number_given}
 use Rattle.timer_queue.specs.Timers.{IsDuration}
 use Rattle.node_rounds.specs.Effects.{IsTimerEffect}
 use Rattle.capl_meaning.specs.Variable.{Timer, Variable, parts_of}
-use Rattle.capl_meaning.specs.Names.{Function, Names, Scope, names_of}
-use Rattle.capl_meaning.specs.Calls.{function_numbered}
+use Rattle.capl_meaning.specs.Names.{Names, Scope, names_of}
 use Rattle.capl_meaning.specs.Store.{This, timer_number, timer_units, unit_of}
 use Rattle.capl_meaning.specs.Expression.{Memory, Setting, timer_in}
-use Rattle.capl_meaning.specs.Procedure.{Handler, calls_of, ending, ending_of, function_runs, handlers_in, in_function, runs, runs_numbered, setting_of}
+use Rattle.capl_meaning.specs.Procedure.{Handler, calls_of, ending, ending_of, handlers_in, runs, setting_of}
 use Rattle.typed_laws.specs.Laid.{AreDistinct, HasForm}
 use Rattle.typed_laws.proofs.Declared.{handlers_named}
 use Rattle.typed_laws.proofs.Timers.{timer_named, unit_found}
 use Rattle.typed_source.specs.Sound.{HaveUnits}
-use Rattle.source_laws.proofs.Effects.{Fine, Keeps, map_fine, runs_fine, turn_fine}
+use Rattle.source_laws.proofs.ProcedureEffects.{body_fine}
 
 -- ---- durations
 
@@ -87,35 +82,20 @@ module _ (s : Setting) (distinct : AreDistinct s.scope.names.variables) (units :
   abbrev OnTimers : Effect → Type 0
   OnTimers = IsTimerEffect (length (timer_units s.scope.names))
 
-  statements_fine : (call : Calls Memory) → ((f : ℕ) → Keeps OnTimers (call f)) → (n : ℕ) (body : List Stmt) → Keeps OnTimers (runs s call n body)
-  statements_fine call calls n body =
-      runs_fine OnTimers s call calls (λ text. tt) (λ frame. tt) tt (set_there s.scope distinct units) (cancel_there s.scope distinct units) n body
+  set_in : (scope : Scope) → scope.names ≡ s.scope.names → (e : Expr) (v : Variable) → timer_in scope e ≡ Some v → (cyclic : Bool) (n : ℤ)
+      → OnTimers (Set (timer_number scope.names v) (micros (unwrap_or (unit_of v.form) 0) n) cyclic)
+  set_in scope same e v is cyclic n =
+      subst (λ (names : Names). IsTimerEffect (length (timer_units names)) (Set (timer_number scope.names v) (micros (unwrap_or (unit_of v.form) 0) n) cyclic)) same
+      (set_there scope (subst (λ (names : Names). AreDistinct names.variables) (sym same) distinct) (subst HaveUnits (sym same) units) e v is cyclic n)
 
-  function_fine : (call : Calls Memory) → ((f : ℕ) → Keeps OnTimers (call f)) → (n : ℕ) (f : Function) → Keeps OnTimers (function_runs s call n f)
-  function_fine call calls n f =
-      runs_fine OnTimers (in_function s f) call calls (λ text. tt) (λ frame. tt) tt (set_there (in_function s f).scope distinct units) (cancel_there (in_function s f).scope distinct units) n f.body
+  cancel_in : (scope : Scope) → scope.names ≡ s.scope.names → (e : Expr) (v : Variable) → timer_in scope e ≡ Some v → OnTimers (Cancel (timer_number scope.names v))
+  cancel_in scope same e v is =
+      subst (λ (names : Names). IsTimerEffect (length (timer_units names)) (Cancel (timer_number scope.names v))) same
+      (cancel_there scope (subst (λ (names : Names). AreDistinct names.variables) (sym same) distinct) (subst HaveUnits (sym same) units) e v is)
 
-  numbered_fine : (call : Calls Memory) → ((f : ℕ) → Keeps OnTimers (call f)) → (n number : ℕ) → Keeps OnTimers (runs_numbered s call n number)
-  numbered_fine call calls n number = go (function_numbered s.scope.names number)
-    where
-      go : (o : Option Function) → Keeps OnTimers (option_map_or (function_runs s call n) o (runs s call n []))
-      go None = statements_fine call calls n []
-      go (Some f) = function_fine call calls n f
-
-  calls_fine : (n number : ℕ) → Keeps OnTimers (calls_of s n number)
-  calls_fine zero number w fine = fine
-  calls_fine (suc n) number w fine =
-      turn_fine OnTimers w.turns w (λ w. run_map number_given (runs_numbered s (calls_of s n) n number w)) fine
-      (λ w fine. map_fine OnTimers number_given (runs_numbered s (calls_of s n) n number w) (numbered_fine (calls_of s n) (calls_fine n) n number w fine))
-
-  ending_fine : (turns : ℕ) (run : Run Memory End) → Fine OnTimers run → All OnTimers (ending turns run).effects
-  ending_fine turns (Gives e w) fine = fine
-  ending_fine turns (Fails outcome w) fine = fine
-
-  pub body_fine : (turns : ℕ) (body : List Stmt) (memory : Memory) → All OnTimers (ending turns (runs s (calls_of s turns) turns body (record { memory = memory; turns = turns; effects = [] }))).effects
-  body_fine turns body memory =
-      ending_fine turns (runs s (calls_of s turns) turns body (record { memory = memory; turns = turns; effects = [] }))
-      (statements_fine (calls_of s turns) (calls_fine turns) turns body (record { memory = memory; turns = turns; effects = [] }) (All-nil OnTimers))
+  body_on_timers : (turns : ℕ) (body : List Stmt) (memory : Memory) → All OnTimers (ending turns (runs s (calls_of s turns) turns body (record { memory = memory; turns = turns; effects = [] }))).effects
+  body_on_timers turns body memory =
+      body_fine OnTimers (λ name. ⊤) s (λ text. tt) (λ name own is message. tt) (λ name own is. tt) set_in cancel_in (λ k d within j e inside. tt) turns body (λ k d within. tt) memory
 
 -- the effects of an event procedure on timers are on timers of the program, for durations that can be set
 pub ending_on_timers : (base : List DbcMessage) (program : Program) → AreDistinct (names_of base program).variables → HaveUnits (names_of base program) → (number : ℕ) (handler : Handler)
@@ -125,7 +105,7 @@ ending_on_timers base program distinct units number handler e this closed moment
     let names = names_of base program in
     let same : handler.scope.names ≡ names = at_place (λ (h : Handler). h.scope.names ≡ names) (handlers_in base program) number handler (handlers_named names (parts_of program)) e in
     subst (λ (n : Names). AreDistinct n.variables → HaveUnits n → All (IsTimerEffect (length (timer_units n))) (ending_of handler this closed moment turns memory).effects) same
-    (λ distinct units. body_fine (setting_of handler this closed moment) distinct units turns handler.body memory) distinct units
+    (λ distinct units. body_on_timers (setting_of handler this closed moment) distinct units turns handler.body memory) distinct units
   where
     at_place : {A : Type 0} (P : A → Type 0) (xs : List A) (i : ℕ) (x : A) → AllByRecursion P xs → slice_get xs i ≡ Some x → P x
     at_place P [] i x all e = absurd (let f : None ≡ Some x = e in cc)
