@@ -9,5 +9,5 @@ mod NodeTasks
 mod Plans
 mod ProcedureTables
 mod SameMachine
-mod SentFrames
+pub mod SentFrames
 mod TaskEffects

@@ -1,0 +1,4 @@
+-- Lemmas on what sources ask for.
+pub mod EachTask
+pub mod Programs
+pub mod SourceTasks
