@@ -1,7 +1,8 @@
-// Calls of the laws on the choice of procedures, and on the code of sources and their runs.
+// Calls of the laws on the choice of procedures, on the code of sources and their runs, and on logs.
 
 use arbitration::PlainBus;
 use run_laws::{CodeAndSource, Sources};
+use source_logs::SourceReaction;
 
 #[test]
 fn code_does_as_its_source() {
@@ -22,6 +23,18 @@ fn sources_run_as_their_code() {
     run_meaning::laws::each_run::<Sources, PlainBus>();
     run_meaning::laws::one_run::<Sources, PlainBus>();
     run_meaning::laws::picks_change_no_row();
+}
+
+#[test]
+fn logs_are_well_spaced_and_replayed() {
+    replay_laws::laws::recorded::<SourceReaction>();
+    replay_laws::laws::reproduced::<SourceReaction>();
+    replay_laws::laws::recorded_and_reproduced::<SourceReaction, SourceReaction>();
+    replay_laws::laws::replays_can_be_logged();
+    source_logs::laws::sources_ask_for_what_a_log_can_carry();
+    source_logs::laws::silent_sources_ask_for_nothing();
+    source_logs::laws::sources_log_well_spaced_frames();
+    source_logs::laws::silent_sources_reproduce_a_log();
 }
 
 #[test]
