@@ -1,5 +1,6 @@
 -- The lemmas of this crate.
 mod ChoiceLemmas
+mod InterfaceLemmas
 mod NextLineLemmas
 mod SaidLemmas
 mod ReadLemmas

@@ -1,4 +1,4 @@
--- The numbers of a scenario are within their bounds.
+-- The numbers of a scenario are within their bounds, and its interface is one.
 use Rattle.std.proofs.Common.{◌≡◌, ◌<◌, ◌≤◌, ◌*◌, ◌/◌, ◌==◌, ℕ, zero, suc, Bool, true, false, List, [], ◌∷◌, ◌++◌, length, Option, Some, None, refl, sym, ap, subst, ◌∙◌, arith, inl, inr}
 use Rattle.std.specs.Prelude.{All, cond, if◌then◌else◌, unwrap_or, codes, nat_le, ◌||◌}
 use Rattle.std.specs.List.{flat_map, list_any}
@@ -20,6 +20,7 @@ use Rattle.scenario.specs.declared.scenario.Epoch.TheVariants.{At, First}
 use Rattle.scenario.specs.declared.scenario.KeyItem.{KeyItem}
 use Rattle.scenario.specs.declared.scenario.Scenario.{Scenario}
 use Rattle.scenario.specs.Within.{IsEpochWithin, IsWithin, day}
+use Rattle.scenario.proofs.InterfaceLemmas.{scenario_interface}
 
 -- ---- values
 
@@ -225,7 +226,7 @@ keys_in : (i : Item) → IsItemWithin i → All (λ (k : KeyItem). k.at ≤ day)
 keys_in (item.Key key) within = listed (λ (k : KeyItem). k.at ≤ day) key within
 keys_in _ within = All-nil (λ (k : KeyItem). k.at ≤ day)
 
--- the numbers of a scenario are within their bounds
+-- the numbers of a scenario are within their bounds, and its interface is one
 pub scenario_within : (text : List ℕ) (scenario : Scenario) → IsScenario text scenario → IsWithin scenario
 scenario_within text scenario is =
     let items = items_of (lines text) in
@@ -243,6 +244,7 @@ scenario_within text scenario is =
       turns = turns.1;
       epoch = subst IsEpochWithin (sym is.said.epoch)
           (first_within IsEpochWithin (flat_map epoch_in items) (At 0) (all_of IsEpochWithin epoch_in epochs_in items within) (omega arith));
+      interface = scenario_interface text scenario is;
       keys = All-permutation (λ (k : KeyItem). k.at ≤ day) (flat_map key_in items) scenario.keys.items is.said.keys.same
           (all_of (λ (k : KeyItem). k.at ≤ day) key_in keys_in items within);
       by_moment = IsNonDecreasingBy-from_sort (λ k. k.at) scenario.keys.items is.said.keys.by_moment;

@@ -1,6 +1,7 @@
--- How large the numbers of a scenario are at most.
-use Rattle.std.specs.Prelude.{◌≤◌, ℕ, All, ⊤}
+-- How large the numbers of a scenario are at most, and that its interface is one.
+use Rattle.std.specs.Prelude.{◌≡◌, ◌≤◌, ℕ, true, All, ⊤}
 use Rattle.std.specs.List.Sorted.{IsNonDecreasingBy}
+use Rattle.scenario.specs.Value.{is_interface}
 use Rattle.scenario.specs.declared.scenario.Epoch.{Epoch}
 use Rattle.scenario.specs.declared.scenario.Epoch.TheVariants.{At, First}
 use Rattle.scenario.specs.declared.scenario.Scenario.{Scenario}
@@ -14,7 +15,7 @@ abbrev pub IsEpochWithin : Epoch → Type 0
 IsEpochWithin (At seconds) = seconds ≤ 4294967295
 IsEpochWithin First = ⊤
 
--- The numbers of a scenario are within their bounds, and its keys stand by moment.
+-- The numbers of a scenario are within their bounds, its interface is one, and its keys stand by moment.
 pub record IsWithin (scenario : Scenario) : Type 0 where
   pub some_bit : 1 ≤ scenario.bit
   pub bit : scenario.bit ≤ 100
@@ -22,5 +23,6 @@ pub record IsWithin (scenario : Scenario) : Type 0 where
   pub some_turn : 1 ≤ scenario.turns
   pub turns : scenario.turns ≤ 10000000
   pub epoch : IsEpochWithin scenario.epoch
+  pub interface : is_interface scenario.interface ≡ true
   pub keys : All (λ key. key.at ≤ day) scenario.keys.items
   pub by_moment : IsNonDecreasingBy (λ key. key.at) scenario.keys.items
