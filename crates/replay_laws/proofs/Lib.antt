@@ -10,3 +10,4 @@ pub mod SilentRuns
 pub mod Entries
 pub mod Reading
 pub mod Asked
+pub mod Scenarios

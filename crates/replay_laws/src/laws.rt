@@ -3,7 +3,9 @@
 ghost use Rattle.std.specs.Prelude.{◌≡◌, ℕ, ◌^◌, ◌<◌, ◌≤◌, List, All};
 ghost use Rattle.can_bus.specs.Bus.{BusState, new_bus, one_channel};
 ghost use Rattle.scenario.specs.declared.scenario.Epoch.{Epoch};
+ghost use Rattle.scenario.specs.Within.{IsWithin};
 ghost use Rattle.scenario.specs.declared.scenario.KeyItem.{KeyItem};
+ghost use Rattle.scenario.specs.declared.scenario.Scenario.{Scenario};
 ghost use Rattle.log_line.specs.Reading.{IsInterface};
 ghost use Rattle.log_line.specs.Written.{IsLoggable};
 ghost use Rattle.replay_node.specs.Replay.{IsReplay};
@@ -82,3 +84,12 @@ pub fn recorded_and_reproduced<R: Reaction, Q: Reaction>()
     recorded::<R>();
     reproduced::<Q>();
 }
+
+/// A log line can name the interface of a scenario, and the second at which the replay of its log begins is a
+/// number of 32 bits.
+pub fn scenarios_can_be_replayed()
+    ensures interface { (scenario : Scenario) → IsWithin scenario → IsInterface scenario.interface }
+    ensures epoch { (scenario : Scenario) → IsWithin scenario →
+        (log interface : List ℕ) (bit : ℕ) (replay : Replay) →
+        IsReplay log interface bit scenario.epoch replay → replay.epoch < 2 ^ 32 }
+{}

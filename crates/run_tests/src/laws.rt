@@ -31,6 +31,7 @@ fn logs_are_well_spaced_and_replayed() {
     replay_laws::laws::reproduced::<SourceReaction>();
     replay_laws::laws::recorded_and_reproduced::<SourceReaction, SourceReaction>();
     replay_laws::laws::replays_can_be_logged();
+    replay_laws::laws::scenarios_can_be_replayed();
     source_logs::laws::sources_ask_for_what_a_log_can_carry();
     source_logs::laws::silent_sources_ask_for_nothing();
     source_logs::laws::sources_log_well_spaced_frames();
