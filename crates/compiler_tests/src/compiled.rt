@@ -1,4 +1,4 @@
-// A program that is compiled.
+// A program that is compiled, and one that is not.
 
 ghost use Rattle.std.specs.Prelude.{◌≡◌, ◌≤◌, [], ◌∷◌, IfOk};
 ghost use Rattle.capl_tree.specs.Weight.{weight};
@@ -7,6 +7,7 @@ ghost use Rattle.typed_tree.specs.Sound.{IsSound};
 ghost use Rattle.code_meaning.specs.Example.{endless_loop};
 ghost use Rattle.gen_stmt.specs.Example.{on_start};
 
+use crate::{CheckedRefusal, compile_checked};
 use bytecode::Instr;
 use capl_tree::{FileTree, Head, Proc, Program, Stmt, TopItem};
 use gen_stmt::{compile, make_code};
@@ -91,5 +92,16 @@ fn a_loop_tests_behind_its_body(rt: HostRuntime) -> Result<(), Fail> {
     let typed = endless_program(rt.alloc())?;
     let code = make_code(rt.alloc(), &typed)?;
     assert_eq!(rt; code.depths.as_slice(), [0, 1, 0].as_slice());
+    Ok(())
+}
+
+#[test]
+fn soundness_is_asked_for(rt: HostRuntime) -> Result<(), Fail> {
+    let source = source(rt.alloc())?;
+    let typed = on_start(rt.alloc(), endless_loop(rt.alloc())?)?;
+    assert!(rt; compile_checked(rt.alloc(), &source, &typed).is_ok());
+    let typed = on_start(rt.alloc(), TStmt::Break)?;
+    let refusal = compile_checked(rt.alloc(), &source, &typed).err();
+    assert_eq!(rt; refusal, Some(CheckedRefusal::Unsound));
     Ok(())
 }

@@ -1,8 +1,6 @@
-//! Typed programs through the whole compiler: asked for soundness and size, compiled, and run.
-//!
-//! [`compile_checked`] is for callers that know nothing of a typed program: it asks what the compiler's
-//! condition is before it calls it. The tests have a table of programs, of each form of tree, with what
-//! their runs leave behind.
+//! Typed programs of which nothing is known, asked for soundness and size and compiled: [`compile_checked`]
+//! asks what the compiler's condition is before it calls it. What each form leaves behind when it runs is
+//! tested on sources, in run_tests.
 #![tactic(auto)]
 
 pub use checked::{CheckedRefusal, compile_checked};
@@ -10,9 +8,3 @@ pub use checked::{CheckedRefusal, compile_checked};
 mod checked;
 #[cfg(test)]
 mod compiled;
-#[cfg(test)]
-mod desk;
-#[cfg(test)]
-mod programs;
-#[cfg(test)]
-mod table;

@@ -14,6 +14,8 @@ mod bench;
 #[cfg(test)]
 mod entries;
 #[cfg(test)]
+mod forms;
+#[cfg(test)]
 mod instants;
 #[cfg(test)]
 mod laws;
