@@ -13,11 +13,41 @@ use std::alloc::{AllocError, Global};
 use write_format::Format;
 
 /// The kinds of the event's cells, of a long cell 15, and of the cells of a message from cell 16 on.
-fn kinds(alloc: Global) -> Result<Vec<Kind>, AllocError> {
+fn kinds(alloc: Global) -> Result<Items<Kind>, AllocError> {
     let mut kinds = MESSAGE_KINDS.to_vec(alloc)?;
     kinds.extend_from_slice(&[Kind::Char, Kind::Long])?;
     kinds.extend_from_slice(&MESSAGE_KINDS)?;
-    Ok(kinds)
+    Ok(Items::from_list(kinds))
+}
+
+/// A procedure for each of these events, each by function 0.
+fn handlers(alloc: Global, events: Vec<Event>) -> Result<Items<Handler>, AllocError> {
+    let mut handlers = Vec::new(alloc);
+    for event in events {
+        handlers.push(Handler {
+            event,
+            function: 0,
+            file: 0,
+            line: 1,
+        })?;
+    }
+    Ok(Items::from_list(handlers))
+}
+
+/// A function of all of so many instructions, which gives nothing.
+fn functions(alloc: Global, count: usize) -> Result<Items<Fun>, AllocError> {
+    let function = Fun {
+        start: 0,
+        end: u32::try_from(count).unwrap_or(u32::MAX),
+        gives: false,
+    };
+    Ok(Items::from_list(vec![in alloc; function]?))
+}
+
+/// The line `go`.
+fn formats(alloc: Global) -> Result<Items<Format>, AllocError> {
+    let format = Format::read(alloc, b"go", &[]).map_err(|_| AllocError)?;
+    Ok(Items::from_list(vec![in alloc; format]?))
 }
 
 /// Code of one function, which gives nothing and which each of these events runs. After the event's cells
@@ -28,31 +58,15 @@ pub(crate) fn code(
     depths: &[u32],
     events: Vec<Event>,
 ) -> Result<Code, AllocError> {
-    let end = u32::try_from(instrs.len()).unwrap_or(u32::MAX);
-    let mut handlers = Vec::new(alloc);
-    for event in events {
-        handlers.push(Handler {
-            event,
-            function: 0,
-            file: 0,
-            line: 1,
-        })?;
-    }
-    let format = Format::read(alloc, b"go", &[]).map_err(|_| AllocError)?;
-    let function = Fun {
-        start: 0,
-        end,
-        gives: false,
-    };
     Ok(Code {
         instrs: Items::from_list(instrs.to_vec(alloc)?),
         depths: Items::from_list(depths.to_vec(alloc)?),
-        functions: Items::from_list(vec![in alloc; function]?),
-        handlers: Items::from_list(handlers),
-        cells: Items::from_list(kinds(alloc)?),
+        functions: functions(alloc, instrs.len())?,
+        handlers: handlers(alloc, events)?,
+        cells: kinds(alloc)?,
         starts: Items::from_list(vec![in alloc; (15, 7)]?),
         timers: Items::from_list(vec![in alloc; 1000, 1_000_000]?),
-        formats: Items::from_list(vec![in alloc; format]?),
+        formats: formats(alloc)?,
     })
 }
 

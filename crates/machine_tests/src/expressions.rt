@@ -1,10 +1,11 @@
-// Code of two expressions.
+// Code of expressions.
 
 use bytecode::Instr;
 use gen_expr::{Emitter, Exit, emit, emit_dropped, emit_test, emit_values};
 use items::Items;
 use std::alloc::Global;
 use std::test::Fail;
+use texts::NoMemory;
 use typed_tree::{TExpr, Typed};
 
 /// A program without procedures and cells.
@@ -19,60 +20,45 @@ fn no_program(alloc: Global) -> Typed {
     }
 }
 
-#[test]
-fn a_number_is_pushed(rt: HostRuntime) -> Result<(), Fail> {
-    let typed = no_program(rt.alloc());
-    let mut code = Emitter::new(rt.alloc());
-    emit(&TExpr::Const(5), &typed, 0, &mut code)
-        .ok()
-        .ok_or("memory")?;
-    assert_eq!(rt; code.instrs(), [Instr::Push(5)].as_slice());
-    assert_eq!(rt; code.depths(), [0].as_slice());
-    Ok(())
+/// The code of a number, of values above it, of a dropped number, and of a test that goes back where its
+/// number is not 0.
+fn emitted(alloc: Global, typed: &Typed) -> Result<Emitter, NoMemory> {
+    let mut code = Emitter::new(alloc);
+    emit(&TExpr::Const(5), typed, 0, &mut code)?;
+    emit_values(&[TExpr::Now], typed, 1, &mut code)?;
+    emit_dropped(&TExpr::Now, typed, &mut code)?;
+    emit_test(&TExpr::Now, typed, true, Exit::Backward(0), 0, &mut code)?;
+    Ok(code)
 }
 
 #[test]
-fn a_test_goes_back_where_the_number_is_not_0(rt: HostRuntime) -> Result<(), Fail> {
+fn expressions_have_their_code(rt: HostRuntime) -> Result<(), Fail> {
     let typed = no_program(rt.alloc());
-    let mut code = Emitter::new(rt.alloc());
-    emit_test(&TExpr::Now, &typed, true, Exit::Backward(0), 0, &mut code)
-        .ok()
-        .ok_or("memory")?;
-    let (instrs, depths) = code.take();
-    assert_eq!(rt; instrs.as_slice(), [Instr::Now, Instr::Back(0)].as_slice());
-    assert_eq!(rt; depths.as_slice(), [0, 1].as_slice());
+    let code = emitted(rt.alloc(), &typed)?;
+    let instrs = [
+        Instr::Push(5),
+        Instr::Now,
+        Instr::Now,
+        Instr::Now,
+        Instr::Back(0),
+    ];
+    assert_eq!(rt; code.instrs(), instrs.as_slice());
+    assert_eq!(rt; code.depths(), [0, 1, 0, 0, 1].as_slice());
     Ok(())
 }
 
-#[test]
-fn values_stand_above_one_another(rt: HostRuntime) -> Result<(), Fail> {
-    let typed = no_program(rt.alloc());
-    let mut code = Emitter::new(rt.alloc());
-    let values = [TExpr::Const(5), TExpr::Now];
-    emit_values(values.as_slice(), &typed, 0, &mut code)
-        .ok()
-        .ok_or("memory")?;
-    assert_eq!(rt; code.instrs(), [Instr::Push(5), Instr::Now].as_slice());
-    assert_eq!(rt; code.depths(), [0, 1].as_slice());
-    Ok(())
-}
-
-#[test]
-fn a_dropped_number_is_evaluated(rt: HostRuntime) -> Result<(), Fail> {
-    let typed = no_program(rt.alloc());
-    let mut code = Emitter::new(rt.alloc());
-    emit_dropped(&TExpr::Now, &typed, &mut code)
-        .ok()
-        .ok_or("memory")?;
-    assert_eq!(rt; code.instrs(), [Instr::Now].as_slice());
-    Ok(())
+/// A jump, which goes to place 7.
+fn jump(alloc: Global) -> Result<Emitter, NoMemory> {
+    let mut code = Emitter::new(alloc);
+    code.add(Instr::Jump(0), 0)?;
+    code.aim(0, 7);
+    Ok(code)
 }
 
 #[test]
 fn a_jump_gets_its_target(rt: HostRuntime) -> Result<(), Fail> {
-    let mut code = Emitter::new(rt.alloc());
-    code.add(Instr::Jump(0), 0).ok().ok_or("memory")?;
-    code.aim(0, 7);
-    assert_eq!(rt; code.instrs(), [Instr::Jump(7)].as_slice());
+    let (instrs, depths) = jump(rt.alloc())?.take();
+    assert_eq!(rt; instrs.as_slice(), [Instr::Jump(7)].as_slice());
+    assert_eq!(rt; depths.as_slice(), [0].as_slice());
     Ok(())
 }

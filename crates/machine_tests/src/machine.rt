@@ -4,12 +4,13 @@ ghost use Rattle.std.specs.Prelude.{IfOk};
 ghost use Rattle.bytecode.specs.Verified.{IsVerified};
 
 use super::codes::{code, is_short};
-use bytecode::{Instr, Verified, VerifyRefusal, verify};
+use bytecode::{Instr, Verified, verify};
 use can_frame::{Frame, Ident};
 use int_kinds::{BinOp, Kind};
 use run_effects::{Event, Outcome, TrapKind};
 use stack_vm::{Memory, Meter, MeterRow, laws, run};
 use std::alloc::Global;
+use std::process::Abort;
 use std::test::Fail;
 use texts::NoMemory;
 use vm_host::{Host, RecordFault};
@@ -84,19 +85,15 @@ fn empty_bench(alloc: Global, lines: u32) -> Bench {
     }
 }
 
-/// The code of these instructions and depths, or the place at which it is refused.
-fn verified(alloc: Global, instrs: &[Instr], depths: &[u32]) -> Result<Result<Verified, u32>, Fail>
-    ensures { IfOk result (λ answer. IfOk answer IsVerified) }
+/// The code of these instructions and depths, verified.
+fn verified(alloc: Global, instrs: &[Instr], depths: &[u32]) -> Result<Verified, Fail>
+    ensures { IfOk result IsVerified }
 {
     let code = code(alloc, instrs, depths, vec![in alloc; Event::Start]?)?;
     if !is_short(&code) {
         return Err("too long".into());
     }
-    match verify(alloc, code) {
-        Ok(code) => Ok(Ok(code)),
-        Err(VerifyRefusal::Unverified { place, .. }) => Ok(Err(place)),
-        Err(VerifyRefusal::NoMemory) => Err("memory".into()),
-    }
+    Ok(verify(alloc, code)?)
 }
 
 /// How a run ended, what is then in cell 15, and the row of its handler.
@@ -107,120 +104,129 @@ struct Answer {
     row: Option<MeterRow>,
 }
 
-/// Runs code once, for the frame of a message that begins with these bytes, with so many turns.
-fn run_once(alloc: Global, code: &Verified, host: &mut Bench, turns: u64) -> Result<Answer, Fail> {
-    let frame = Frame::make(Ident::Std(0x123), false, 8, [1, 2, 0, 0, 0, 0, 0, 255], 1).ok_or(
-        "a frame",
-    )?;
-    let Ok(mut memory) = Memory::make(alloc, code) else {
-        return Err("memory".into());
-    };
-    memory.set_frame(&frame, false, 1230);
-    memory.set_key(b'a');
-    let mut meter = Meter::new(alloc);
-    meter.open_rows(1).ok().ok_or("memory")?;
-    let row = meter.open_rows(1).ok().ok_or("memory")?;
+/// Runs code once, for the frame of a message that begins with these bytes, with three turns, and the second
+/// row of a meter.
+fn run_once(alloc: Global, code: &Verified, host: &mut Bench) -> Result<Answer, Fail> {
     if code.code().handlers.is_empty() || code.code().timers.len() > 2 {
         return Err("no handler, or a timer that the host lacks".into());
     }
-    let ended = run(code, 0, &mut memory, host, turns, &mut meter, row);
+    let frame = Frame::make(Ident::Std(0x123), false, 8, [1, 2, 0, 0, 0, 0, 0, 255], 1);
+    let frame = frame.ok_or("a frame")?;
+    let mut memory = Memory::make(alloc, code)?;
+    memory.set_frame(&frame, false, 1230);
+    memory.set_key(b'a');
+    let mut meter = Meter::new(alloc);
+    meter.open_rows(2)?;
+    let ended = run(code, 0, &mut memory, host, 3, &mut meter, 1);
     Ok(Answer {
         ended,
         cell: memory.cells().get(15).copied(),
-        row: meter.row(row),
+        row: meter.row(1),
     })
 }
 
-/// What code of these instructions and depths does, with three turns.
+/// What code of these instructions and depths does.
 fn answer_of(
     alloc: Global,
     instrs: &[Instr],
     depths: &[u32],
     host: &mut Bench,
 ) -> Result<Answer, Fail> {
-    match verified(alloc, instrs, depths)? {
-        Ok(code) => run_once(alloc, &code, host, 3),
-        Err(_) => Err("unverified".into()),
+    let code = verified(alloc, instrs, depths)?;
+    run_once(alloc, &code, host)
+}
+
+/// An answer of one run, which ended so and left this number in cell 15.
+fn once(ended: Outcome, cell: i128, turns: u64) -> Answer {
+    Answer {
+        ended: Ok(ended),
+        cell: Some(cell),
+        row: Some(MeterRow { runs: 1, turns }),
     }
 }
 
 #[test]
-fn a_sum_wraps_to_its_kind(rt: HostRuntime) -> Result<(), Fail> {
+fn runs_end_as_their_instructions_say(rt: HostRuntime) -> Result<(), Fail> {
+    let rows: [(&[Instr], &[u32], Answer); 3] = [
+        // A sum wraps to its kind.
+        (
+            &[
+                Instr::Push(2147483647),
+                Instr::Push(1),
+                Instr::Bin(BinOp::Add, Kind::Long),
+                Instr::Store(15),
+                Instr::Drop,
+                Instr::Ret,
+            ],
+            &[0, 1, 2, 1, 1, 0],
+            once(Outcome::Done, -2147483648, 0),
+        ),
+        // A loop is cut where no turn is left.
+        (
+            &[Instr::Push(1), Instr::Back(0), Instr::Ret],
+            &[0, 1, 0],
+            once(Outcome::Cut, 7, 3),
+        ),
+        // A division by zero ends the run.
+        (
+            &[
+                Instr::Push(1),
+                Instr::Push(0),
+                Instr::Bin(BinOp::Div, Kind::Long),
+                Instr::Drop,
+                Instr::Ret,
+            ],
+            &[0, 1, 2, 1, 0],
+            once(Outcome::Trapped(TrapKind::ZeroDivisor), 7, 0),
+        ),
+    ];
+    for (instrs, depths, wanted) in rows {
+        let mut host = empty_bench(rt.alloc(), 0);
+        let found = answer_of(rt.alloc(), instrs, depths, &mut host)?;
+        assert_eq!(rt; found, wanted, "{instrs:?}");
+    }
+    Ok(())
+}
+
+/// What an instruction does behind a copy of the event's message to cell 16, for a number on the stack.
+fn answer_to(alloc: Global, instr: Instr, number: i128) -> Result<Answer, Fail> {
     let instrs = [
-        Instr::Push(2147483647),
-        Instr::Push(1),
-        Instr::Bin(BinOp::Add, Kind::Long),
+        Instr::Copy(16, 0),
+        Instr::Push(number),
+        instr,
         Instr::Store(15),
         Instr::Drop,
         Instr::Ret,
     ];
-    let mut host = empty_bench(rt.alloc(), 0);
-    let answer = answer_of(rt.alloc(), &instrs, &[0, 1, 2, 1, 1, 0], &mut host)?;
-    assert_eq!(rt; answer.ended, Ok(Outcome::Done));
-    assert_eq!(rt; answer.cell, Some(-2147483648));
-    assert_eq!(rt; answer.row, Some(MeterRow { runs: 1, turns: 0 }));
-    Ok(())
-}
-
-#[test]
-fn a_loop_is_cut_where_no_turn_is_left(rt: HostRuntime) -> Result<(), Fail> {
-    let instrs = [Instr::Push(1), Instr::Back(0), Instr::Ret];
-    let mut host = empty_bench(rt.alloc(), 0);
-    let answer = answer_of(rt.alloc(), &instrs, &[0, 1, 0], &mut host)?;
-    assert_eq!(rt; answer.ended, Ok(Outcome::Cut));
-    assert_eq!(rt; answer.row, Some(MeterRow { runs: 1, turns: 3 }));
-    Ok(())
-}
-
-#[test]
-fn a_jump_back_is_refused(rt: HostRuntime) -> Result<(), Fail> {
-    let instrs = [Instr::Turn, Instr::Jump(0), Instr::Ret];
-    assert_eq!(rt; verified(rt.alloc(), &instrs, &[0, 0, 0])?.err(), Some(1));
-    Ok(())
-}
-
-#[test]
-fn a_division_by_zero_ends_the_run(rt: HostRuntime) -> Result<(), Fail> {
-    let instrs = [
-        Instr::Push(1),
-        Instr::Push(0),
-        Instr::Bin(BinOp::Div, Kind::Long),
-        Instr::Drop,
-        Instr::Ret,
-    ];
-    let mut host = empty_bench(rt.alloc(), 0);
-    let answer = answer_of(rt.alloc(), &instrs, &[0, 1, 2, 1, 0], &mut host)?;
-    assert_eq!(rt; answer.ended, Ok(Outcome::Trapped(TrapKind::ZeroDivisor)));
-    assert_eq!(rt; answer.cell, Some(7));
-    Ok(())
+    let mut host = empty_bench(alloc, 0);
+    answer_of(alloc, &instrs, &[0, 0, 1, 1, 1, 0], &mut host)
 }
 
 #[test]
 fn cells_of_messages_are_read_and_written(rt: HostRuntime) -> Result<(), Fail> {
-    let outside = Ok(Outcome::Trapped(TrapKind::Index));
-    let rows = [
-        (Instr::Bytes(Kind::Word, 0), 0, Ok(Outcome::Done), 0x0201),
-        (Instr::Bytes(Kind::Byte, 0), 7, Ok(Outcome::Done), 255),
+    let outside = Outcome::Trapped(TrapKind::Index);
+    for (instr, number, ended, cell) in [
+        (Instr::Bytes(Kind::Word, 0), 0, Outcome::Done, 0x0201),
+        (Instr::Bytes(Kind::Byte, 0), 7, Outcome::Done, 255),
         (Instr::Bytes(Kind::Byte, 0), 8, outside, 7),
         (Instr::Bytes(Kind::Word, 0), 7, outside, 7),
-        (Instr::Bytes(Kind::Byte, 16), 7, Ok(Outcome::Done), 255),
-        (Instr::SetField(1, 16), 9, Ok(Outcome::Done), 8),
-    ];
-    for (instr, number, ended, cell) in rows {
-        let instrs = [
-            Instr::Copy(16, 0),
-            Instr::Push(number),
-            instr,
-            Instr::Store(15),
-            Instr::Drop,
-            Instr::Ret,
-        ];
-        let mut host = empty_bench(rt.alloc(), 0);
-        let answer = answer_of(rt.alloc(), &instrs, &[0, 0, 1, 1, 1, 0], &mut host)?;
-        assert_eq!(rt; answer.ended, ended, "{instr:?} of {number}");
-        assert_eq!(rt; answer.cell, Some(cell), "{instr:?} of {number}");
+        (Instr::Bytes(Kind::Byte, 16), 7, Outcome::Done, 255),
+        (Instr::SetField(1, 16), 9, Outcome::Done, 8),
+    ] {
+        let found = answer_to(rt.alloc(), instr, number)?;
+        assert_eq!(rt; found, once(ended, cell, 0), "{instr:?} of {number}");
     }
     Ok(())
+}
+
+/// The host took what the instructions of the next test do.
+fn check_host(rt: &impl Abort, host: &Bench) {
+    assert_eq!(rt; host.text.as_slice(), b"go".as_slice());
+    assert_eq!(rt; host.timer, Some((1, 5_000_000, true)));
+    assert_eq!(rt; host.active, [false, false]);
+    assert_eq!(rt; host.stops, 1);
+    let sent = host.frame.map(|frame| (frame.ident(), frame.payload()));
+    assert_eq!(rt; sent, Some((Ident::Std(0x123), [1, 2, 0, 0, 0, 0, 0, 255])));
 }
 
 #[test]
@@ -241,16 +247,9 @@ fn the_host_takes_the_effects(rt: HostRuntime) -> Result<(), Fail> {
     ];
     let depths = [0, 0, 1, 0, 1, 2, 1, 1, 0, 0, 0, 0];
     let mut host = empty_bench(rt.alloc(), 1);
-    let answer = answer_of(rt.alloc(), &instrs, &depths, &mut host)?;
-    assert_eq!(rt; answer.ended, Ok(Outcome::Done));
-    assert_eq!(rt; answer.cell, Some(126));
-    assert_eq!(rt; host.text.as_slice(), b"go".as_slice());
-    assert_eq!(rt; host.timer, Some((1, 5_000_000, true)));
-    assert_eq!(rt; host.active, [false, false]);
-    assert_eq!(rt; host.stops, 1);
-    let sent = host.frame.ok_or("no frame")?;
-    assert_eq!(rt; sent.ident(), Ident::Std(0x123));
-    assert_eq!(rt; sent.payload(), [1, 2, 0, 0, 0, 0, 0, 255]);
+    let found = answer_of(rt.alloc(), &instrs, &depths, &mut host)?;
+    assert_eq!(rt; found, once(Outcome::Done, 126, 0));
+    check_host(&rt, &host);
     Ok(())
 }
 
@@ -258,23 +257,10 @@ fn the_host_takes_the_effects(rt: HostRuntime) -> Result<(), Fail> {
 fn a_refused_line_ends_the_run(rt: HostRuntime) -> Result<(), Fail> {
     let instrs = [Instr::Write(0), Instr::Write(0), Instr::Ret];
     let mut host = empty_bench(rt.alloc(), 1);
-    let answer = answer_of(rt.alloc(), &instrs, &[0, 0, 0], &mut host)?;
-    assert_eq!(rt; answer.ended, Err(RecordFault::NoMemory));
-    assert_eq!(rt; answer.row, Some(MeterRow { runs: 0, turns: 0 }));
+    let found = answer_of(rt.alloc(), &instrs, &[0, 0, 0], &mut host)?;
+    assert_eq!(rt; found.ended, Err(RecordFault::NoMemory));
+    assert_eq!(rt; found.row, Some(MeterRow { runs: 0, turns: 0 }));
     assert_eq!(rt; host.text.as_slice(), b"go".as_slice());
-    Ok(())
-}
-
-#[test]
-fn rows_are_opened_and_read(rt: HostRuntime) -> Result<(), Fail> {
-    let zero = MeterRow { runs: 0, turns: 0 };
-    let mut meter = Meter::new(rt.alloc());
-    assert_eq!(rt; meter.rows(), 0);
-    assert_eq!(rt; meter.open_rows(2).ok().ok_or("memory")?, 0);
-    assert_eq!(rt; meter.open_rows(1).ok().ok_or("memory")?, 2);
-    assert_eq!(rt; meter.rows(), 3);
-    assert_eq!(rt; meter.row(2), Some(zero));
-    assert_eq!(rt; meter.row(3), None);
     Ok(())
 }
 

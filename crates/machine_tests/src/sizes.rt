@@ -9,32 +9,28 @@ use typed_tree::{TExpr, TFun, TStmt, Typed};
 
 /// `long f() { now; }`
 fn function(alloc: Global) -> Result<TFun, AllocError> {
-    let mut body = Vec::new(alloc);
-    body.push(TStmt::Eval(TExpr::Now))?;
     Ok(TFun {
         params: Items::new(alloc),
         gives: Some(Kind::Long),
-        body: Items::from_list(body),
+        body: Items::from_list(vec![in alloc; TStmt::Eval(TExpr::Now)]?),
     })
 }
 
-/// A program of functions alone.
-fn program(alloc: Global, functions: Vec<TFun>) -> Typed {
-    Typed {
-        functions: Items::from_list(functions),
+/// A program of that function alone.
+fn program(alloc: Global) -> Result<Typed, AllocError> {
+    Ok(Typed {
+        functions: Items::from_list(vec![in alloc; function(alloc)?]?),
         handlers: Items::new(alloc),
         cells: Items::new(alloc),
         starts: Items::new(alloc),
         timers: Items::new(alloc),
         formats: Items::new(alloc),
-    }
+    })
 }
 
 #[test]
 fn instructions_are_counted(rt: HostRuntime) -> Result<(), Fail> {
-    let mut functions = Vec::new(rt.alloc());
-    functions.push(function(rt.alloc())?)?;
-    let typed = program(rt.alloc(), functions);
+    let typed = program(rt.alloc())?;
     // `Now` and `Drop`, and at the end `Push 0` and `Ret`.
     assert_eq!(rt; size_of(&typed), 4);
     Ok(())

@@ -6,23 +6,17 @@ use int_kinds::{BinOp, Kind};
 use items::Items;
 use run_effects::{Event, Selector};
 use std::alloc::{AllocError, Global};
-use std::process::Abort;
 use std::test::Fail;
 
 /// The first place whose rule fails, where one does.
-fn first_failure(rt: &impl Abort, alloc: Global, code: Code) -> Option<u32> {
-    assert!(rt; is_short(&code));
-    let count = code.instrs.len();
+fn first_failure(alloc: Global, code: Code) -> Result<Option<u32>, Fail> {
+    if !is_short(&code) {
+        return Err("it is long".into());
+    }
     match verify(alloc, code) {
-        Ok(verified) => {
-            assert_eq!(rt; verified.code().instrs.len(), count);
-            None
-        }
-        Err(VerifyRefusal::Unverified { place, code }) => {
-            assert_eq!(rt; code.instrs.len(), count);
-            Some(place)
-        }
-        Err(VerifyRefusal::NoMemory) => panic!(rt; "no memory"),
+        Ok(_) => Ok(None),
+        Err(VerifyRefusal::Unverified { place, .. }) => Ok(Some(place)),
+        Err(VerifyRefusal::NoMemory) => Err("memory".into()),
     }
 }
 
@@ -64,44 +58,71 @@ fn verify_finds_the_first_place_that_fails(rt: HostRuntime) -> Result<(), Fail> 
     ];
     for (instrs, depths, place) in rows {
         let code = code(rt.alloc(), instrs, depths, Vec::new(rt.alloc()))?;
-        assert_eq!(rt; first_failure(&rt, rt.alloc(), code), place, "{instrs:?}");
+        assert_eq!(rt; first_failure(rt.alloc(), code)?, place, "{instrs:?}");
     }
     Ok(())
 }
 
+/// What a procedure is for.
+#[derive(Clone, Copy, Debug)]
+enum For {
+    /// A timer of this number.
+    Timer(u32),
+    /// This key, or any.
+    Key(Option<u8>),
+    /// The messages of this selector.
+    Message(u8, u32, u32),
+    /// Those of the selectors of rank 1 of 3 to 5 and of 6, and of rank 0 of 4.
+    Messages,
+}
+
+/// A selector.
+fn selector(rank: u8, low: u32, high: u32) -> Selector {
+    Selector { rank, low, high }
+}
+
+/// The event that a procedure is for.
+fn event_of(alloc: Global, what: For) -> Result<Event, AllocError> {
+    Ok(match what {
+        For::Timer(timer) => Event::Timer(timer),
+        For::Key(key) => Event::Key(key),
+        For::Message(rank, low, high) => {
+            Event::Message(Items::from_list(vec![in alloc; selector(rank, low, high)]?))
+        }
+        For::Messages => Event::Message(Items::from_list(vec![in alloc;
+            selector(1, 3, 5),
+            selector(1, 6, 6),
+            selector(0, 4, 4),
+        ]?)),
+    })
+}
+
+/// The events that procedures are for.
+fn events_of(alloc: Global, all: &[For]) -> Result<Vec<Event>, AllocError> {
+    let mut events = Vec::new(alloc);
+    for what in all {
+        events.push(event_of(alloc, *what)?)?;
+    }
+    Ok(events)
+}
+
 #[test]
 fn handlers_share_nothing(rt: HostRuntime) -> Result<(), Fail> {
-    let alloc = rt.alloc();
-    let selectors = |rank: u8, low: u32, high: u32| -> Result<Event, AllocError> {
-        Ok(Event::Message(Items::from_list(vec![in alloc; Selector { rank, low, high }]?)))
-    };
-    let rows = [
-        (vec![in alloc; Event::Timer(0), Event::Timer(1)]?, None),
-        (vec![in alloc; Event::Timer(1), Event::Timer(1)]?, Some(1)),
-        (vec![in alloc; Event::Timer(2)]?, Some(1)),
-        (vec![in alloc; Event::Key(None), Event::Key(Some(0))]?, None),
-        (vec![in alloc; Event::Key(None), Event::Key(None)]?, Some(1)),
-        (
-            vec![in alloc;
-                selectors(1, 3, 5)?,
-                selectors(1, 6, 6)?,
-                selectors(0, 4, 4)?,
-            ]?,
-            None,
-        ),
-        (
-            vec![in alloc; selectors(1, 6, 6)?, selectors(1, 3, 6)?]?,
-            Some(1),
-        ),
-        (
-            vec![in alloc; selectors(1, 6, 5)?, selectors(1, 3, 9)?]?,
-            None,
-        ),
-        (vec![in alloc; selectors(3, 0, 0)?]?, Some(1)),
+    let rows: [(&[For], Option<u32>); 9] = [
+        (&[For::Timer(0), For::Timer(1)], None),
+        (&[For::Timer(1), For::Timer(1)], Some(1)),
+        (&[For::Timer(2)], Some(1)),
+        (&[For::Key(None), For::Key(Some(0))], None),
+        (&[For::Key(None), For::Key(None)], Some(1)),
+        (&[For::Messages], None),
+        (&[For::Message(1, 6, 6), For::Message(1, 3, 6)], Some(1)),
+        (&[For::Message(1, 6, 5), For::Message(1, 3, 9)], None),
+        (&[For::Message(3, 0, 0)], Some(1)),
     ];
-    for (events, place) in rows {
-        let code = code(alloc, &[Instr::Ret], &[0], events)?;
-        assert_eq!(rt; first_failure(&rt, alloc, code), place);
+    for (all, place) in rows {
+        let events = events_of(rt.alloc(), all)?;
+        let code = code(rt.alloc(), &[Instr::Ret], &[0], events)?;
+        assert_eq!(rt; first_failure(rt.alloc(), code)?, place, "{all:?}");
     }
     Ok(())
 }
