@@ -3,7 +3,7 @@
 mod made;
 
 use dbc_reader::{Database, DbcRefusal, read};
-use made::{PAYLOAD, ROWS, TEXTS};
+use made::{PAYLOAD, ROWS, Row, TEXTS};
 use signal_codec::{Layout, get, usable};
 use std::process::Abort;
 
@@ -13,26 +13,32 @@ fn answer<R: AllocGlobal + Abort>(rt: &R, text: &[u8]) -> Result<Database, DbcRe
     read(rt.alloc(), text)
 }
 
+/// A database has the signal of a row, and its message.
+fn check_row(rt: &impl Abort, database: &Database, row: &Row) {
+    let (_, id, message, name, start, len, big, signed, float, number) = *row;
+    let layout = Layout {
+        start,
+        len,
+        big,
+        signed,
+    };
+    let signal = database.signal(message, name).expect(rt, "it is there");
+    assert_eq!(rt; signal.layout, layout);
+    assert_eq!(rt; signal.float, float);
+    assert_eq!(rt; signal.name.bytes(), name);
+    let found = database.message_by_id(id).expect(rt, "it is there");
+    assert_eq!(rt; found.name.bytes(), message);
+    assert_eq!(rt; found.len, 8);
+    assert!(rt; usable(&layout));
+    assert!(rt; float || get(&layout, &PAYLOAD) == number);
+}
+
 #[test]
 fn databases_are_read_as_by_canmatrix(rt: HostRuntime) {
-    for &(text, id, message, name, start, len, big, signed, float, number) in &ROWS {
-        assert!(rt; text < TEXTS.len());
-        let database = answer(&rt, TEXTS[text]).expect(&rt, "canmatrix wrote it");
-        let signal = database.signal(message, name).expect(&rt, "it is there");
-        let layout = Layout {
-            start,
-            len,
-            big,
-            signed,
-        };
-        assert_eq!(rt; signal.layout, layout);
-        assert_eq!(rt; signal.float, float);
-        assert_eq!(rt; signal.name.bytes(), name);
-        let found = database.message_by_id(id).expect(&rt, "it is there");
-        assert_eq!(rt; found.name.bytes(), message);
-        assert_eq!(rt; found.len, 8);
-        assert!(rt; usable(&layout));
-        assert!(rt; float || get(&layout, &PAYLOAD) == number);
+    for row in &ROWS {
+        assert!(rt; row.0 < TEXTS.len());
+        let database = answer(&rt, TEXTS[row.0]).expect(&rt, "canmatrix wrote it");
+        check_row(&rt, &database, row);
     }
 }
 
@@ -62,9 +68,33 @@ static EVERY_KEYWORD: &[u8] = b"VERSION \"1.0 \xFCber\"\r\n\
     SIG_VALTYPE_ 2566844672 X : 1;\r\nSIG_VALTYPE_ 291 V 3;\r\nSIG_VALTYPE_ 9 Nothing : 2;\r\n\
     SG_MUL_VAL_ 2566844672 X Kind 1-1, 3-4;\r\n";
 
-#[test]
-fn files_are_read_as_tools_write_them(rt: HostRuntime) {
-    let database = answer(&rt, EVERY_KEYWORD).expect(&rt, "each keyword is read");
+/// The signals of that text: the message, the name, the start, the length, the order, the sign, and whether
+/// it is a floating-point number.
+const SIGNALS: [(&[u8], &[u8], u16, u16, bool, bool, bool); 4] = [
+    (b"Speed", b"V", 7, 16, true, false, false),
+    (b"Ext", b"Kind", 0, 4, false, false, false),
+    (b"Ext", b"W", 4, 12, false, true, false),
+    (b"Ext", b"X", 16, 32, false, true, true),
+];
+
+/// The database has those signals.
+fn check_signals(rt: &impl Abort, database: &Database) {
+    for (message, name, start, len, big, signed, float) in SIGNALS {
+        let signal = database.signal(message, name).expect(rt, "it is there");
+        let layout = Layout {
+            start,
+            len,
+            big,
+            signed,
+        };
+        assert_eq!(rt; signal.layout, layout);
+        assert_eq!(rt; signal.float, float);
+    }
+    assert!(rt; database.signal(b"Speed", b"W").is_none());
+}
+
+/// The database has its two messages and no other.
+fn check_messages(rt: &impl Abort, database: &Database) {
     assert_eq!(rt; database.messages().len(), 2);
     assert!(rt;
         database
@@ -72,78 +102,61 @@ fn files_are_read_as_tools_write_them(rt: HostRuntime) {
             .is_none()
     );
     assert!(rt; database.message_by_id(291).is_some());
-    assert!(rt; database.signal(b"Speed", b"W").is_none());
-    for (message, name, start, len, big, signed, float) in [
-        (
-            b"Speed".as_slice(),
-            b"V".as_slice(),
-            7,
-            16,
-            true,
-            false,
-            false,
-        ),
-        (b"Ext", b"Kind", 0, 4, false, false, false),
-        (b"Ext", b"W", 4, 12, false, true, false),
-        (b"Ext", b"X", 16, 32, false, true, true),
-    ] {
-        let signal = database.signal(message, name).expect(&rt, "it is there");
-        assert_eq!(rt;
-            signal.layout,
-            Layout {
-                start,
-                len,
-                big,
-                signed
-            }
-        );
-        assert_eq!(rt; signal.float, float);
-    }
-    let speed = database
-        .message_by_name(b"Speed")
-        .expect(&rt, "it is there");
+    let speed = database.message_by_name(b"Speed");
+    let speed = speed.expect(rt, "it is there");
     assert_eq!(rt; speed.signals.as_slice().len(), 1);
     assert!(rt; speed.signals.named(b"V").is_some());
 }
 
 #[test]
+fn files_are_read_as_tools_write_them(rt: HostRuntime) {
+    let database = answer(&rt, EVERY_KEYWORD).expect(&rt, "each keyword is read");
+    check_messages(&rt, &database);
+    check_signals(&rt, &database);
+}
+
+/// Texts, and the line in which a name stands for the second time.
+const TWICE: [(&[u8], u32); 3] = [
+    (b"BO_ 1 A: 8 X\r\nBO_ 1 A: 8 X", 2),
+    (b"BO_ 1 A: 8 X\nBO_ 2\nA: 8 X", 3),
+    (
+        b"BO_ 1 A: 8 X\nSG_ V : 0|8@1+ (1,0) [0|0] \"\" X\nSG_ V : 0|8@1+ (1,0) [0|0] \"\" X",
+        3,
+    ),
+];
+
+/// Texts, and the line of the statement that has no spelling.
+const UNSPELLED: [(&[u8], u32); 19] = [
+    (b"BO_ 1 A 8 X\n", 1),
+    (b"BO_ 1 A: 8 X\n\nBO_ 2 A: 8", 3),
+    (b"\n\nSG_ V : 0|8@1+ (1,0) [0|0] \"\" X", 3),
+    (b"BO_ 1 A: 8 X\nSG_ V : 0|8@2+ (1,0) [0|0] \"\" X", 2),
+    (b"BO_ 1 A: 8 X\nSG_ V : 0|8@1+ (1,0) [0|0] \"\" X,,Y", 2),
+    (b"BO_ 1 A: 8 X\nSG_ V m : 0|8@1+ (1,0) [0|0] \"\" X", 2),
+    (b"BO_ 4294967296 A: 8 X", 1),
+    (b"BO_ 1 A: 65536 X", 1),
+    (b"CM_ \"a\nb\" ;\nVERSION \"", 3),
+    (b"CM_ \"a\\\"\n ;\nBO_", 3),
+    (b"VAL_ 1 A\n", 1),
+    (b"NS_ : A 1\nBS_:", 1),
+    (b"BU_: A 1\nBS_:", 1),
+    (b"BS_: A 1 \" (\nBS_", 2),
+    (b"VERSION 1", 1),
+    (b"\xEF\xBB\xBFVERSION \"1.0\"\r\n", 1),
+    (b"\xEF\xBB\xBF", 1),
+    (b"SIG_VALTYPE_ 1 A : 4;", 1),
+    (b"word ;", 1),
+];
+
+#[test]
 fn texts_are_refused_in_their_line(rt: HostRuntime) {
-    let text = |line| Some(DbcRefusal::Text { line });
-    let twice = |line| Some(DbcRefusal::Twice { line });
-    for (bytes, refusal) in [
-        (b"".as_slice(), None),
-        (b"BO_ 1 A 8 X\n", text(1)),
-        (b"BO_ 1 A: 8 X\r\nBO_ 1 A: 8 X", twice(2)),
-        (b"BO_ 1 A: 8 X\nBO_ 2\nA: 8 X", twice(3)),
-        (b"BO_ 1 A: 8 X\n\nBO_ 2 A: 8", text(3)),
-        (b"\n\nSG_ V : 0|8@1+ (1,0) [0|0] \"\" X", text(3)),
-        (
-            b"BO_ 1 A: 8 X\nSG_ V : 0|8@1+ (1,0) [0|0] \"\" X\nSG_ V : 0|8@1+ (1,0) [0|0] \"\" X",
-            twice(3),
-        ),
-        (b"BO_ 1 A: 8 X\nSG_ V : 0|8@2+ (1,0) [0|0] \"\" X", text(2)),
-        (
-            b"BO_ 1 A: 8 X\nSG_ V : 0|8@1+ (1,0) [0|0] \"\" X,,Y",
-            text(2),
-        ),
-        (
-            b"BO_ 1 A: 8 X\nSG_ V m : 0|8@1+ (1,0) [0|0] \"\" X",
-            text(2),
-        ),
-        (b"BO_ 4294967296 A: 8 X", text(1)),
-        (b"BO_ 1 A: 65536 X", text(1)),
-        (b"CM_ \"a\nb\" ;\nVERSION \"", text(3)),
-        (b"CM_ \"a\\\"\n ;\nBO_", text(3)),
-        (b"VAL_ 1 A\n", text(1)),
-        (b"NS_ : A 1\nBS_:", text(1)),
-        (b"BU_: A 1\nBS_:", text(1)),
-        (b"BS_: A 1 \" (\nBS_", text(2)),
-        (b"VERSION 1", text(1)),
-        (b"\xEF\xBB\xBFVERSION \"1.0\"\r\n", text(1)),
-        (b"\xEF\xBB\xBF", text(1)),
-        (b"SIG_VALTYPE_ 1 A : 4;", text(1)),
-        (b"word ;", text(1)),
-    ] {
-        assert_eq!(rt; answer(&rt, bytes).err(), refusal);
+    assert!(rt; answer(&rt, b"").is_ok());
+    for (text, line) in TWICE {
+        let refusal = answer(&rt, text).err();
+        assert_eq!(rt; refusal, Some(DbcRefusal::Twice { line }));
+    }
+    for (text, line) in UNSPELLED {
+        let refusal = answer(&rt, text).err();
+        assert_eq!(rt; refusal, Some(DbcRefusal::Text { line }));
     }
 }

@@ -3,6 +3,7 @@
 use can_frame::{Frame, Ident};
 use log_line::{Entry, Line, LineRefusal, laws, read_line, view_line, write_line};
 use std::alloc::Global;
+use std::process::Abort;
 use std::test::Fail;
 
 /// The entry that the line reads as.
@@ -11,6 +12,22 @@ fn entry_of(alloc: Global, line: &[u8]) -> Result<Entry, Fail> {
         Ok(Line::Entry(entry)) => Ok(entry),
         _ => Err("no entry")?,
     }
+}
+
+/// The identifier, whether the frame is remote, the data length code and the bytes.
+type Fields = (Ident, bool, u8, [u8; 8]);
+
+/// The entry of the moment that the lines of tools have, and of a frame with these fields.
+fn check_entry(rt: &impl Abort, entry: &Entry, wanted: Fields) {
+    assert_eq!(rt; entry.seconds, 1_436_509_052);
+    assert_eq!(rt; entry.micros, 249_713);
+    assert_eq!(rt; entry.interface.bytes(), b"vcan0".as_slice());
+    let frame = entry.frame;
+    assert_eq!(rt;
+        (frame.ident(), frame.rtr(), frame.dlc(), frame.payload()),
+        wanted
+    );
+    assert_eq!(rt; frame.can(), 1);
 }
 
 // Written by python-can 4.1.0 (`CanutilsLogWriter`) and by `asc2log` of can-utils 2020.11, which has the
@@ -77,14 +94,7 @@ fn lines_of_tools_are_entries(rt: HostRuntime) -> Result<(), Fail> {
     ];
     for (line, ident, remote, dlc, payload) in rows {
         let entry = entry_of(rt.alloc(), line)?;
-        assert_eq!(rt; entry.seconds, 1_436_509_052);
-        assert_eq!(rt; entry.micros, 249_713);
-        assert_eq!(rt; entry.interface.bytes(), b"vcan0".as_slice());
-        assert_eq!(rt; entry.frame.ident(), ident);
-        assert_eq!(rt; entry.frame.rtr(), remote);
-        assert_eq!(rt; entry.frame.dlc(), dlc);
-        assert_eq!(rt; entry.frame.payload(), payload);
-        assert_eq!(rt; entry.frame.can(), 1);
+        check_entry(&rt, &entry, (ident, remote, dlc, payload));
     }
     Ok(())
 }

@@ -2,9 +2,11 @@
 
 ghost use Rattle.std.specs.Prelude.{◌<◌, ◌^◌, length};
 
-use scenario::{Epoch, ScenarioRefusal, read};
+use scenario::{Epoch, KeyItem, NodeItem, Scenario, ScenarioRefusal, read};
 use std::alloc::Global;
+use std::process::Abort;
 use std::test::Fail;
+use texts::Text;
 
 /// Whether the text is refused at this line by the rule of this number.
 fn is_refused_at(alloc: Global, text: &[u8], line: u32, number: u8) -> bool
@@ -17,41 +19,62 @@ fn is_refused_at(alloc: Global, text: &[u8], line: u32, number: u8) -> bool
     )
 }
 
+/// A scenario with each item.
+static WHOLE: &[u8] =
+    b"# a bus\r\n\r\nscenario 1\r\ndatabase b.dbc\nnode A\t a.can\nnode _b2 lib/b.can\n\
+    bitrate 0125000\nuntil 86400000\nturns 00000000000000000001\nepoch 4294967295\n\
+    interface vcan_0-1.x\npicks 1 2\nkey 2 a\nkey 1 ~\nkey 2 !\npicks 4294967295\nreplay old.log";
+
+/// Whether a text is there and is this one.
+fn is_text(text: &Option<Text>, bytes: &[u8]) -> bool {
+    matches!(text, Some(text) if text.bytes() == bytes)
+}
+
+/// The scenario has these nodes.
+fn check_nodes(rt: &impl Abort, nodes: &[NodeItem], wanted: &[(&[u8], &[u8])]) {
+    assert_eq!(rt; nodes.len(), wanted.len());
+    for (node, (name, file)) in nodes.iter().zip(wanted) {
+        assert_eq!(rt; node.name.bytes(), *name);
+        assert_eq!(rt; node.file.bytes(), *file);
+    }
+}
+
+/// The scenario has these keys.
+fn check_keys(rt: &impl Abort, keys: &[KeyItem], wanted: &[(u64, u8)]) {
+    assert_eq!(rt; keys.len(), wanted.len());
+    for (key, (at, byte)) in keys.iter().zip(wanted) {
+        assert_eq!(rt; key.at, *at);
+        assert_eq!(rt; key.key, *byte);
+    }
+}
+
+/// The scenario has this bit time, this end moment, these turns, this epoch and this interface.
+fn check_numbers(rt: &impl Abort, scenario: &Scenario, wanted: (u32, u64, u64, Epoch, &[u8])) {
+    let (bit, until, turns, epoch, interface) = wanted;
+    assert_eq!(rt; scenario.bit, bit);
+    assert_eq!(rt; scenario.until, until);
+    assert_eq!(rt; scenario.turns, turns);
+    assert_eq!(rt; scenario.epoch, epoch);
+    assert_eq!(rt; scenario.interface.bytes(), interface);
+}
+
 #[test]
 fn a_scenario_says_what_its_items_say(rt: HostRuntime) -> Result<(), Fail> {
-    let text =
-        b"# a bus\r\n\r\nscenario 1\r\ndatabase b.dbc\nnode A\t a.can\nnode _b2 lib/b.can\nbitrate 0125000\n\
-        until 86400000\nturns 00000000000000000001\nepoch 4294967295\ninterface vcan_0-1.x\npicks 1 2\n\
-        key 2 a\nkey 1 ~\nkey 2 !\npicks 4294967295\nreplay old.log";
-    let scenario = read(rt.alloc(), text)?;
-    assert!(rt;
-        scenario
-            .database
-            .as_ref()
-            .is_some_and(|file| file.bytes() == b"b.dbc".as_slice())
+    let scenario = read(rt.alloc(), WHOLE)?;
+    assert!(rt; is_text(&scenario.database, b"b.dbc"));
+    assert!(rt; is_text(&scenario.replay, b"old.log"));
+    check_nodes(
+        &rt,
+        &scenario.nodes,
+        &[(b"A", b"a.can"), (b"_b2", b"lib/b.can")],
     );
-    assert_eq!(rt; scenario.nodes.len(), 2);
-    assert_eq!(rt; scenario.nodes[0].name.bytes(), b"A".as_slice());
-    assert_eq!(rt; scenario.nodes[0].file.bytes(), b"a.can".as_slice());
-    assert_eq!(rt; scenario.nodes[1].name.bytes(), b"_b2".as_slice());
-    assert_eq!(rt; scenario.nodes[1].file.bytes(), b"lib/b.can".as_slice());
-    assert_eq!(rt; scenario.bit, 8);
-    assert_eq!(rt; scenario.until, 86_400_000_000);
-    assert_eq!(rt; scenario.turns, 1);
-    assert_eq!(rt; scenario.epoch, Epoch::At(4_294_967_295));
-    assert_eq!(rt; scenario.interface.bytes(), b"vcan_0-1.x".as_slice());
+    let epoch = Epoch::At(4_294_967_295);
+    check_numbers(&rt, &scenario, (8, 86_400_000_000, 1, epoch, b"vcan_0-1.x"));
     assert_eq!(rt; scenario.picks.as_slice(), [1, 2, 4_294_967_295].as_slice());
-    assert_eq!(rt; scenario.keys.len(), 3);
-    let expected = [(1000, b'~'), (2000, b'a'), (2000, b'!')];
-    for (key, (at, byte)) in scenario.keys.iter().zip(expected) {
-        assert_eq!(rt; key.at, at);
-        assert_eq!(rt; key.key, byte);
-    }
-    assert!(rt;
-        scenario
-            .replay
-            .as_ref()
-            .is_some_and(|file| file.bytes() == b"old.log".as_slice())
+    check_keys(
+        &rt,
+        &scenario.keys,
+        &[(1000, b'~'), (2000, b'a'), (2000, b'!')],
     );
     Ok(())
 }
@@ -59,15 +82,13 @@ fn a_scenario_says_what_its_items_say(rt: HostRuntime) -> Result<(), Fail> {
 #[test]
 fn what_no_item_says_has_its_default(rt: HostRuntime) -> Result<(), Fail> {
     let scenario = read(rt.alloc(), b"scenario 1\nnode A a.can\nepoch first\n")?;
-    assert!(rt; scenario.database.is_none());
-    assert_eq!(rt; scenario.bit, 2);
-    assert_eq!(rt; scenario.until, 10_000_000);
-    assert_eq!(rt; scenario.turns, 100_000);
-    assert_eq!(rt; scenario.epoch, Epoch::First);
-    assert_eq!(rt; scenario.interface.bytes(), b"can0".as_slice());
-    assert!(rt; scenario.picks.is_empty());
-    assert!(rt; scenario.keys.is_empty());
-    assert!(rt; scenario.replay.is_none());
+    assert!(rt; scenario.database.is_none() && scenario.replay.is_none());
+    assert!(rt; scenario.picks.is_empty() && scenario.keys.is_empty());
+    check_numbers(
+        &rt,
+        &scenario,
+        (2, 10_000_000, 100_000, Epoch::First, b"can0"),
+    );
     Ok(())
 }
 
@@ -156,30 +177,42 @@ fn values_at_their_edges_are_taken(rt: HostRuntime) {
     }
 }
 
-#[test]
-fn a_file_name_has_255_bytes_at_most(rt: HostRuntime) -> Result<(), Fail> {
-    let mut text = String::from_str(rt.alloc(), "scenario 1\nnode A a\nreplay ")?;
-    for _ in 0..255u32 {
+/// A scenario with a file name of so many bytes.
+fn with_long_name(alloc: Global, count: u32) -> Result<String, Fail> {
+    let mut text = String::from_str(alloc, "scenario 1\nnode A a\nreplay ")?;
+    for _ in 0..count {
         text.push('~')?;
     }
-    assert!(rt; text.len() < 2_000);
-    assert!(rt; read(rt.alloc(), text.as_bytes()).is_ok());
-    text.push('~')?;
-    assert!(rt; text.len() < 2_000);
-    assert!(rt; is_refused_at(rt.alloc(), text.as_bytes(), 3, 10));
+    Ok(text)
+}
+
+#[test]
+fn a_file_name_has_255_bytes_at_most(rt: HostRuntime) -> Result<(), Fail> {
+    for (count, good) in [(255, true), (256, false)] {
+        let text = with_long_name(rt.alloc(), count)?;
+        assert!(rt; text.len() < 2_000);
+        assert_eq!(rt; read(rt.alloc(), text.as_bytes()).is_ok(), good);
+        assert_eq!(rt; is_refused_at(rt.alloc(), text.as_bytes(), 3, 10), !good);
+    }
     Ok(())
+}
+
+/// A scenario with so many nodes.
+fn with_nodes(alloc: Global, count: u32) -> Result<String, Fail> {
+    let mut text = String::from_str(alloc, "scenario 1\n")?;
+    for number in 0..count {
+        text.push_str(format!(in alloc; "node N{number} n.can\n")?.as_str())?;
+    }
+    Ok(text)
 }
 
 #[test]
 fn a_scenario_has_64_nodes_at_most(rt: HostRuntime) -> Result<(), Fail> {
-    let mut text = String::from_str(rt.alloc(), "scenario 1\n")?;
-    for number in 0..64u32 {
-        text.push_str(format!(in rt.alloc(); "node N{number} n.can\n")?.as_str())?;
+    for (count, good) in [(64, true), (65, false)] {
+        let text = with_nodes(rt.alloc(), count)?;
+        assert!(rt; text.len() < 2_000);
+        assert_eq!(rt; read(rt.alloc(), text.as_bytes()).is_ok(), good);
+        assert_eq!(rt; is_refused_at(rt.alloc(), text.as_bytes(), 66, 5), !good);
     }
-    assert!(rt; text.len() < 2_000);
-    assert_eq!(rt; read(rt.alloc(), text.as_bytes())?.nodes.len(), 64);
-    text.push_str("node M m.can\n")?;
-    assert!(rt; text.len() < 2_100);
-    assert!(rt; is_refused_at(rt.alloc(), text.as_bytes(), 66, 5));
     Ok(())
 }

@@ -207,10 +207,24 @@ SIG_VALTYPE_ 2287524058 Sig_0 : 1;
 ",
 ];
 
-/// Signals as the library reads them: which text, the message's identifier with bit 31 for an extended
+/// A signal as the library reads it: which text, the message's identifier with bit 31 for an extended
 /// one, the message's name, the signal's name, its start as DBC files number bits, its length,
 /// whether it is big-endian, signed and a float, and its number in `PAYLOAD`, or 0 for a float.
-pub(crate) static ROWS: [(usize, u32, &[u8], &[u8], u16, u16, bool, bool, bool, i128); 27] = [
+pub(crate) type Row = (
+    usize,
+    u32,
+    &'static [u8],
+    &'static [u8],
+    u16,
+    u16,
+    bool,
+    bool,
+    bool,
+    i128,
+);
+
+/// The signals of the texts.
+pub(crate) static ROWS: [Row; 27] = [
     (
         0,
         2215244084,
