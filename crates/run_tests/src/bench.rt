@@ -46,23 +46,31 @@ pub(crate) struct Course {
     ghost in_range: { All (λ key. key.key < 127) keys.items },
 }
 
+/// A scenario of so many of the nodes, with these further items.
+fn scenario_of(alloc: Global, items: &str, count: usize) -> Result<String, Fail> {
+    let mut scenario = String::from_str(alloc, "scenario 1\n")?;
+    for (name, file) in NODES.iter().take(count) {
+        scenario.push_str(&format!(in alloc; "node {name} {file}\n")?)?;
+    }
+    scenario.push_str(items)?;
+    Ok(scenario)
+}
+
+/// A file of this name.
+fn file_of(alloc: Global, name: &str, text: &str) -> Result<(Text, Vec<u8>), Fail> {
+    let name = Text::make(alloc, name.as_bytes())?;
+    Ok((name, text.as_bytes().to_vec(alloc)?))
+}
+
 /// The files of a scenario of the nodes A and B, or of A alone, with these further items, and of their
 /// sources.
 fn files(alloc: Global, items: &str, sources: &[&str]) -> Result<MemFiles, Fail> {
-    let mut scenario = String::from_str(alloc, "scenario 1\n")?;
+    let scenario = scenario_of(alloc, items, sources.len())?;
     let mut held = Vec::new(alloc);
-    for ((name, file), source) in NODES.iter().zip(sources) {
-        scenario.push_str(&format!(in alloc; "node {name} {file}\n")?)?;
-        held.push((
-            Text::make(alloc, file.as_bytes())?,
-            source.as_bytes().to_vec(alloc)?,
-        ))?;
+    held.push(file_of(alloc, "s.scn", &scenario)?)?;
+    for ((_, file), source) in NODES.iter().zip(sources) {
+        held.push(file_of(alloc, file, source)?)?;
     }
-    scenario.push_str(items)?;
-    held.push((
-        Text::make(alloc, b"s.scn")?,
-        scenario.as_bytes().to_vec(alloc)?,
-    ))?;
     Ok(MemFiles::new(held, Vec::new(alloc)))
 }
 
@@ -194,19 +202,22 @@ pub(crate) struct Bench {
     ghost rows: { HasRows meter node },
 }
 
+/// The code of this source.
+fn code_of(alloc: Global, source: &str) -> Result<Verified, Fail> {
+    let mut course = read_course(alloc, "", &[source])?;
+    Ok(course.codes.pop().ok_or("no code")?)
+}
+
 impl Bench {
-    /// A node of this source, as it is loaded, where each task has so many turns.
+    /// A node of this source, as it is loaded, where each task has so many turns. A bit takes 2 microseconds.
     pub(crate) fn make(alloc: Global, source: &str, turns: u64) -> Result<Bench, Fail> {
-        let mut course = read_course(alloc, "", &[source])?;
-        let bus = PlainBus::make(alloc, course.bit);
-        let Some(code) = course.codes.pop() else {
-            return Err("no code".into());
-        };
+        let code = code_of(alloc, source)?;
+        let handlers = u32::try_from(code.code().handlers.len())?;
         let mut meter = Meter::new(alloc);
-        let first_row = meter.open_rows(u32::try_from(code.code().handlers.len())?)?;
+        let first_row = meter.open_rows(handlers)?;
         Ok(Bench {
             node: Node::load(alloc, code, first_row, turns)?,
-            bus,
+            bus: PlainBus::make(alloc, 2),
             into: MemRecord::new(alloc),
             meter,
         })

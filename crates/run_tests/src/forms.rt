@@ -148,44 +148,54 @@ const CALLS: [Form; 10] = [
     ),
 ];
 
-/// The cells behind the event's that do not hold 0, each as ` cell=number`.
-fn cells_of(alloc: Global, cells: &[i128]) -> Result<String, Fail> {
-    let mut text = String::new(alloc);
+/// Writes the cells behind the event's that do not hold 0, each as ` cell=number`.
+fn show_cells(alloc: Global, text: &mut String, cells: &[i128]) -> Result<(), Fail> {
     for (place, number) in cells.iter().enumerate() {
         if place >= 15 && *number != 0 {
             text.push_str(&format!(in alloc; " {place}={number}")?)?;
         }
     }
+    Ok(())
+}
+
+/// Writes the lines of a record, each with a `;` behind it.
+fn show_lines(text: &mut String, record: &[Noted]) -> Result<(), Fail> {
+    for noted in record {
+        if let Noted::Line { text: line, .. } = noted {
+            text.push_str(str::from_utf8(line.bytes())?)?;
+            text.push(';')?;
+        }
+    }
+    Ok(())
+}
+
+/// What a node leaves behind, and whether it asked to stop.
+fn shown(alloc: Global, bench: &Bench, stop: bool) -> Result<String, Fail> {
+    let taken = bench.meter.row(0).map_or(0, |row| row.turns);
+    let mut text = format!(in alloc; "{taken}:")?;
+    show_cells(alloc, &mut text, bench.node.cells())?;
+    text.push_str(if stop { " stop | " } else { " | " })?;
+    show_lines(&mut text, bench.into.noted())?;
     Ok(text)
 }
 
-/// The lines of a record, each with a `;` behind it.
-fn lines_of(alloc: Global, record: &[Noted]) -> Result<String, Fail> {
-    let mut lines = String::new(alloc);
-    for noted in record {
-        if let Noted::Line { text, .. } = noted {
-            lines.push_str(str::from_utf8(text.bytes())?)?;
-            lines.push(';')?;
-        }
-    }
-    Ok(lines)
+/// A node with these statements for the start, which may take so many turns.
+fn bench_of(alloc: Global, body: &str, turns: u64) -> Result<Bench, Fail> {
+    let source = format!(in alloc; "{DECLARED} on start {{ {body} }}")?;
+    Bench::make(alloc, &source, turns)
 }
 
-/// What these statements leave behind at the start of a node, where its procedure may take so many turns, at
-/// 1250 microseconds.
-fn left_by(alloc: Global, body: &str, turns: u64) -> Result<String, Fail> {
-    let source = format!(in alloc; "{DECLARED} on start {{ {body} }}")?;
-    let mut bench = Bench::make(alloc, &source, turns)?;
+/// Starts a node at 1250 microseconds, and tells whether it asks to stop.
+fn start(bench: &mut Bench) -> Result<bool, Fail> {
     bench.begin(Round::Start, 1250, None, b"")?;
-    let stop = if bench.step()? == Some(true) {
-        " stop"
-    } else {
-        ""
-    };
-    let taken = bench.meter.row(0).map_or(0, |row| row.turns);
-    let cells = cells_of(alloc, bench.node.cells())?;
-    let lines = lines_of(alloc, bench.into.noted())?;
-    Ok(format!(in alloc; "{taken}:{cells}{stop} | {lines}")?)
+    Ok(bench.step()? == Some(true))
+}
+
+/// What these statements leave behind at the start, where they may take so many turns.
+fn left_by(alloc: Global, body: &str, turns: u64) -> Result<String, Fail> {
+    let mut bench = bench_of(alloc, body, turns)?;
+    let stop = start(&mut bench)?;
+    shown(alloc, &bench, stop)
 }
 
 #[test]
