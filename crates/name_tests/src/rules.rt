@@ -24,20 +24,26 @@ fn offence(token: u32, number: u8) -> Option<Offence> {
     })
 }
 
-/// What a sum with a text and a number break outside of procedures.
+/// What a sum with a text breaks outside of procedures.
 fn check_sum(rt: &impl Abort, alloc: Global, names: &Names, calls: &Calls) -> Result<(), Fail>
     requires { AreCallsOf names.now calls.now }
 {
-    let scope = Scope::outside(names, 0);
     let program = program(alloc, "f() { 7 + \"a\"; }")?;
+    let sum = expression(&program)?;
     let mut first = None;
-    assert_eq!(rt;
-        judge(alloc, scope, calls, expression(&program)?, &mut first)?,
-        Sort::Bad
-    );
+    let sort = judge(alloc, Scope::outside(names, 0), calls, sum, &mut first)?;
+    assert_eq!(rt; sort, Sort::Bad);
     assert_eq!(rt; first, offence(6, 13));
+    Ok(())
+}
+
+/// A number breaks nothing.
+fn check_number(rt: &impl Abort, alloc: Global, names: &Names, calls: &Calls) -> Result<(), Fail>
+    requires { AreCallsOf names.now calls.now }
+{
+    let seven = number(7, 1);
     let mut none = None;
-    let sort = judge_integer(alloc, scope, calls, &number(7, 1), &mut none)?;
+    let sort = judge_integer(alloc, Scope::outside(names, 0), calls, &seven, &mut none)?;
     assert_eq!(rt; sort, Sort::Number(Kind::Long));
     assert_eq!(rt; none, None);
     Ok(())
@@ -65,6 +71,7 @@ fn expressions_are_judged(rt: HostRuntime) -> Result<(), Fail> {
     let names = Names::build(alloc, &program, None)?;
     let calls = Calls::build(alloc, &names)?;
     check_sum(&rt, alloc, &names, &calls)?;
+    check_number(&rt, alloc, &names, &calls)?;
     check_field(&rt, alloc, &names, &calls)
 }
 
@@ -78,10 +85,12 @@ fn first_of(alloc: Global, program: &Program) -> Result<Option<Offence>, Fail> {
 
 #[test]
 fn the_first_offence_of_a_program_is_told(rt: HostRuntime) -> Result<(), Fail> {
-    let alloc = rt.alloc();
-    let accepted = program(alloc, "on start { }")?;
-    assert_eq!(rt; first_of(alloc, &accepted)?, None);
-    let refused = program(alloc, "on start { break; continue; }")?;
-    assert_eq!(rt; first_of(alloc, &refused)?, offence(3, 22));
+    for (source, wanted) in [
+        ("on start { }", None),
+        ("on start { break; continue; }", offence(3, 22)),
+    ] {
+        let program = program(rt.alloc(), source)?;
+        assert_eq!(rt; first_of(rt.alloc(), &program)?, wanted);
+    }
     Ok(())
 }
