@@ -4,47 +4,61 @@ use arbitration::PlainBus;
 use bus_heap::HeapBus;
 use can_bus::{Bus, Ended, Waiting};
 use can_frame::{Frame, Ident};
+use std::process::Abort;
 use std::test::Fail;
+
+/// The empty data frame of this identifier.
+fn frame_of(number: u16) -> Result<Frame, Fail> {
+    let frame = Frame::make(Ident::Std(number), false, 0, [0; 8], 1);
+    Ok(frame.ok_or("a frame")?)
+}
+
+/// Requests these frames, each of a node.
+fn request_all(bus: &mut HeapBus, all: &[(u32, Frame)]) -> Result<(), Fail> {
+    for (node, frame) in all {
+        if bus.request(*node, frame).is_err() {
+            return Err("memory".into());
+        }
+    }
+    Ok(())
+}
+
+/// Before the first frame begins, the request of the node 0 for it stands first of three.
+fn check_waiting(rt: &impl Abort, bus: &HeapBus, first: Frame) {
+    let winner = Waiting {
+        node: 0,
+        number: 0,
+        frame: first,
+    };
+    assert!(rt; bus.waiting().first().is_some_and(|head| *head == winner));
+    assert_eq!(rt; bus.waiting().len(), 3);
+    assert_eq!(rt; bus.next_time(), Some(0));
+}
+
+/// The node 0 sends these frames, one after the other, and a request is left.
+fn check_turns(rt: &impl Abort, bus: &mut HeapBus, first: Frame, later: Frame) {
+    let ended = |frame| Some(Ended { node: 0, frame });
+    bus.arbitrate(0);
+    assert_eq!(rt; bus.finish(99), None);
+    assert_eq!(rt; bus.finish(100), ended(first));
+    assert_eq!(rt; bus.next_time(), Some(106));
+    bus.arbitrate(106);
+    assert_eq!(rt; bus.finish(200), ended(later));
+    assert_eq!(rt; bus.waiting().len(), 1);
+}
 
 // Three requests at moment 0 and 2 microseconds a bit. By a model of ISO 11898-1 apart from this code
 // the frame of identifier 0 has 50 bits, so it ends at 100, and the bus is free from 106 on; that of
 // identifier 1 has 47 bits, so it ends at 200.
 #[test]
 fn three_requests_go_in_order(rt: HostRuntime) -> Result<(), Fail> {
-    let later = Frame::make(Ident::Std(1), false, 0, [0; 8], 1).ok_or("a frame")?;
-    let first = Frame::make(Ident::Std(0), false, 0, [0; 8], 1).ok_or("a frame")?;
+    let first = frame_of(0)?;
+    let later = frame_of(1)?;
     let mut bus = HeapBus::make(rt.alloc(), 2);
     assert_eq!(rt; bus.next_time(), None);
-    for (node, frame) in [(1, later), (0, first), (0, later)] {
-        if bus.request(node, &frame).is_err() {
-            return Err("memory".into());
-        }
-    }
-    let (head, rest) = bus.waiting().split_first().ok_or("requests that wait")?;
-    let winner = Waiting {
-        node: 0,
-        number: 0,
-        frame: first,
-    };
-    assert_eq!(rt; *head, winner);
-    assert_eq!(rt; rest.len(), 2);
-    assert_eq!(rt; bus.next_time(), Some(0));
-    bus.arbitrate(0);
-    assert_eq!(rt; bus.waiting().len(), 2);
-    assert_eq!(rt; bus.finish(99), None);
-    let ended = Ended {
-        node: 0,
-        frame: first,
-    };
-    assert_eq!(rt; bus.finish(100), Some(ended));
-    assert_eq!(rt; bus.next_time(), Some(106));
-    bus.arbitrate(106);
-    let ended = Ended {
-        node: 0,
-        frame: later,
-    };
-    assert_eq!(rt; bus.finish(200), Some(ended));
-    assert_eq!(rt; bus.waiting().len(), 1);
+    request_all(&mut bus, &[(1, later), (0, first), (0, later)])?;
+    check_waiting(&rt, &bus, first);
+    check_turns(&rt, &mut bus, first, later);
     Ok(())
 }
 

@@ -5,12 +5,34 @@ use bus_pair::PairBus;
 use can_bus::{Bus, Ended};
 use can_frame::{Frame, Ident};
 use channel_pair::laws;
+use std::process::Abort;
 use std::test::Fail;
 
 /// The frame of identifier 0 and no bytes on this channel, as a node sends it.
 fn sent_by(node: u32, can: u8) -> Result<Ended, Fail> {
     let frame = Frame::make(Ident::Std(0), false, 0, [0; 8], can).ok_or("a frame")?;
     Ok(Ended { node, frame })
+}
+
+/// Requests a frame.
+fn request(bus: &mut PairBus, wanted: &Ended) -> Result<(), Fail> {
+    if bus.request(wanted.node, &wanted.frame).is_err() {
+        return Err("memory".into());
+    }
+    Ok(())
+}
+
+/// What is on the bus from moment 0 on ends at 100: these frames, in this order, and no other.
+fn check_ends(rt: &impl Abort, bus: &mut PairBus, ended: &[Ended]) {
+    assert_eq!(rt; bus.next_time(), Some(0));
+    bus.arbitrate(0);
+    assert_eq!(rt; bus.next_time(), Some(100));
+    assert_eq!(rt; bus.finish(99), None);
+    for wanted in ended {
+        assert_eq!(rt; bus.finish(100), Some(*wanted));
+    }
+    assert_eq!(rt; bus.finish(100), None);
+    assert_eq!(rt; bus.next_time(), None);
 }
 
 // A frame of channel 1 ends at 100. One of channel 2 is requested then, and begins at once, though channel
@@ -21,22 +43,12 @@ fn one_channel_does_not_wait_for_the_other(rt: HostRuntime) -> Result<(), Fail> 
     let two = sent_by(1, 2)?;
     let mut bus = PairBus::make(rt.alloc(), 2);
     assert_eq!(rt; bus.next_time(), None);
-    if bus.request(one.node, &one.frame).is_err() {
-        return Err("memory".into());
-    }
-    assert_eq!(rt; bus.next_time(), Some(0));
-    bus.arbitrate(0);
-    assert_eq!(rt; bus.next_time(), Some(100));
-    assert_eq!(rt; bus.finish(99), None);
-    assert_eq!(rt; bus.finish(100), Some(one));
-    assert_eq!(rt; bus.finish(100), None);
-    if bus.request(two.node, &two.frame).is_err() {
-        return Err("memory".into());
-    }
+    request(&mut bus, &one)?;
+    check_ends(&rt, &mut bus, &[one]);
+    request(&mut bus, &two)?;
     bus.arbitrate(100);
     assert_eq!(rt; bus.next_time(), Some(200));
     assert_eq!(rt; bus.finish(200), Some(two));
-    assert_eq!(rt; bus.next_time(), None);
     Ok(())
 }
 
@@ -46,18 +58,9 @@ fn two_frames_end_at_one_moment(rt: HostRuntime) -> Result<(), Fail> {
     let one = sent_by(0, 1)?;
     let two = sent_by(0, 2)?;
     let mut bus = PairBus::make(rt.alloc(), 2);
-    if bus.request(two.node, &two.frame).is_err() {
-        return Err("memory".into());
-    }
-    if bus.request(one.node, &one.frame).is_err() {
-        return Err("memory".into());
-    }
-    bus.arbitrate(0);
-    assert_eq!(rt; bus.next_time(), Some(100));
-    assert_eq!(rt; bus.finish(100), Some(one));
-    assert_eq!(rt; bus.finish(100), Some(two));
-    assert_eq!(rt; bus.finish(100), None);
-    assert_eq!(rt; bus.next_time(), None);
+    request(&mut bus, &two)?;
+    request(&mut bus, &one)?;
+    check_ends(&rt, &mut bus, &[one, two]);
     Ok(())
 }
 

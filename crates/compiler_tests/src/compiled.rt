@@ -8,7 +8,7 @@ ghost use Rattle.code_meaning.specs.Example.{endless_loop};
 ghost use Rattle.gen_stmt.specs.Example.{on_start};
 
 use crate::{CheckedRefusal, compile_checked};
-use bytecode::Instr;
+use bytecode::{Code, Instr, Verified};
 use capl_tree::{FileTree, Head, Proc, Program, Stmt, TopItem};
 use gen_stmt::{compile, make_code};
 use int_kinds::Kind;
@@ -77,31 +77,46 @@ fn endless_program(alloc: Global) -> Result<Typed, AllocError>
     Ok(typed)
 }
 
+/// The code of that program.
+fn compiled(alloc: Global) -> Result<Verified, Fail> {
+    let typed = endless_program(alloc)?;
+    let source = source(alloc)?;
+    Ok(compile(alloc, &source, &typed)?)
+}
+
 #[test]
 fn a_loop_is_compiled(rt: HostRuntime) -> Result<(), Fail> {
-    let source = source(rt.alloc())?;
-    let typed = endless_program(rt.alloc())?;
-    let code = compile(rt.alloc(), &source, &typed)?;
+    let code = compiled(rt.alloc())?;
     let instrs = [Instr::Push(1), Instr::Back(0), Instr::Ret];
     assert_eq!(rt; code.code().instrs.as_slice(), instrs.as_slice());
     Ok(())
 }
 
+/// That code before it is verified.
+fn listed(alloc: Global) -> Result<Code, Fail> {
+    let typed = endless_program(alloc)?;
+    Ok(make_code(alloc, &typed)?)
+}
+
 #[test]
 fn a_loop_tests_behind_its_body(rt: HostRuntime) -> Result<(), Fail> {
-    let typed = endless_program(rt.alloc())?;
-    let code = make_code(rt.alloc(), &typed)?;
+    let code = listed(rt.alloc())?;
     assert_eq!(rt; code.depths.as_slice(), [0, 1, 0].as_slice());
     Ok(())
 }
 
+/// Why a program with this statement is not compiled, if it is not.
+fn refusal_of(alloc: Global, statement: TStmt) -> Result<Option<CheckedRefusal>, Fail> {
+    let typed = on_start(alloc, statement)?;
+    let source = source(alloc)?;
+    Ok(compile_checked(alloc, &source, &typed).err())
+}
+
 #[test]
 fn soundness_is_asked_for(rt: HostRuntime) -> Result<(), Fail> {
-    let source = source(rt.alloc())?;
-    let typed = on_start(rt.alloc(), endless_loop(rt.alloc())?)?;
-    assert!(rt; compile_checked(rt.alloc(), &source, &typed).is_ok());
-    let typed = on_start(rt.alloc(), TStmt::Break)?;
-    let refusal = compile_checked(rt.alloc(), &source, &typed).err();
+    let refusal = refusal_of(rt.alloc(), TStmt::Empty)?;
+    assert_eq!(rt; refusal, None);
+    let refusal = refusal_of(rt.alloc(), TStmt::Break)?;
     assert_eq!(rt; refusal, Some(CheckedRefusal::Unsound));
     Ok(())
 }

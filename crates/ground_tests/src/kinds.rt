@@ -408,23 +408,43 @@ fn operators_answer_as_in_c(rt: HostRuntime) {
     }
 }
 
+/// Operands that are wrapped first.
+static WRAPPED: [(BinOp, Kind, i128, i128, Option<i128>); 8] = [
+    // The product of the two greatest numbers needs all 128 bits.
+    (BinOp::Mul, Kind::Qword, GREATEST, GREATEST, Some(1)),
+    (
+        BinOp::Mul,
+        Kind::Long,
+        0xffff_ffff_fffe_1235,
+        GREATEST,
+        Some(0x1_edcb),
+    ),
+    (BinOp::Add, Kind::Int64, GREATEST, GREATEST, Some(-2)),
+    (BinOp::Shr, Kind::Byte, 0x1ff, 7, Some(1)),
+    // A divisor that is 0 once it is wrapped.
+    (BinOp::Div, Kind::Byte, 1, 0x100, None),
+    (BinOp::Rem, Kind::Int, 1, 0x1_0000, None),
+    // The least number divided by -1.
+    (BinOp::Div, Kind::Int64, LEAST, -1, Some(LEAST)),
+    (BinOp::Rem, Kind::Int64, LEAST, -1, Some(0)),
+];
+
 #[test]
 fn operands_are_wrapped_first(rt: HostRuntime) {
-    // The product of the two greatest numbers needs all 128 bits.
-    assert_eq!(rt; mul(Kind::Qword, GREATEST, GREATEST), 1);
-    assert_eq!(rt; mul(Kind::Long, 0xffff_ffff_fffe_1235, GREATEST), 0x1_edcb);
-    assert_eq!(rt; add(Kind::Int64, GREATEST, GREATEST), -2);
-    assert_eq!(rt; shr(Kind::Byte, 0x1ff, 7), 1);
-    // A divisor that is 0 once it is wrapped.
-    assert_eq!(rt; div(Kind::Byte, 1, 0x100), None);
-    assert_eq!(rt; rem(Kind::Int, 1, 0x1_0000), None);
-    // The least number divided by -1.
-    assert_eq!(rt; div(Kind::Int64, LEAST, -1), Some(LEAST));
-    assert_eq!(rt; rem(Kind::Int64, LEAST, -1), Some(0));
-    assert_eq!(rt; neg(Kind::Long, -0x8000_0000), -0x8000_0000);
-    assert_eq!(rt; neg(Kind::Dword, 1), 0xffff_ffff);
-    assert_eq!(rt; inv(Kind::Int64, 0), -1);
-    assert_eq!(rt; inv(Kind::Char, 0x5a), 0xa5);
+    for &(op, k, a, b, result) in &WRAPPED {
+        assert!(rt; is_number(a) && is_number(b));
+        assert_eq!(rt; calculate(op, k, a, b), result, "{op:?} {k:?} {a} {b}");
+    }
+    for (k, a, negated, inverted) in [
+        (Kind::Long, -0x8000_0000, -0x8000_0000, 0x7fff_ffff),
+        (Kind::Dword, 1, 0xffff_ffff, 0xffff_fffe),
+        (Kind::Int64, 0, 0, -1),
+        (Kind::Char, 0x5a, 0xa6, 0xa5),
+    ] {
+        assert!(rt; is_number(a));
+        assert_eq!(rt; neg(k, a), negated);
+        assert_eq!(rt; inv(k, a), inverted);
+    }
 }
 
 #[test]

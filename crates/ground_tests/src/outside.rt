@@ -109,21 +109,54 @@ fn files_are_sought_beside_the_file_that_names_them(rt: HostRuntime) -> Result<(
     Ok(())
 }
 
+/// What a read of a file shall give.
+#[derive(Clone, Copy)]
+enum Want {
+    Bytes(&'static [u8]),
+    Failed,
+    TooLong,
+    Missing,
+}
+
+/// Whether the read of a file of this name, up to so many bytes, gives this.
+fn gives(
+    files: &mut impl Files,
+    alloc: Global,
+    name: &[u8],
+    limit: usize,
+    want: Want,
+) -> Result<bool, Fail> {
+    let name = Text::make(alloc, name)?;
+    Ok(match (files.read(alloc, &name, limit), want) {
+        (Ok(bytes), Want::Bytes(wanted)) => bytes.as_slice() == wanted,
+        (Err(FileRefusal::Failed), Want::Failed)
+        | (Err(FileRefusal::TooLong), Want::TooLong)
+        | (Err(FileRefusal::Missing), Want::Missing) => true,
+        _ => false,
+    })
+}
+
+/// Two files of one name, where the second read fails.
+fn files_in_memory(alloc: Global) -> Result<MemFiles, Fail> {
+    let mut entries = Vec::new(alloc);
+    for bytes in [[1, 2, 3].as_slice(), &[4]] {
+        entries.push((Text::make(alloc, b"a.can")?, bytes.to_vec(alloc)?))?;
+    }
+    Ok(MemFiles::new(entries, [2].to_vec(alloc)?))
+}
+
 #[test]
 fn files_in_memory_are_read(rt: HostRuntime) -> Result<(), Fail> {
-    let alloc = rt.alloc();
-    let name = Text::make(alloc, b"a.can")?;
-    let mut entries = Vec::new(alloc);
-    entries.push((Text::make(alloc, b"a.can")?, [1, 2, 3].to_vec(alloc)?))?;
-    entries.push((Text::make(alloc, b"a.can")?, [4].to_vec(alloc)?))?;
-    let mut files = MemFiles::new(entries, [2].to_vec(alloc)?);
-    assert!(rt;
-        matches!(files.read(alloc, &name, 3), Ok(bytes) if bytes.as_slice() == [1, 2, 3].as_slice())
-    );
-    assert!(rt; matches!(files.read(alloc, &name, 3), Err(FileRefusal::Failed)));
-    assert!(rt; matches!(files.read(alloc, &name, 2), Err(FileRefusal::TooLong)));
-    let other = Text::make(alloc, b"b.can")?;
-    assert!(rt; matches!(files.read(alloc, &other, 3), Err(FileRefusal::Missing)));
+    let mut files = files_in_memory(rt.alloc())?;
+    let rows: [(&[u8], usize, Want); 4] = [
+        (b"a.can", 3, Want::Bytes(&[1, 2, 3])),
+        (b"a.can", 3, Want::Failed),
+        (b"a.can", 2, Want::TooLong),
+        (b"b.can", 3, Want::Missing),
+    ];
+    for (name, limit, want) in rows {
+        assert!(rt; gives(&mut files, rt.alloc(), name, limit, want)?);
+    }
     Ok(())
 }
 
@@ -140,18 +173,17 @@ fn a_sink_in_memory_keeps_what_is_written(rt: HostRuntime) -> Result<(), Fail> {
 
 #[test]
 fn the_files_of_the_system_are_read(rt: HostRuntime) -> Result<(), Fail> {
-    let alloc = rt.alloc();
     fs::write(&rt, "held.txt", "seven b")?;
     let mut files = RealFiles::new(&rt);
-    let name = Text::make(alloc, b"held.txt")?;
-    assert!(rt;
-        matches!(files.read(alloc, &name, 7), Ok(bytes) if bytes.as_slice() == b"seven b".as_slice())
-    );
-    assert!(rt; matches!(files.read(alloc, &name, 6), Err(FileRefusal::TooLong)));
-    let missing = Text::make(alloc, b"missing.txt")?;
-    assert!(rt; matches!(files.read(alloc, &missing, 6), Err(FileRefusal::Missing)));
-    let folder = Text::make(alloc, b".")?;
-    assert!(rt; matches!(files.read(alloc, &folder, 6), Err(FileRefusal::Failed)));
+    let rows: [(&[u8], usize, Want); 4] = [
+        (b"held.txt", 7, Want::Bytes(b"seven b")),
+        (b"held.txt", 6, Want::TooLong),
+        (b"missing.txt", 6, Want::Missing),
+        (b".", 6, Want::Failed),
+    ];
+    for (name, limit, want) in rows {
+        assert!(rt; gives(&mut files, rt.alloc(), name, limit, want)?);
+    }
     fs::remove_file(&rt, "held.txt")?;
     Ok(())
 }

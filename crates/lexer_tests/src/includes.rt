@@ -175,53 +175,62 @@ fn chain(alloc: Global, count: u8, last: &[u8]) -> Result<MemFiles, Fail> {
     Ok(MemFiles::new(held, Vec::new(alloc)))
 }
 
+/// What a chain of 32 files comes to, of which the last has these bytes.
+fn chained(alloc: Global, last: &[u8]) -> Result<Result<Expanded, ExpandRefusal>, Fail> {
+    let name = Text::make(alloc, b"0")?;
+    let mut files = chain(alloc, 32, last)?;
+    Ok(expand(alloc, &mut files, &name))
+}
+
 #[test]
 fn there_are_at_most_32_files(rt: HostRuntime) -> Result<(), Fail> {
-    let alloc = rt.alloc();
-    let name = Text::make(alloc, b"0")?;
-    let whole = expand(alloc, &mut chain(alloc, 32, b"")?, &name);
+    let whole = chained(rt.alloc(), b"")?;
     assert!(rt; whole.is_ok_and(|expanded| expanded.files.len() == 32));
     for last in [b"#include \"P\"".as_slice(), b"#include \"none\""] {
-        let more = expand(alloc, &mut chain(alloc, 32, last)?, &name);
+        let more = chained(rt.alloc(), last)?;
         assert!(rt; is_wanted(&more, Want::Rule(b"0", None, b'E', 29)));
     }
     Ok(())
 }
 
-#[test]
-fn files_are_not_too_long(rt: HostRuntime) -> Result<(), Fail> {
-    let alloc = rt.alloc();
+/// What a file comes to that includes one of so many of this byte.
+fn answer(alloc: Global, byte: u8, count: usize) -> Result<Result<Expanded, ExpandRefusal>, Fail> {
     let name = Text::make(alloc, b"n")?;
-    let source = b"#include \"u\"";
-    let long = vec![in alloc; b' '; 1_048_577]?;
-    let mut files = files_of(alloc, &[(b"n", source), (b"u", &long)], Vec::new(alloc))?;
-    let answer = expand(alloc, &mut files, &name);
-    assert!(rt; is_wanted(&answer, Want::Rule(b"u", None, b'F', 2)));
-    let half = vec![in alloc; b';'; 150_000]?;
-    let mut files = files_of(alloc, &[(b"n", source), (b"u", &half)], Vec::new(alloc))?;
-    assert!(rt; expand(alloc, &mut files, &name).is_ok());
-    let rest = vec![in alloc; b';'; 299_999]?;
-    let mut files = files_of(alloc, &[(b"n", source), (b"u", &rest)], Vec::new(alloc))?;
-    assert!(rt; expand(alloc, &mut files, &name).is_ok());
-    let more = vec![in alloc; b';'; 300_000]?;
-    let mut files = files_of(alloc, &[(b"n", source), (b"u", &more)], Vec::new(alloc))?;
-    let answer = expand(alloc, &mut files, &name);
-    assert!(rt; is_wanted(&answer, Want::Rule(b"u", None, b'E', 4)));
-    Ok(())
+    let long = vec![in alloc; byte; count]?;
+    let entries: [(&[u8], &[u8]); 2] = [(b"n", b"#include \"u\""), (b"u", &long)];
+    let mut files = files_of(alloc, &entries, Vec::new(alloc))?;
+    Ok(expand(alloc, &mut files, &name))
 }
 
 #[test]
-fn a_failed_read_is_told(rt: HostRuntime) -> Result<(), Fail> {
-    let alloc = rt.alloc();
+fn files_are_not_too_long(rt: HostRuntime) -> Result<(), Fail> {
+    let both = Want::Files(&[b"u", b"n"]);
+    for (byte, count, want) in [
+        (b' ', 1_048_577, Want::Rule(b"u", None, b'F', 2)),
+        (b';', 150_000, both),
+        (b';', 299_999, both),
+        (b';', 300_000, Want::Rule(b"u", None, b'E', 4)),
+    ] {
+        assert!(rt; is_wanted(&answer(rt.alloc(), byte, count)?, want));
+    }
+    Ok(())
+}
+
+/// What two files come to that include one another, where the read of this number fails.
+fn failing(alloc: Global, read: u64) -> Result<Result<Expanded, ExpandRefusal>, Fail> {
     let name = Text::make(alloc, b"n")?;
     let entries: [(&[u8], &[u8]); 2] = [
         (b"n", b"#include \"u\" #include \"u\""),
         (b"u", b"#include \"n\""),
     ];
-    let mut files = files_of(alloc, &entries, vec![in alloc; 2]?)?;
-    assert!(rt; matches!(expand(alloc, &mut files, &name), Err(ExpandRefusal::Failed)));
-    // Each file is read once, so that there is no third read.
-    let mut files = files_of(alloc, &entries, vec![in alloc; 3]?)?;
-    assert!(rt; expand(alloc, &mut files, &name).is_ok());
+    let mut files = files_of(alloc, &entries, vec![in alloc; read]?)?;
+    Ok(expand(alloc, &mut files, &name))
+}
+
+// Each file is read once, so that there is no third read.
+#[test]
+fn a_failed_read_is_told(rt: HostRuntime) -> Result<(), Fail> {
+    assert!(rt; matches!(failing(rt.alloc(), 2)?, Err(ExpandRefusal::Failed)));
+    assert!(rt; failing(rt.alloc(), 3)?.is_ok());
     Ok(())
 }

@@ -38,8 +38,11 @@ fn is_expected(tok: &Tok, expected: Expected<'_>) -> bool {
     }
 }
 
+/// What a token shall be, where it begins and ends, its line and its column.
+type Row<'a> = (Expected<'a>, u32, u32, u32, u32);
+
 /// Each token is as expected, with its place, its line and its column.
-fn expect(rt: &impl Abort, tokens: &[Token], expected: &[(Expected<'_>, u32, u32, u32, u32)]) {
+fn expect(rt: &impl Abort, tokens: &[Token], expected: &[Row<'_>]) {
     assert!(rt; tokens.len() == expected.len());
     for (token, (tok, from, to, line, column)) in tokens.iter().zip(expected) {
         assert!(rt; is_expected(&token.tok, *tok));
@@ -48,103 +51,96 @@ fn expect(rt: &impl Abort, tokens: &[Token], expected: &[(Expected<'_>, u32, u32
     }
 }
 
-#[test]
-fn a_handler_has_its_tokens(rt: HostRuntime) -> Result<(), Fail> {
-    let tokens = lex(rt.alloc(), b"on start {\n\twrite(\"a b\");\n}")?;
-    let expected = [
-        (Expected::Word(Word::On), 0, 2, 1, 1),
-        (Expected::Name(b"start"), 3, 8, 1, 4),
-        (Expected::Sign(Sign::OpenBrace), 9, 10, 1, 10),
-        (Expected::Name(b"write"), 12, 17, 2, 2),
-        (Expected::Sign(Sign::OpenParen), 17, 18, 2, 7),
-        (Expected::Str(b"a b"), 18, 23, 2, 8),
-        (Expected::Sign(Sign::CloseParen), 23, 24, 2, 13),
-        (Expected::Sign(Sign::Semi), 24, 25, 2, 14),
-        (Expected::Sign(Sign::CloseBrace), 26, 27, 3, 1),
-    ];
-    expect(&rt, tokens.as_slice(), &expected);
-    Ok(())
-}
-
-#[test]
-fn numbers_have_their_values_and_marks(rt: HostRuntime) -> Result<(), Fail> {
-    let tokens = lex(
-        rt.alloc(),
+/// Texts with their tokens: what each is, where it begins and ends, its line and its column.
+const TEXTS: [(&[u8], &[Row<'static>]); 6] = [
+    (b"", &[]),
+    (
+        b"on start {\n\twrite(\"a b\");\n}",
+        &[
+            (Expected::Word(Word::On), 0, 2, 1, 1),
+            (Expected::Name(b"start"), 3, 8, 1, 4),
+            (Expected::Sign(Sign::OpenBrace), 9, 10, 1, 10),
+            (Expected::Name(b"write"), 12, 17, 2, 2),
+            (Expected::Sign(Sign::OpenParen), 17, 18, 2, 7),
+            (Expected::Str(b"a b"), 18, 23, 2, 8),
+            (Expected::Sign(Sign::CloseParen), 23, 24, 2, 13),
+            (Expected::Sign(Sign::Semi), 24, 25, 2, 14),
+            (Expected::Sign(Sign::CloseBrace), 26, 27, 3, 1),
+        ],
+    ),
+    (
         b"0x1 0x 0xx 12x 123abc 00x1 0X1Fx 0xg 0xfF 18446744073709551615 18446744073709551616",
-    )?;
-    let expected = [
-        (Expected::Num(Some(1)), 0, 3, 1, 1),
-        (Expected::Ext(Some(0)), 4, 6, 1, 5),
-        (Expected::Ext(Some(0)), 7, 9, 1, 8),
-        (Expected::Name(b"x"), 9, 10, 1, 10),
-        (Expected::Ext(Some(12)), 11, 14, 1, 12),
-        (Expected::Num(Some(123)), 15, 18, 1, 16),
-        (Expected::Name(b"abc"), 18, 21, 1, 19),
-        (Expected::Ext(Some(0)), 22, 25, 1, 23),
-        (Expected::Num(Some(1)), 25, 26, 1, 26),
-        (Expected::Ext(Some(31)), 27, 32, 1, 28),
-        (Expected::Ext(Some(0)), 33, 35, 1, 34),
-        (Expected::Name(b"g"), 35, 36, 1, 36),
-        (Expected::Num(Some(255)), 37, 41, 1, 38),
-        (Expected::Num(Some(u64::MAX)), 42, 62, 1, 43),
-        (Expected::Num(None), 63, 83, 1, 64),
-    ];
-    expect(&rt, tokens.as_slice(), &expected);
-    Ok(())
-}
+        &[
+            (Expected::Num(Some(1)), 0, 3, 1, 1),
+            (Expected::Ext(Some(0)), 4, 6, 1, 5),
+            (Expected::Ext(Some(0)), 7, 9, 1, 8),
+            (Expected::Name(b"x"), 9, 10, 1, 10),
+            (Expected::Ext(Some(12)), 11, 14, 1, 12),
+            (Expected::Num(Some(123)), 15, 18, 1, 16),
+            (Expected::Name(b"abc"), 18, 21, 1, 19),
+            (Expected::Ext(Some(0)), 22, 25, 1, 23),
+            (Expected::Num(Some(1)), 25, 26, 1, 26),
+            (Expected::Ext(Some(31)), 27, 32, 1, 28),
+            (Expected::Ext(Some(0)), 33, 35, 1, 34),
+            (Expected::Name(b"g"), 35, 36, 1, 36),
+            (Expected::Num(Some(255)), 37, 41, 1, 38),
+            (Expected::Num(Some(u64::MAX)), 42, 62, 1, 43),
+            (Expected::Num(None), 63, 83, 1, 64),
+        ],
+    ),
+    (
+        b"\xEF\xBB\xBF;\r\n,",
+        &[
+            (Expected::Sign(Sign::Semi), 3, 4, 1, 4),
+            (Expected::Sign(Sign::Comma), 6, 7, 2, 1),
+        ],
+    ),
+    (
+        b"1.5 1. 1.5.2 .5 0x1.5 1x.5 m.byte(1.)",
+        &[
+            (Expected::Float, 0, 3, 1, 1),
+            (Expected::Float, 4, 6, 1, 5),
+            (Expected::Float, 7, 10, 1, 8),
+            (Expected::Sign(Sign::Dot), 10, 11, 1, 11),
+            (Expected::Num(Some(2)), 11, 12, 1, 12),
+            (Expected::Sign(Sign::Dot), 13, 14, 1, 14),
+            (Expected::Num(Some(5)), 14, 15, 1, 15),
+            (Expected::Num(Some(1)), 16, 19, 1, 17),
+            (Expected::Sign(Sign::Dot), 19, 20, 1, 20),
+            (Expected::Num(Some(5)), 20, 21, 1, 21),
+            (Expected::Ext(Some(1)), 22, 24, 1, 23),
+            (Expected::Sign(Sign::Dot), 24, 25, 1, 25),
+            (Expected::Num(Some(5)), 25, 26, 1, 26),
+            (Expected::Name(b"m"), 27, 28, 1, 28),
+            (Expected::Sign(Sign::Dot), 28, 29, 1, 29),
+            (Expected::Word(Word::Byte), 29, 33, 1, 30),
+            (Expected::Sign(Sign::OpenParen), 33, 34, 1, 34),
+            (Expected::Float, 34, 36, 1, 35),
+            (Expected::Sign(Sign::CloseParen), 36, 37, 1, 37),
+        ],
+    ),
+    (
+        b"a//*\nb/*/ \n**/c/**/d/ *e /=//",
+        &[
+            (Expected::Name(b"a"), 0, 1, 1, 1),
+            (Expected::Name(b"b"), 5, 6, 2, 1),
+            (Expected::Name(b"c"), 14, 15, 3, 4),
+            (Expected::Name(b"d"), 19, 20, 3, 9),
+            (Expected::Sign(Sign::Slash), 20, 21, 3, 10),
+            (Expected::Sign(Sign::Star), 22, 23, 3, 12),
+            (Expected::Name(b"e"), 23, 24, 3, 13),
+            (Expected::Sign(Sign::SlashAssign), 25, 27, 3, 15),
+        ],
+    ),
+];
 
 #[test]
-fn the_byte_order_mark_is_counted(rt: HostRuntime) -> Result<(), Fail> {
-    let tokens = lex(rt.alloc(), b"\xEF\xBB\xBF;\r\n,")?;
-    let expected = [
-        (Expected::Sign(Sign::Semi), 3, 4, 1, 4),
-        (Expected::Sign(Sign::Comma), 6, 7, 2, 1),
-    ];
-    expect(&rt, tokens.as_slice(), &expected);
-    assert!(rt; lex(rt.alloc(), b"")?.is_empty());
-    Ok(())
-}
-
-#[test]
-fn each_reserved_word_is_one(rt: HostRuntime) -> Result<(), Fail> {
-    for word in Word::ALL {
-        let spelling = word.spelling();
-        assert!(rt; spelling.len() < 100);
-        let tokens = lex(rt.alloc(), spelling)?;
-        let [token] = tokens.as_slice() else {
-            assert!(rt; false);
-            return Ok(());
-        };
-        assert!(rt; is_expected(&token.tok, Expected::Word(word)));
+fn texts_have_their_tokens(rt: HostRuntime) -> Result<(), Fail> {
+    for (text, expected) in TEXTS {
+        assert!(rt; text.len() < 200);
+        let tokens = lex(rt.alloc(), text)?;
+        expect(&rt, tokens.as_slice(), expected);
     }
-    Ok(())
-}
-
-#[test]
-fn floats_take_the_digits_on_both_sides(rt: HostRuntime) -> Result<(), Fail> {
-    let tokens = lex(rt.alloc(), b"1.5 1. 1.5.2 .5 0x1.5 1x.5 m.byte(1.)")?;
-    let expected = [
-        (Expected::Float, 0, 3, 1, 1),
-        (Expected::Float, 4, 6, 1, 5),
-        (Expected::Float, 7, 10, 1, 8),
-        (Expected::Sign(Sign::Dot), 10, 11, 1, 11),
-        (Expected::Num(Some(2)), 11, 12, 1, 12),
-        (Expected::Sign(Sign::Dot), 13, 14, 1, 14),
-        (Expected::Num(Some(5)), 14, 15, 1, 15),
-        (Expected::Num(Some(1)), 16, 19, 1, 17),
-        (Expected::Sign(Sign::Dot), 19, 20, 1, 20),
-        (Expected::Num(Some(5)), 20, 21, 1, 21),
-        (Expected::Ext(Some(1)), 22, 24, 1, 23),
-        (Expected::Sign(Sign::Dot), 24, 25, 1, 25),
-        (Expected::Num(Some(5)), 25, 26, 1, 26),
-        (Expected::Name(b"m"), 27, 28, 1, 28),
-        (Expected::Sign(Sign::Dot), 28, 29, 1, 29),
-        (Expected::Word(Word::Byte), 29, 33, 1, 30),
-        (Expected::Sign(Sign::OpenParen), 33, 34, 1, 34),
-        (Expected::Float, 34, 36, 1, 35),
-        (Expected::Sign(Sign::CloseParen), 36, 37, 1, 37),
-    ];
-    expect(&rt, tokens.as_slice(), &expected);
     Ok(())
 }
 
@@ -214,6 +210,16 @@ const SIGNS: [(&[u8], Sign); 47] = [
 ];
 
 #[test]
+fn each_reserved_word_is_one(rt: HostRuntime) -> Result<(), Fail> {
+    for word in Word::ALL {
+        let spelling = word.spelling();
+        assert!(rt; spelling.len() < 100);
+        expect_one(&rt, rt.alloc(), spelling, Expected::Word(word))?;
+    }
+    Ok(())
+}
+
+#[test]
 fn each_sign_is_one(rt: HostRuntime) -> Result<(), Fail> {
     for (spelling, sign) in SIGNS {
         assert!(rt; spelling.len() < 4);
@@ -256,23 +262,6 @@ fn escapes_are_read(rt: HostRuntime) -> Result<(), Fail> {
     Ok(())
 }
 
-#[test]
-fn comments_are_passed_over(rt: HostRuntime) -> Result<(), Fail> {
-    let tokens = lex(rt.alloc(), b"a//*\nb/*/ \n**/c/**/d/ *e /=//")?;
-    let expected = [
-        (Expected::Name(b"a"), 0, 1, 1, 1),
-        (Expected::Name(b"b"), 5, 6, 2, 1),
-        (Expected::Name(b"c"), 14, 15, 3, 4),
-        (Expected::Name(b"d"), 19, 20, 3, 9),
-        (Expected::Sign(Sign::Slash), 20, 21, 3, 10),
-        (Expected::Sign(Sign::Star), 22, 23, 3, 12),
-        (Expected::Name(b"e"), 23, 24, 3, 13),
-        (Expected::Sign(Sign::SlashAssign), 25, 27, 3, 15),
-    ];
-    expect(&rt, tokens.as_slice(), &expected);
-    Ok(())
-}
-
 /// Texts with their bad places.
 const REFUSED: [(&[u8], u32, u32); 20] = [
     (b"on start { write(\"a); }", 1, 18),
@@ -310,19 +299,26 @@ fn a_text_is_refused_at_its_bad_place(rt: HostRuntime) {
     }
 }
 
+/// So many semicolons and then this text, read.
+fn read(alloc: Global, count: usize, text: &[u8]) -> Result<Result<usize, LexRefusal>, Fail> {
+    let mut bytes = vec![in alloc; b';'; count]?;
+    bytes.extend_from_slice(text)?;
+    if bytes.len() > 400_000 {
+        return Err("too long".into());
+    }
+    Ok(lex(alloc, &bytes).map(|tokens| tokens.len()))
+}
+
 #[test]
 fn more_tokens_than_the_limit_are_refused(rt: HostRuntime) -> Result<(), Fail> {
-    let mut text = vec![in rt.alloc(); b';'; TOKEN_LIMIT]?;
-    assert!(rt; text.len() < 400_000);
-    assert!(rt; lex(rt.alloc(), &text)?.len() == TOKEN_LIMIT);
-    text.push(b';')?;
-    assert!(rt; text.len() < 400_000);
-    assert!(rt; matches!(lex(rt.alloc(), &text), Err(LexRefusal::Many)));
-    text.push(b'`')?;
-    assert!(rt; text.len() < 400_000);
+    let most = read(rt.alloc(), TOKEN_LIMIT, b"")?;
+    assert!(rt; matches!(most, Ok(count) if count == TOKEN_LIMIT));
+    let many = read(rt.alloc(), TOKEN_LIMIT, b";")?;
+    assert!(rt; matches!(many, Err(LexRefusal::Many)));
+    let bad = read(rt.alloc(), TOKEN_LIMIT, b";`")?;
     assert!(rt;
         matches!(
-            lex(rt.alloc(), &text),
+            bad,
             Err(LexRefusal::Bad {
                 line: 1,
                 column: 300_002

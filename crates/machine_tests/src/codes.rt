@@ -50,6 +50,29 @@ fn formats(alloc: Global) -> Result<Items<Format>, AllocError> {
     Ok(Items::from_list(vec![in alloc; format]?))
 }
 
+/// Code without anything.
+fn empty(alloc: Global) -> Code {
+    Code {
+        instrs: Items::new(alloc),
+        depths: Items::new(alloc),
+        functions: Items::new(alloc),
+        handlers: Items::new(alloc),
+        cells: Items::new(alloc),
+        starts: Items::new(alloc),
+        timers: Items::new(alloc),
+        formats: Items::new(alloc),
+    }
+}
+
+/// Gives code its cells, timers and formats.
+fn fill(alloc: Global, code: &mut Code) -> Result<(), AllocError> {
+    code.cells = kinds(alloc)?;
+    code.starts = Items::from_list(vec![in alloc; (15, 7)]?);
+    code.timers = Items::from_list(vec![in alloc; 1000, 1_000_000]?);
+    code.formats = formats(alloc)?;
+    Ok(())
+}
+
 /// Code of one function, which gives nothing and which each of these events runs. After the event's cells
 /// there are a long, which begins with 7, and a message from cell 16 on. Format 0 is the line `go`.
 pub(crate) fn code(
@@ -58,16 +81,13 @@ pub(crate) fn code(
     depths: &[u32],
     events: Vec<Event>,
 ) -> Result<Code, AllocError> {
-    Ok(Code {
-        instrs: Items::from_list(instrs.to_vec(alloc)?),
-        depths: Items::from_list(depths.to_vec(alloc)?),
-        functions: functions(alloc, instrs.len())?,
-        handlers: handlers(alloc, events)?,
-        cells: kinds(alloc)?,
-        starts: Items::from_list(vec![in alloc; (15, 7)]?),
-        timers: Items::from_list(vec![in alloc; 1000, 1_000_000]?),
-        formats: formats(alloc)?,
-    })
+    let mut code = empty(alloc);
+    code.handlers = handlers(alloc, events)?;
+    code.instrs = Items::from_list(instrs.to_vec(alloc)?);
+    code.depths = Items::from_list(depths.to_vec(alloc)?);
+    code.functions = functions(alloc, instrs.len())?;
+    fill(alloc, &mut code)?;
+    Ok(code)
 }
 
 /// No list is as long as this.

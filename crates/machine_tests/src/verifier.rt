@@ -8,6 +8,14 @@ use run_effects::{Event, Selector};
 use std::alloc::{AllocError, Global};
 use std::test::Fail;
 
+/// The place of a refusal.
+fn place_of(refusal: &VerifyRefusal) -> Result<u32, Fail> {
+    match refusal {
+        VerifyRefusal::Unverified { place, .. } => Ok(*place),
+        VerifyRefusal::NoMemory => Err("memory".into()),
+    }
+}
+
 /// The first place whose rule fails, where one does.
 fn first_failure(alloc: Global, code: Code) -> Result<Option<u32>, Fail> {
     if !is_short(&code) {
@@ -15,8 +23,7 @@ fn first_failure(alloc: Global, code: Code) -> Result<Option<u32>, Fail> {
     }
     match verify(alloc, code) {
         Ok(_) => Ok(None),
-        Err(VerifyRefusal::Unverified { place, .. }) => Ok(Some(place)),
-        Err(VerifyRefusal::NoMemory) => Err("memory".into()),
+        Err(refusal) => Ok(Some(place_of(&refusal)?)),
     }
 }
 

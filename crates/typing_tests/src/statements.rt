@@ -12,8 +12,8 @@ use std::test::Fail;
 use type_statements::{StatementTables, make_alone, make_body, make_statement};
 use typed_tree::TStmt;
 
-/// What the calls make of a `break`, of two statements and of a `write`, outside of procedures.
-pub(crate) fn check_made(
+/// What is made of a `break`, and of two statements, outside of procedures.
+fn check_body(
     rt: &impl Abort,
     alloc: Global,
     names: &Names,
@@ -29,10 +29,36 @@ pub(crate) fn check_made(
     let made = make_body(alloc, scope, tables, &mut formats, body.as_slice())?;
     assert_eq!(rt; made.len(), 2);
     assert_eq!(rt; formats.len(), 0);
+    Ok(())
+}
+
+/// What is made of a `write`, outside of procedures.
+fn check_write(
+    rt: &impl Abort,
+    alloc: Global,
+    names: &Names,
+    tables: &StatementTables,
+) -> Result<(), Fail>
+    requires { AreTables names.now tables.now }
+{
     let program = program(alloc, "f() { write(\"%d\", 7); }")?;
     let write = expression(&program)?;
-    let made = make_alone(alloc, scope, tables, &mut formats, write)?;
+    let mut formats = Vec::new(alloc);
+    let made = make_alone(alloc, Scope::outside(names, 0), tables, &mut formats, write)?;
     assert!(rt; matches!(&made, TStmt::Write { format: 0, .. }));
     assert_eq!(rt; formats.len(), 1);
     Ok(())
+}
+
+/// What the calls make of a `break`, of two statements and of a `write`, outside of procedures.
+pub(crate) fn check_made(
+    rt: &impl Abort,
+    alloc: Global,
+    names: &Names,
+    tables: &StatementTables,
+) -> Result<(), Fail>
+    requires { AreTables names.now tables.now }
+{
+    check_body(rt, alloc, names, tables)?;
+    check_write(rt, alloc, names, tables)
 }

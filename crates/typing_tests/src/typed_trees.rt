@@ -1,6 +1,7 @@
 // Where type_expressions lays variables, and the trees of an expression, a place, arguments and statements.
 
 ghost use Rattle.type_expressions.specs.Made.{AreTreeTables};
+ghost use Rattle.type_expressions.specs.Layout.{IsLayoutOf};
 
 use super::statements::check_made;
 use capl_meaning::Sort;
@@ -18,6 +19,25 @@ use type_expressions::{
 use type_statements::StatementTables;
 use typed_tree::TExpr;
 
+/// Variables lie one behind the other.
+fn check_layout(rt: &impl Abort, layout: &Layout) {
+    assert_eq!(rt; layout.slot(0), 15);
+    assert_eq!(rt; layout.slot(2), 29);
+    assert_eq!(rt; layout.timer(1), 0);
+    assert_eq!(rt; layout.elements(2), 0);
+}
+
+/// Cells have kinds, and timers units.
+fn check_cells(rt: &impl Abort, alloc: Global, names: &Names, layout: &Layout) -> Result<(), Fail>
+    requires { IsLayoutOf names.now layout.now }
+{
+    let kinds = cell_kinds(alloc, names, layout)?;
+    assert_eq!(rt; kinds.len(), 30);
+    assert_eq!(rt; kinds.as_slice().get(29).copied(), Some(Kind::Byte));
+    assert_eq!(rt; timer_units(alloc, names)?.as_slice(), [1_000].as_slice());
+    Ok(())
+}
+
 #[test]
 fn variables_lie_one_behind_the_other(rt: HostRuntime) -> Result<(), Fail> {
     let alloc = rt.alloc();
@@ -25,14 +45,8 @@ fn variables_lie_one_behind_the_other(rt: HostRuntime) -> Result<(), Fail> {
     let names = Names::build(alloc, &program, None)?;
     let constants = Constants::build(alloc, &names)?;
     let layout = Layout::build(alloc, &names, &constants)?.ok_or("it has few cells")?;
-    assert_eq!(rt; layout.slot(0), 15);
-    assert_eq!(rt; layout.slot(2), 29);
-    assert_eq!(rt; layout.timer(1), 0);
-    assert_eq!(rt; layout.elements(2), 0);
-    let kinds = cell_kinds(alloc, &names, &layout)?;
-    assert_eq!(rt; kinds.len(), 30);
-    assert_eq!(rt; kinds.as_slice().get(29).copied(), Some(Kind::Byte));
-    assert_eq!(rt; timer_units(alloc, &names)?.as_slice(), [1_000].as_slice());
+    check_layout(&rt, &layout);
+    check_cells(&rt, alloc, &names, &layout)?;
     Ok(())
 }
 
