@@ -1,7 +1,7 @@
 #!/usr/bin/env python3
 """Tries a built program on scenarios that chance makes and breaks.
 
-    fuzz.py PROGRAM [--seed N] [--seconds N | --cases N] [--first N] [--keep FOLDER]
+    fuzz.py PROGRAM [--seed N] [--seconds N | --cases N] [--first N] [--most SECONDS] [--keep FOLDER]
     fuzz.py PROGRAM --self-test
 
 A case is made of the seed and its number alone: a scenario with its sources and perhaps a database (grammar.py), of
@@ -9,7 +9,7 @@ which three in five are then broken in bytes, lines or tokens. The program runs 
 to what can be seen without a second implementation:
 
     form        a status that fits what was written, lines of the documented forms, moments that do not fall, nothing
-                on standard error, at most a second of processor time
+                on standard error, at most a second of processor time (or --most, for a program without optimisation)
     again       the same bytes when run again
     refusals    all commands refuse with the same line, or none does: `check` is `ok` exactly where `run` is done
     parts       `run` is the lines of `window` and of `log`
@@ -632,14 +632,16 @@ def arguments():
     parser.add_argument("--seconds", type=float, default=60)
     parser.add_argument("--cases", type=int)
     parser.add_argument("--first", type=int, default=0)
+    parser.add_argument("--most", type=float, default=MOST)
     parser.add_argument("--keep", type=lambda it: pathlib.Path(it).resolve())
     parser.add_argument("--self-test", action="store_true")
     return parser.parse_args()
 
 
 def main():
+    global MOST
     words = arguments()
-    words.quiet = False
+    words.quiet, MOST = False, words.most
     fast = "/dev/shm" if os.access("/dev/shm", os.W_OK) else None
     with tempfile.TemporaryDirectory(prefix="fuzz-", dir=fast) as keep:
         if words.self_test:
