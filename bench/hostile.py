@@ -34,7 +34,7 @@ DATABASE = 16 << 20
 LOG = 64 << 20
 DAY = 86_400_000
 
-# Names of 8 bytes whose SipHash-1-3 without a seed, of their length and their bytes, has the same lowest 12 bits.
+# Names of 8 bytes whose SipHash-1-3 without a seed, of their length and their bytes, has the same lowest 10 bits.
 SEARCH = r"""
 #include <stdint.h>
 #include <stdio.h>
@@ -80,7 +80,7 @@ int main(int count, char **words)
         for (int at = 7; at >= 0; at--, rest /= 26) text[at] = 'a' + rest % 26;
         text[8] = 0;
         memcpy(&name, text, 8);
-        if (hash(name) % 4096) continue;
+        if (hash(name) % 1024) continue;
         puts(text);
         found++;
     }
@@ -170,6 +170,39 @@ def nesting(kind):
         head = "variables { long b[9]; } long f(long x) { return x; } on start { long a; "
         return single(head + piece * ((count - 40) // tokens) + " }")
     return made
+
+
+# ---- rows
+
+
+def labels(count):
+    """A `switch` with so many labels."""
+    cases = "".join(f"case {it}:;" for it in range(count))
+    return single(f"on start {{ long a; switch(a) {{ {cases} }} }}")
+
+
+def chain_of_calls(count):
+    """So many functions of which each calls the one before, and the last one is called."""
+    functions = "".join(f"void f{it}(){{f{it - 1}();}}" for it in range(1, count))
+    return single(f"void f0(){{}}{functions} on start {{ f{count - 1}(); }}", f"turns {count}")
+
+
+def locals_of_one(count):
+    """So many variables of one procedure, each of which is used."""
+    return single("on start { " + "".join(f"byte v{it};v{it}=1;" for it in range(count)) + "}")
+
+
+def procedures(count):
+    """So many procedures for messages and timers, each with a selector or a timer of its own."""
+    names = [f"t{it}" for it in range(count // 2)]
+    events = "".join(f"on timer {name}{{}}on message {it}x{{}}" for it, name in enumerate(names))
+    return single(f"variables {{ msTimer {','.join(names)}; }} {events}")
+
+
+def past_selectors(count):
+    """A node with so many selectors, and frames for a second that are none of them."""
+    rest = "variables { message 0x1FFFFFFFx m = {dlc = 0}; } on start { output(m); } on message * { output(this); }"
+    return single(rest + " on message " + ",".join(f"{it}x" for it in range(count)) + " { }", "until 1000")
 
 
 # ---- files
@@ -275,6 +308,9 @@ INPUTS = {
     "globals with equal beginnings": (long_names, 1000),
     "messages whose names collide": (colliding_messages, 120_000),
     **{f"nesting of {kind}": (nesting(kind), TOKENS) for kind in NESTED},
+    "labels of a switch": (labels, 60_000), "calls in a chain": (chain_of_calls, 25_000),
+    "variables of one procedure": (locals_of_one, 30_000), "procedures": (procedures, 30_000),
+    "frames past selectors": (past_selectors, 130_000),
     "lines that include one file": (include_lines, 65_535), "files that include all": (includes_of_all, 250_000),
     "a string of a database": (one_statement('VERSION "', "x", '"'), DATABASE),
     "nodes in one statement": (one_statement("BU_:", " A", ""), DATABASE),
@@ -321,23 +357,24 @@ def timed(program, folder, core):
         _, status, usage = os.wait4(run.pid, 0)
         run.returncode = os.waitstatus_to_exitcode(status)
         out.seek(0)
-        first = out.readline(40).decode(errors="replace").rstrip()
+        first = out.readline(60).decode(errors="replace").rstrip()
     return run.returncode, first, usage.ru_utime + usage.ru_stime, usage.ru_maxrss / 1000
 
 
 def greatest(words, folder, name):
-    """The greatest size of an input up to its own that is not refused for its cells or weight."""
-    def is_taken(size):
-        """Whether a size is not refused by E29."""
+    """The greatest size of an input up to its own that is not refused for its cells or weight, or none where the
+    program does not take such an input yet."""
+    def rule(size):
+        """The end of what is written first for a size."""
         write(folder, name, size)
-        return not timed(words.program, folder, words.core)[1].endswith(" E29")
+        return timed(words.program, folder, words.core)[1][-4:]
 
     low, high = 0, INPUTS[name][1]
-    if is_taken(high):
-        return high
+    if (found := rule(high)) != " E29":
+        return high if found != " N01" else None
     while high - low > 1000:
         middle = (low + high) // 2
-        low, high = (middle, high) if is_taken(middle) else (low, middle)
+        low, high = (low, middle) if rule(middle) == " E29" else (middle, high)
     return low
 
 
@@ -373,9 +410,9 @@ def main():
     with tempfile.TemporaryDirectory(prefix="hostile-bench-") as temporary:
         folder = pathlib.Path(temporary) / "input"
         for name in names:
-            size = greatest(words, folder, name)
-            report(words, folder, name, size // 2)
-            report(words, folder, name, size)
+            if size := greatest(words, folder, name):
+                report(words, folder, name, size // 2)
+                report(words, folder, name, size)
 
 
 if __name__ == "__main__":

@@ -16,8 +16,9 @@ a task of every node. With 64 nodes that is some 115,000 tasks in a simulated se
 For 1, 2, 4 and so on up to 64 nodes, or the numbers given, the program runs the command (`profile`, which
 writes least) so many rounds, 5 if not given, pinned to one core. A row tells the frames, tasks and turns of
 the run, the median, the least and the greatest of its processor seconds, by the median the microseconds of
-a task and how many times faster than the bus it went, and the most memory. With --picks so many random
-picks, the same in each run, say which node comes next, as long as they last.
+a task and how many times faster than the bus it went, and the most memory: of the program, or of this script
+before the program took its place, whichever is more. With --picks so many random picks, the same in each run,
+say which node comes next, as long as they last.
 
 Before that it looks whether the frames of the log, each seen by all nodes, are the runs of the message
 procedures in the profile, and stops where they are not. With --write the scenario is kept in a folder, and

@@ -2,6 +2,7 @@
 """Refuses memory to a built program, request by request.
 
     memory.py PROGRAM [--deep] [--runs N]
+    memory.py PROGRAM --stack
 
 Each input runs under limits of address space that rise page by page, from the least under which the program begins
 with the first input up to where the answer is whole, and with an allocator, compiled by gcc and loaded before that of
@@ -14,6 +15,8 @@ a log where the program takes that. With --deep there is one more, whose `if` ne
 grows while there is no room for it, which no program can answer, so that some runs end by SIGSEGV.
 
 A line for each input tells how many runs there were, and over what. The status is 1 where a run ended otherwise.
+
+With --stack it tells instead with how much stack each of the deepest nestings of sources is taken.
 """
 import argparse
 import os
@@ -65,6 +68,19 @@ void *realloc(void *old, size_t size)
     return NULL;
 }
 """
+
+
+# The deepest nestings that a source may have, each as the text of a procedure.
+NESTED = {
+    "nothing": "", "if, 198": "if (1) " * 198 + ";", "blocks, 199": "{" * 199 + "}" * 199,
+    "while, 198": "while (0) " * 198 + ";", "for, 198": "for (;0;) " * 198 + ";",
+    "do, 99": "do " * 99 + ";" + " while (0);" * 99, "switch, 60": "switch (1) { case 1: " * 60 + "}" * 60,
+    "calls, 198": "a = " + "f(" * 198 + "0" + ")" * 198 + ";",
+    "parentheses, 198": "a = " + "(" * 198 + "0" + ")" * 198 + ";",
+    "indices, 198": "a = " + "b[" * 198 + "0" + "]" * 198 + ";", "casts, 198": "a = " + "(long)" * 198 + "0;",
+    "signs, 198": "a = " + "- " * 198 + "1;", "sums, 198": "a = 1" + "+1" * 198 + ";",
+    "assignments, 199": "a = " * 199 + "0;", "?:, 99": "a = " + "1 ? " * 99 + "1" + " : 1" * 99 + ";",
+}
 
 
 class Input:
@@ -191,6 +207,25 @@ def under_refusals(one, allocator, most):
     return faults, f"{len(numbers)} runs that refuse of {count} requests"
 
 
+def least_stack(program, folder):
+    """The least stack with which a scenario is taken, in bytes."""
+    low, high = 0, 8 << 20
+    while high - low > 1024:
+        middle = (low + high) // 2
+        limit = lambda: resource.setrlimit(resource.RLIMIT_STACK, (middle, middle))
+        done = subprocess.run([program, "check", "s.scn"], cwd=folder, capture_output=True, preexec_fn=limit)
+        low, high = (low, middle) if done.returncode == 0 else (middle, high)
+    return high
+
+
+def tell_stacks(program, folder):
+    """Prints with how much stack each of the deepest nestings is taken."""
+    for number, (name, text) in enumerate(NESTED.items()):
+        source = f"variables {{ long b[2]; }} long f(long x) {{ return x; }} on start {{ long a; {text} }}"
+        where = written(folder / str(number), {"s.scn": scenario(), "n.can": source})
+        print(f"{name}: {least_stack(program, where) / 1024:.0f} KB", flush=True)
+
+
 def built(folder):
     """The allocator, compiled, or none where it cannot be."""
     if not shutil.which("gcc"):
@@ -205,11 +240,15 @@ def main():
     parser = argparse.ArgumentParser(description=__doc__, formatter_class=argparse.RawDescriptionHelpFormatter)
     parser.add_argument("program", type=lambda it: str(pathlib.Path(it).resolve()))
     parser.add_argument("--deep", action="store_true")
+    parser.add_argument("--stack", action="store_true")
     parser.add_argument("--runs", type=int, default=3000)
     words = parser.parse_args()
     bad = 0
     with tempfile.TemporaryDirectory(prefix="memory-") as keep:
         folder = pathlib.Path(keep)
+        if words.stack:
+            tell_stacks(words.program, folder)
+            return 0
         allocator = built(folder)
         if not allocator:
             print("no gcc, so only the limits are tried")
