@@ -16,12 +16,14 @@ to what can be seen without a second implementation:
     picks       with other picks the same log, profile and lines of each node
     prefix      where the output takes only some bytes: status 4, and these bytes of the answer
     reads       where a file that is read cannot be: status 3, and nothing; where it is not there: F01 or E07
-    layout      with other blanks and comments between the tokens the same window and log
+    layout      with other blanks and comments between the tokens, and other names of variables, timers and functions,
+                the same lines
     end         with a shorter run the lines up to its end
     silence     with one more node, whose source is empty, the same lines
     replay      a recorded log replayed gives itself, also where lines that are passed over were put into it; only
                 where the program takes `replay`
     words       words that are no command: status 2, and nothing
+    constants   a constant has the number that its expression has when it is evaluated in a run
 
 The default is 60 seconds from seed 1. With --first the cases begin at another number, so that one case can be tried
 alone: `--first N --cases 1`. A case with a fault is made smaller as long as the fault stays, and kept in a folder
@@ -341,8 +343,12 @@ def of_reads(trial):
 
 
 def of_layout(trial):
-    """Blanks and comments between tokens change nothing but the lines that are told."""
-    changes = {name: grammar.laid_out(trial.chance, tokens) for name, tokens in trial.case.tokens.items()}
+    """Blanks and comments between tokens, and other names of what a program declares, change no line."""
+    changes = dict(trial.case.tokens)
+    if all(name in changes for name in trial.case.files if name.endswith((".can", ".cin"))):
+        seed = trial.chance.randrange(10**6)
+        changes = {name: grammar.renamed(seed, tokens) for name, tokens in changes.items()}
+    changes = {name: grammar.laid_out(trial.chance, tokens) for name, tokens in changes.items()}
     if changes:
         for command in ("run", "check"):
             yield from differ(command, lines_of(trial.run(command, changes).out), lines_of(trial.said[command].out))
@@ -384,6 +390,22 @@ def of_replay(trial):
     told = trial.run("window", changes).out
     want = b"w 0.000000 replay skipped %d\n" % skipped if skipped else b""
     yield from differ("window", [told], [want])
+
+
+def faults_of_constants(place, chance):
+    """What is wrong with a constant: its number is that of the same expression when it is evaluated in a run."""
+    text = " ".join(grammar.constant(chance, 4))
+    write = 'write("%I64d %I64d %I64u", {}, v, q);'
+    source = (f"variables {{ const int64 c = {text}; int64 v = {text}; qword q = {text}; }} "
+              f"on start {{ {write.format('c')} v = {text}; q = {text}; {write.format('v')} }}")
+    case = grammar.Case({"s.scn": b"scenario 1\nnode N n.can\n", "n.can": source.encode()}, {})
+    place.lay(case)
+    ended = place.run(["window", "s.scn"])
+    lines = lines_of(ended.out)
+    if ended.status == 1 and re.fullmatch(rb"refused n.can:1 E19\n", ended.out):
+        return
+    if ended.status or ended.err or len(lines) != 2 or lines[0] != lines[1]:
+        yield f"constants: {text}: status {ended.status}, wrote {ended.out[:200]!r}"
 
 
 def faults_of_words(place, chance):
@@ -539,7 +561,8 @@ def fuzz(program, words, folder, enough=lambda faults: False):
     number, faulty = words.first, 0
     while time.monotonic() < end and (words.cases is None or number < words.first + words.cases):
         case, chance = made(words.seed, number, place.takes_replay)
-        faults = Trial(place, case, chance).faults() + list(faults_of_words(place, chance))
+        faults = Trial(place, case, chance).faults()
+        faults += [*faults_of_words(place, chance), *faults_of_constants(place, chance)]
         number += 1
         if faults:
             faulty += 1
@@ -592,6 +615,7 @@ WRONG = {
     "lines by the comments": ("layout", where(r"grep -qr '/\*' --include=*.can .", "1d")),
     "lines by the end": ("end", where('grep -q "^until 300$" "$2"', "1d")),
     "lines by the number of nodes": ("silence", where('grep -q Silent "$2"', "1d")),
+    "a constant with another number": ("constants", where("grep -qs 'const int64 c =' n.can", "1s/..$/7/")),
     "status 0 for no command": ("words", 'P "$@"; s=$?; [ $s != 2 ] || exit 0; exit $s'),
 }
 WRONG_REPLAY = {"a replay that loses a frame": ("replay", where('grep -q ^replay "$2"', "1d"))}

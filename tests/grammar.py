@@ -4,6 +4,8 @@
 laid out in several ways; all else is bytes. Nothing here knows what a run has to write.
 """
 import dataclasses
+import random
+import re
 
 KINDS = ["byte", "word", "dword", "qword", "int", "long", "int64", "char"]
 BINARY = ["+", "-", "*", "&", "|", "^", "<<", ">>", "==", "!=", "<", "<=", ">", ">=", "&&", "||"]
@@ -433,6 +435,27 @@ class Writer:
         for _ in range(self.chance.randrange(4)):
             parts.append(self.function())
         return parts + [self.event(head) for head in self.events()]
+
+
+def constant(chance, depth):
+    """A constant expression of numbers."""
+    if depth == 0 or chance.random() < 0.1:
+        return Writer(chance, []).literal()
+    part = lambda: constant(chance, depth - 1)
+    way = chance.randrange(5)
+    if way == 0:
+        return ["(", chance.choice(KINDS), ")", "(", *part(), ")"]
+    if way == 1:
+        return [chance.choice(["-", "+", "!", "~"]), "(", *part(), ")"]
+    if way == 2:
+        return ["(", *part(), "?", *part(), ":", *part(), ")"]
+    return ["(", *part(), chance.choice([*BINARY, "/", "%"]), *part(), ")"]
+
+
+def renamed(seed, tokens):
+    """The same tokens with other names for what a program declares, by a seed."""
+    other = lambda name: f"{random.Random(f'{seed} {name}').choice('abcXYZ')}{seed}{name}"
+    return [other(it) if re.fullmatch(r"[vmtfp]\d+", it) else it for it in tokens]
 
 
 def node_files(chance, number, messages):
