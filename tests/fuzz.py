@@ -463,6 +463,37 @@ def broken_words(chance, data):
     return b"".join(parts)
 
 
+def sort_of(token):
+    """What a token can be replaced by and mostly still be spelled right: a kind, a name, a number or an operator."""
+    if token in grammar.KINDS or token in ("float", "double"):
+        return "kind"
+    if token.startswith("#include"):
+        return "include"
+    if token in grammar.BINARY or token in ("/", "%"):
+        return "operator"
+    if token in grammar.ASSIGNMENTS:
+        return "assignment"
+    if re.fullmatch(r"[vmtfp]\d+|this|RX|TX|rx|id|dlc|rtr|dir|time|Msg\d+|Sig\d+", token):
+        return "name"
+    if re.fullmatch(r"\w+|'.*'|\".*\"", token) and (token[0].isdigit() or token[0] in "'\""):
+        return "constant"
+    return token
+
+
+def other_meaning(chance, case, name):
+    """The tokens of a source with one in place of another of its sort, so that it mostly is spelled right and means
+    something else, or breaks a rule on what it means."""
+    tokens = list(case.tokens[name])
+    others = [it for some in case.tokens.values() for it in some] + [str(it) for it in grammar.EDGES]
+    others += ["this", "float", "#include \"\"", "#include \"none\\cin\""]
+    for _ in range(20):
+        at, other = chance.randrange(len(tokens) or 1), chance.choice(others)
+        if tokens and sort_of(tokens[at]) == sort_of(other) and tokens[at] != other:
+            tokens[at] = other
+            break
+    return tokens
+
+
 def broken_tokens(chance, case, name):
     """The tokens of a source with some dropped, doubled, repeated or in place of others, also of another file."""
     tokens = list(case.tokens[name])
@@ -480,8 +511,9 @@ def break_case(chance, case):
     """Breaks a case in some places. Of a source of which more than the tokens is broken no tokens are known."""
     for _ in range(chance.choice([1, 1, 1, 2, 3])):
         name = chance.choice(sorted(case.files))
-        if name in case.tokens and chance.random() < 0.5:
-            case.tokens[name] = broken_tokens(chance, case, name)
+        if name in case.tokens and chance.random() < 0.7:
+            way = chance.choice([other_meaning, other_meaning, broken_tokens])
+            case.tokens[name] = way(chance, case, name)
             case.files[name] = grammar.plain(case.tokens[name])
         else:
             case.tokens.pop(name, None)
