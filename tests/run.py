@@ -18,6 +18,7 @@ the same `-` and word: `words-log`, `stdout-log`, `status-log`.
 Each scenario runs in a copy of its folder, for at most 60 seconds, and nothing
 may stand on standard error. Then examples/body-bus runs under random picks: its frames,
 the lines of each of its nodes and its profile have to be the same under all of them.
+At each bit rate its log is replayed to a node without procedures, which has to give the same log.
 Last `capl` is tried: without words and when asked for help,
 in a checkout with the released program and nothing built, where that program is of the
 sources, and in one whose sources are others, where it has to build and cannot.
@@ -29,6 +30,7 @@ import hashlib
 import os
 import pathlib
 import random
+import re
 import resource
 import shutil
 import subprocess
@@ -47,6 +49,9 @@ BUS = ROOT / "examples" / "body-bus"
 LISTS = 20
 PICKS = 1000
 SEED = 20
+
+# What a scenario may say of the bit rate, as docs/scenario.md has it.
+RATES = (10000, 12500, 15625, 20000, 25000, 31250, 40000, 50000, 62500, 100000, 125000, 200000, 250000, 500000, 1000000)
 
 
 def trials_of(group):
@@ -178,6 +183,24 @@ def faults_of_picks(program):
     return faults
 
 
+def faults_of_replays(program, rate):
+    """What is wrong with the log of BUS at a bit rate, as it is replayed to a node without procedures."""
+    with tempfile.TemporaryDirectory() as keep:
+        work = pathlib.Path(keep) / "work"
+        copied(BUS, work)
+        text = (work / "body.scn").read_text().replace("bitrate 125000\n", f"bitrate {rate}\n")
+        (work / "body.scn").write_text(text)
+        items = re.findall("(?m)^(?:bitrate|until|interface) .*\n", text)
+        (work / "again.scn").write_text("".join(["scenario 1\n", "node Silent silent.can\n", *items, "replay r.log\n"]))
+        (work / "silent.can").write_text("")
+        log = started(program, ["log", "body.scn"], work, stdout=subprocess.PIPE).stdout
+        (work / "r.log").write_bytes(log)
+        again = started(program, ["run", "again.scn"], work, stdout=subprocess.PIPE).stdout
+    if f"bitrate {rate}\n" not in items or not log:
+        return [f"no run at the rate: {items}, {len(log)} bytes"]
+    return [] if again == log else [f"replayed {again[:400]!r}, not {log[:400]!r}"]
+
+
 def called(script, *words, **how):
     """Calls capl with words, and gives status, output and error output."""
     done = subprocess.run([script, *words], stdin=subprocess.DEVNULL, capture_output=True, timeout=SECONDS, **how)
@@ -238,6 +261,8 @@ def main():
     trials = [(f"{folder.relative_to(ROOT)}{which}", faults_of(program, folder, which))
               for group in ("examples", "tests/cases") for folder, which in trials_of(group)]
     trials += [("examples/body-bus under random picks", faults_of_picks(program))]
+    trials += [(f"examples/body-bus replayed at {rate} bits a second", faults_of_replays(program, rate))
+               for rate in RATES]
     trials += [(" ".join(["capl", *words]), list(faults_of_help(*words))) for words in ((), ("--help",), ("-h",))]
     trials += [("capl on a fresh clone", list(faults_of_released()))]
     passed = failed = 0
