@@ -485,7 +485,7 @@ def other_meaning(chance, case, name):
     something else, or breaks a rule on what it means."""
     tokens = list(case.tokens[name])
     others = [it for some in case.tokens.values() for it in some] + [str(it) for it in grammar.EDGES]
-    others += ["this", "float", "#include \"\"", "#include \"none\\cin\""]
+    others += 10 * ["this", "float", "#include \"\"", "#include \"none\\cin\""]
     for _ in range(20):
         at, other = chance.randrange(len(tokens) or 1), chance.choice(others)
         if tokens and sort_of(tokens[at]) == sort_of(other) and tokens[at] != other:
