@@ -3,6 +3,7 @@ pub mod BytesLemmas
 pub mod DataLemmas
 pub mod FieldLemmas
 pub mod FrameFieldLemmas
+pub mod LoggableLemmas
 pub mod NumberBounds
 pub mod OneReading
 pub mod PieceLemmas

@@ -9,5 +9,4 @@ pub mod Seen
 pub mod SilentRuns
 pub mod Entries
 pub mod Reading
-pub mod Asked
 pub mod Scenarios

@@ -1,20 +1,12 @@
--- A log line can name the interface of a scenario, and the second at which a replay begins is a number of 32 bits.
-use Rattle.std.proofs.Common.{◌≡◌, ℕ, ◌<◌, ◌^◌, Bool, true, false, not, List, [], ◌∷◌, length, refl, arith}
+-- A log line can name the interface of a scenario.
+use Rattle.std.proofs.Common.{◌≡◌, ℕ, Bool, true, false, not, List, length, refl, arith}
 use Rattle.std.specs.Prelude.{nat_le, ◌&&◌, ◌==◌}
 use Rattle.std.specs.List.{list_all}
 use Rattle.std.proofs.lemmas.Bool.Decides.{nat_tests}
 use Rattle.std.proofs.lemmas.List.Elements.{All-weaker}
 use Rattle.std.proofs.lemmas.List.Sums.{AllPass-from_list_all}
 use Rattle.scenario.specs.Value.{is_interface, is_interface_byte}
-use Rattle.scenario.specs.Within.{IsEpochWithin}
-use Rattle.scenario.specs.declared.scenario.Epoch.{Epoch}
-use Rattle.scenario.specs.declared.scenario.Epoch.TheVariants.{At, First}
 use Rattle.log_line.specs.Reading.{IsInterface, IsPrintable}
-use Rattle.log_line.specs.declared.line.Entry.{Entry}
-use Rattle.replay_node.specs.Replay.{IsReplay, entries_on, epoch_of}
-use Rattle.replay_node.specs.declared.replay.Replay.{Replay}
-
--- ---- the interface
 
 both : (a b : Bool) → (a && b) ≡ true → (a ≡ true) × (b ≡ true)
 both true b is = (refl, is)
@@ -35,16 +27,3 @@ named name is =
       short = grind (arith, nat_tests, short);
       printable = All-weaker (λ byte. is_interface_byte byte ≡ true) IsPrintable printable name (AllPass-from_list_all is_interface_byte name one.1);
     }
-
--- ---- the epoch
-
-epoch_below : (item : Epoch) (es : List Entry) → IsEpochWithin item → epoch_of item es < 2 ^ 32
-epoch_below (At seconds) es within = omega (arith, within)
-epoch_below First [] within = omega arith
-epoch_below First (e ∷ es) within = omega arith
-
--- the second at which a replay begins
-pub epoch_within : (log name : List ℕ) (bit : ℕ) (item : Epoch) (replay : Replay) → IsEpochWithin item → IsReplay log name bit item replay → replay.epoch < 2 ^ 32
-epoch_within log name bit item replay within is =
-    let own = epoch_below item (entries_on name is.0) within in
-    let same = (is.2).epoch_is in omega (arith, own, same)

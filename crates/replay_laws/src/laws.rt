@@ -18,7 +18,7 @@ ghost use Rattle.run_meaning.specs.Steps.{entries, steps};
 ghost use Rattle.replay_laws.specs.Log.{log_of};
 ghost use Rattle.replay_laws.specs.Tasks.{AllTasks, AsksLoggable, AsksNothing};
 
-use log_line::laws::{one_reading, written_lines_read};
+use log_line::laws::{one_reading, read_frames_are_loggable, written_lines_read};
 
 /// How nodes react. A type without a value has the meanings.
 pub trait Reaction {
@@ -62,7 +62,9 @@ pub fn reproduced<R: Reaction>()
 pub fn replays_can_be_logged()
     ensures { (log interface : List ℕ) (bit : ℕ) (item : Epoch) (replay : Replay) →
         IsReplay log interface bit item replay → All (λ request. IsLoggable request.frame) replay.list }
-{}
+{
+    read_frames_are_loggable();
+}
 
 /// What one run records, another reproduces: where the log of a run is replayed, on a bus with the same bits
 /// and up to the same end moment, a run whose nodes ask for no frame and not to stop has the same log.

@@ -1,7 +1,7 @@
 -- What stands between two lines.
 use Rattle.std.proofs.Common.{length}
 use Rattle.replay_node.proofs.LogLemmas.{HasRead}
-use Rattle.replay_node.proofs.log.requests.Given as goal
+use Rattle.replay_node.proofs.log.read_lines.Given as goal
 
 abbrev pub invariant-loop-first : goal.invariant-loop-first
 invariant-loop-first l = HasRead l.log l.rest l.interface l.bit l.fn.epoch l.number l.progress
