@@ -18,7 +18,7 @@ SECONDS = 60
 SEED = 32
 BODY = "examples/body-bus/body.scn"
 EXAMPLES = (BODY, "examples/turn-signal-log/flasher.scn", "examples/four-frames/four.scn",
-            "examples/door-control/door.scn")
+            "examples/door-control/door.scn", "examples/replay/watch.scn")
 
 
 # ---- what is run

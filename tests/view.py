@@ -351,7 +351,7 @@ def faults_of_rules(program):
     if tried != want:
         yield f"{sorted(tried ^ want)} has an example that is not asked for, or none"
     rules = [*(f"E{i:02d}" for i in range(1, 30)), *(f"S{i:02d}" for i in range(1, 13))]
-    for rule in [*rules, "D01", "D02", "F01", "F02", "N01"]:
+    for rule in [*rules, "D01", "D02", "F01", "F02", "L01"]:
         if len(refusal.sentence_of(rule)) < 20:
             yield f"{rule} has no sentence"
     for rule, word in (("E05", "'phys' behind a '.'."), ("E06", "- a name behind 'on key': 'on key F1'.")):

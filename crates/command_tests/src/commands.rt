@@ -70,7 +70,7 @@ const LINES: Run = Run {
     ..EMPTY
 };
 
-static RUNS: [Run; 22] = [
+static RUNS: [Run; 26] = [
     EMPTY,
     HELLO,
     Run {
@@ -188,10 +188,58 @@ static RUNS: [Run; 22] = [
         written: "refused s.scn F01\n",
         ..EMPTY
     },
+    // A log that is replayed is looked at behind the sources.
     Run {
         scenario: Some("scenario 1\nnode N n.can\nreplay r\n"),
         status: Status::Refused,
-        written: "refused s.scn N01\n",
+        written: "refused r F01\n",
+        ..EMPTY
+    },
+    Run {
+        scenario: Some("scenario 1\nnode N n.can\nreplay r\n"),
+        files: &[("n.can", ""), ("r", "\nhello\n")],
+        status: Status::Refused,
+        written: "refused r:2 L01\n",
+        ..EMPTY
+    },
+    // It gives its own bytes again where nobody else sends.
+    Run {
+        words: &["log", "s.scn"],
+        scenario: Some("scenario 1\nnode N n.can\nreplay r\n"),
+        files: &[
+            ("n.can", ""),
+            (
+                "r",
+                "(0000000000.000100) can0 000#\n(0000000000.000200) can0 001#\n",
+            ),
+        ],
+        written: "(0000000000.000100) can0 000#\n(0000000000.000200) can0 001#\n",
+        ..EMPTY
+    },
+    // Its frames are received, and the window begins with what was passed over.
+    Run {
+        scenario: Some("scenario 1\nnode N n.can\nepoch first\nuntil 2000\nreplay r\n"),
+        files: &[
+            (
+                "n.can",
+                "on message * { write(\"%x %d\", this.id, this.dir == RX); }",
+            ),
+            (
+                "r",
+                "(7.000500) can1 001#\n(7.000600) can0 123#0102\n(7.000900) can0 123##1112233\n",
+            ),
+        ],
+        written: "w 0.000000 replay skipped 2\nw 1.000600 N 123 1\n",
+        rows: &[(1, 0)],
+        ..EMPTY
+    },
+    // A generated scenario: its timer is due 50 times, and the frame of the last is still on the wire.
+    Run {
+        words: &["gen", "1"],
+        scenario: None,
+        files: &[],
+        written: "gen 1 frames 49 lines 1 turns 50000\n",
+        rows: &[(1, 0), (50, 50000), (49, 0), (1, 0)],
         ..EMPTY
     },
     Run {
@@ -287,7 +335,7 @@ static PAIRS: [Run; 9] = [
     },
 ];
 
-static USAGES: [Run; 4] = [
+static USAGES: [Run; 6] = [
     Run {
         words: &[],
         status: Status::Usage,
@@ -300,6 +348,16 @@ static USAGES: [Run; 4] = [
     },
     Run {
         words: &["Window", "s.scn"],
+        status: Status::Usage,
+        ..EMPTY
+    },
+    Run {
+        words: &["gen", "01"],
+        status: Status::Usage,
+        ..EMPTY
+    },
+    Run {
+        words: &["gen", "65"],
         status: Status::Usage,
         ..EMPTY
     },

@@ -59,15 +59,23 @@ const TAKEN: [(Files, &[usize]); 3] = [
     ),
 ];
 
-const BLAMES: [(Files, Place); 18] = [
+const BLAMES: [(Files, Place); 19] = [
     (&[(b"t", b"")], (b"s", None, b'F', 1)),
     (
         &[(b"s", b"scenario 1\nnode N n\nuntil x")],
         (b"s", Some(3), b'S', 7),
     ),
     (
-        &[(b"s", b"scenario 1\nnode N n\nnode M m\nreplay r")],
-        (b"s", None, b'N', 1),
+        &[(b"s", b"scenario 1\nnode N n\nreplay r"), (b"n", b"")],
+        (b"r", None, b'F', 1),
+    ),
+    (
+        &[
+            (b"s", b"scenario 1\nnode N n\nreplay r"),
+            (b"n", b""),
+            (b"r", b"(1.000000) can0 123#\n(1.000000) can0 #\n"),
+        ],
+        (b"r", Some(2), b'L', 1),
     ),
     (
         &[(b"s", b"scenario 1\nnode N n\ndatabase b")],

@@ -4,6 +4,8 @@
 //! counts the frames that end on the bus, its own among them, up to the end moment of one second.
 #![tactic(auto)]
 
+pub use files::SCENARIO_NAME;
 pub use generated::{MAX_COUNT, Made, Source, generate};
 
+mod files;
 mod generated;

@@ -2,6 +2,7 @@
 pub mod TextLemmas
 pub mod KeyLemmas
 pub mod OneReading
+pub mod ReplayLemmas
 pub mod BaseLemmas
 pub mod InputsLemmas
 pub mod NodeCount

@@ -18,17 +18,20 @@ use Rattle.capl_include.specs.Expansion.{Contents, Expansion, Outcome, Went, Sto
 use Rattle.capl_include.specs.declared.expanded.SourceFile.{SourceFile}
 use Rattle.capl_meaning.specs.Offences.{offences_of}
 use Rattle.capl_meaning.specs.Size.{cells_of_program}
-use Rattle.sim_inputs.specs.Accepted.{AreAccepted, IsFirstBlame, IsLaterBlame}
+use Rattle.replay_node.specs.declared.replay.Replay.{Replay}
+use Rattle.sim_inputs.specs.Accepted.{AreAccepted, AreNodes, IsFirstBlame, IsLastBlame, IsLaterBlame}
 use Rattle.source_compiler.specs.Source.{IsProgramBlame, IsSource, IsSourceBlame}
 use Rattle.input_refusals.specs.Blame.{without_column}
 use Rattle.sim_inputs.specs.Database.{BaseAt, IsBaseBlame}
 use Rattle.sim_inputs.specs.Law.{SayTheSame}
 use Rattle.sim_inputs.specs.Nodes.{AreSources, AreWithin, IsNodesBlame, IsSumBlame, NodeSource, cells_in, weight_in}
+use Rattle.sim_inputs.specs.Replay.{IsReplayBlame}
 use Rattle.source_compiler.specs.Program.{AreTreesOf, FilesAt, IsFilesBlame, IsOffenceBlame, IsSizeBlame, most}
 use Rattle.sim_inputs.specs.Scenario.{ScenarioAt, scenario_limit}
 use Rattle.source_compiler.proofs.FileLemmas.{one_parse_blame, one_program, one_screen_blame, parsed_or_blame, screened_or_blame}
 use Rattle.sim_inputs.proofs.KeyLemmas.{one_order}
 use Rattle.source_compiler.proofs.OffenceLemmas.{offence_or_none, one_offence_blame}
+use Rattle.sim_inputs.proofs.ReplayLemmas.{NotBadToo, OneBadLine, OneReplay, moved_replay, one_replay_at, one_replay_blame, replay_or_blame}
 use Rattle.sim_inputs.proofs.TextLemmas.{base_or_blame, one_base, one_base_blame, one_scenario_blame, one_text, scenario_or_blame}
 
 -- ---- the scenario
@@ -201,61 +204,82 @@ nodes_or_blame contents name base cells weights (node ∷ nodes) (source ∷ sou
       | inr (within, later) ↦ nodes_or_blame contents name base (cells + cells_in base source) (weights + weight_in source) nodes sources blame are.1 (omega arith, omega arith) later
     ]
 
+all_or_blame : (contents : Contents) (name : List ℕ) (base : List DbcMessage) (scenario : Scenario) (sources : List NodeSource) (blame : Blame) →
+    AreNodes contents name base scenario sources → IsNodesBlame contents name base 0 0 scenario.nodes.items blame → ⊥
+all_or_blame contents name base scenario sources blame are wrong =
+    let fit = are.fit in
+    nodes_or_blame contents name base 0 0 scenario.nodes.items sources blame are.sources_at (omega arith, omega arith) wrong
+
 -- ---- all inputs
 
-one_later_blame : (contents : Contents) (name : List ℕ) (scenario : Scenario) (blame other : Blame) → IsLaterBlame contents name scenario blame → IsLaterBlame contents name scenario other → blame ≡ other
-one_later_blame contents name scenario blame other (inl one) (inl two) = one_base_blame contents name scenario.database blame other one two
-one_later_blame contents name scenario blame other (inl one) (inr (base, at, two)) = absurd (base_or_blame contents name scenario.database base blame at one)
-one_later_blame contents name scenario blame other (inr (base, at, one)) (inl two) = absurd (base_or_blame contents name scenario.database base other at two)
-one_later_blame contents name scenario blame other (inr (base, at, one)) (inr (more, at_too, two)) =
-    let same = one_base contents name scenario.database base more at at_too in
-    one_nodes_blame contents name more 0 0 scenario.nodes.items blame other
-    (subst (λ (b : List DbcMessage). IsNodesBlame contents name b 0 0 scenario.nodes.items blame) same one) two
+one_last_blame : OneBadLine → (contents : Contents) (name : List ℕ) (scenario : Scenario) (base : List DbcMessage) (blame other : Blame) →
+    IsLastBlame contents name scenario base blame → IsLastBlame contents name scenario base other → blame ≡ other
+one_last_blame bad contents name scenario base blame other (inl one) (inl two) = one_nodes_blame contents name base 0 0 scenario.nodes.items blame other one two
+one_last_blame bad contents name scenario base blame other (inl one) (inr (sources, are, two)) = absurd (all_or_blame contents name base scenario sources blame are one)
+one_last_blame bad contents name scenario base blame other (inr (sources, are, one)) (inl two) = absurd (all_or_blame contents name base scenario sources other are two)
+one_last_blame bad contents name scenario base blame other (inr (sources, are, one)) (inr (sources_too, are_too, two)) = one_replay_blame bad contents name scenario.replay blame other one two
 
--- what comes behind a scenario rests on its database and its nodes alone
-abbrev IsBehind : Contents → List ℕ → Option (List ℕ) → List NodeItem → Blame → Type 0
-IsBehind contents name database nodes blame =
-    IsBaseBlame contents name database blame
-    ⊎ ((base : List DbcMessage) × BaseAt contents name database base × IsNodesBlame contents name base 0 0 nodes blame)
+one_later_blame : OneBadLine → (contents : Contents) (name : List ℕ) (scenario : Scenario) (blame other : Blame) → IsLaterBlame contents name scenario blame → IsLaterBlame contents name scenario other → blame ≡ other
+one_later_blame bad contents name scenario blame other (inl one) (inl two) = one_base_blame contents name scenario.database blame other one two
+one_later_blame bad contents name scenario blame other (inl one) (inr (base, at, two)) = absurd (base_or_blame contents name scenario.database base blame at one)
+one_later_blame bad contents name scenario blame other (inr (base, at, one)) (inl two) = absurd (base_or_blame contents name scenario.database base other at two)
+one_later_blame bad contents name scenario blame other (inr (base, at, one)) (inr (more, at_too, two)) =
+    let same = one_base contents name scenario.database base more at at_too in
+    one_last_blame bad contents name scenario more blame other (subst (λ (b : List DbcMessage). IsLastBlame contents name scenario b blame) same one) two
+
+moved_nodes : (contents : Contents) (name : List ℕ) (base : List DbcMessage) (scenario other : Scenario) (sources : List NodeSource) → SayTheSame scenario other → AreNodes contents name base scenario sources → AreNodes contents name base other sources
+moved_nodes contents name base scenario other sources same are = record {
+  sources_at = subst (λ (n : List NodeItem). AreSources contents name base n sources) same.nodes are.sources_at;
+  fit = are.fit;
+}
+
+moved_last : (contents : Contents) (name : List ℕ) (scenario other : Scenario) (base : List DbcMessage) (blame : Blame) → SayTheSame scenario other → IsLastBlame contents name scenario base blame → IsLastBlame contents name other base blame
+moved_last contents name scenario other base blame same (inl nodes) = inl (subst (λ (n : List NodeItem). IsNodesBlame contents name base 0 0 n blame) same.nodes nodes)
+moved_last contents name scenario other base blame same (inr (sources, are, log)) =
+    inr (sources, moved_nodes contents name base scenario other sources same are, subst (λ (f : Option (List ℕ)). IsReplayBlame contents name f blame) same.replay log)
 
 moved_later : (contents : Contents) (name : List ℕ) (scenario other : Scenario) (blame : Blame) → SayTheSame scenario other → IsLaterBlame contents name scenario blame → IsLaterBlame contents name other blame
-moved_later contents name scenario other blame same later =
-    subst (λ (n : List NodeItem). IsBehind contents name other.database n blame) same.nodes
-    (subst (λ d. IsBehind contents name d scenario.nodes.items blame) same.database later)
+moved_later contents name scenario other blame same (inl database) = inl (subst (λ (d : Option (List ℕ)). IsBaseBlame contents name d blame) same.database database)
+moved_later contents name scenario other blame same (inr (base, at, last)) =
+    inr (base, subst (λ (d : Option (List ℕ)). BaseAt contents name d base) same.database at, moved_last contents name scenario other base blame same last)
 
 -- one blame is the first
-pub one_blame : (contents : Contents) (name : List ℕ) (blame other : Blame) → IsFirstBlame contents name blame → IsFirstBlame contents name other → blame ≡ other
-one_blame contents name blame other (inl one) (inl two) = one_scenario_blame contents name blame other one two
-one_blame contents name blame other (inl one) (inr (scenario, at, two)) = absurd (scenario_or_blame contents name scenario blame at one)
-one_blame contents name blame other (inr (scenario, at, one)) (inl two) = absurd (scenario_or_blame contents name scenario other at two)
-one_blame contents name blame other (inr (scenario, at, one)) (inr (scenario_too, at_too, two)) =
-    one_later_blame contents name scenario_too blame other
+pub one_blame : OneBadLine → (contents : Contents) (name : List ℕ) (blame other : Blame) → IsFirstBlame contents name blame → IsFirstBlame contents name other → blame ≡ other
+one_blame bad contents name blame other (inl one) (inl two) = one_scenario_blame contents name blame other one two
+one_blame bad contents name blame other (inl one) (inr (scenario, at, two)) = absurd (scenario_or_blame contents name scenario blame at one)
+one_blame bad contents name blame other (inr (scenario, at, one)) (inl two) = absurd (scenario_or_blame contents name scenario other at two)
+one_blame bad contents name blame other (inr (scenario, at, one)) (inr (scenario_too, at_too, two)) =
+    one_later_blame bad contents name scenario_too blame other
     (moved_later contents name scenario scenario_too blame (one_scenario contents name scenario scenario_too at at_too) one) two
 
-later_or_accepted : (contents : Contents) (name : List ℕ) (scenario : Scenario) (base : List DbcMessage) (sources : List NodeSource) (blame : Blame) →
-    AreAccepted contents name scenario base sources → IsLaterBlame contents name scenario blame → ⊥
-later_or_accepted contents name scenario base sources blame is (inl first) = base_or_blame contents name scenario.database base blame is.base_at first
-later_or_accepted contents name scenario base sources blame is (inr (more, at, first)) =
+last_or_accepted : NotBadToo → (contents : Contents) (name : List ℕ) (scenario : Scenario) (base : List DbcMessage) (sources : List NodeSource) (replay : Replay) (blame : Blame) →
+    AreAccepted contents name scenario base sources replay → IsLastBlame contents name scenario base blame → ⊥
+last_or_accepted good contents name scenario base sources replay blame is (inl nodes) = all_or_blame contents name base scenario sources blame is.nodes_at nodes
+last_or_accepted good contents name scenario base sources replay blame is (inr (others, are, log)) = replay_or_blame good contents name scenario replay blame is.replay_at log
+
+later_or_accepted : NotBadToo → (contents : Contents) (name : List ℕ) (scenario : Scenario) (base : List DbcMessage) (sources : List NodeSource) (replay : Replay) (blame : Blame) →
+    AreAccepted contents name scenario base sources replay → IsLaterBlame contents name scenario blame → ⊥
+later_or_accepted good contents name scenario base sources replay blame is (inl first) = base_or_blame contents name scenario.database base blame is.base_at first
+later_or_accepted good contents name scenario base sources replay blame is (inr (more, at, last)) =
     let same = one_base contents name scenario.database more base at is.base_at in
-    let fit = is.fit in
-    nodes_or_blame contents name base 0 0 scenario.nodes.items sources blame is.sources_at (omega arith, omega arith)
-    (subst (λ (b : List DbcMessage). IsNodesBlame contents name b 0 0 scenario.nodes.items blame) same first)
+    last_or_accepted good contents name scenario base sources replay blame is (subst (λ (b : List DbcMessage). IsLastBlame contents name scenario b blame) same last)
 
 -- accepted inputs have no blame
-pub not_both : (contents : Contents) (name : List ℕ) (scenario : Scenario) (base : List DbcMessage) (sources : List NodeSource) (blame : Blame) →
-    AreAccepted contents name scenario base sources → IsFirstBlame contents name blame → ⊥
-not_both contents name scenario base sources blame is (inl first) = scenario_or_blame contents name scenario blame is.scenario_at first
-not_both contents name scenario base sources blame is (inr (other, at, first)) =
-    later_or_accepted contents name scenario base sources blame is
+pub not_both : NotBadToo → (contents : Contents) (name : List ℕ) (scenario : Scenario) (base : List DbcMessage) (sources : List NodeSource) (replay : Replay) (blame : Blame) →
+    AreAccepted contents name scenario base sources replay → IsFirstBlame contents name blame → ⊥
+not_both good contents name scenario base sources replay blame is (inl first) = scenario_or_blame contents name scenario blame is.scenario_at first
+not_both good contents name scenario base sources replay blame is (inr (other, at, first)) =
+    later_or_accepted good contents name scenario base sources replay blame is
     (moved_later contents name other scenario blame (one_scenario contents name other scenario at is.scenario_at) first)
 
--- accepted inputs are one scenario, with one database, and one program of files for each node
-pub one_accepted : (contents : Contents) (name : List ℕ) (scenario other : Scenario) (base more : List DbcMessage) (sources others : List NodeSource) →
-    AreAccepted contents name scenario base sources → AreAccepted contents name other more others →
-    SayTheSame scenario other × (base ≡ more) × (sources ≡ others)
-one_accepted contents name scenario other base more sources others is also =
+-- accepted inputs are one scenario, with one database, one program of files for each node, and one replay
+pub one_accepted : OneReplay → (contents : Contents) (name : List ℕ) (scenario other : Scenario) (base more : List DbcMessage) (sources others : List NodeSource) (replay third : Replay) →
+    AreAccepted contents name scenario base sources replay → AreAccepted contents name other more others third →
+    SayTheSame scenario other × (base ≡ more) × (sources ≡ others) × (replay ≡ third)
+one_accepted one contents name scenario other base more sources others replay third is also =
     let same = one_scenario contents name scenario other is.scenario_at also.scenario_at in
     let bases = one_base contents name other.database base more (subst (λ d. BaseAt contents name d base) same.database is.base_at) also.base_at in
-    let nodes = subst (λ (n : List NodeItem). AreSources contents name base n sources) same.nodes is.sources_at in
+    let nodes = subst (λ (n : List NodeItem). AreSources contents name base n sources) same.nodes is.nodes_at.sources_at in
     let moved = subst (λ (b : List DbcMessage). AreSources contents name b other.nodes.items sources) bases nodes in
-    (same, bases, one_sources contents name more other.nodes.items sources others moved also.sources_at)
+    let replays = one_replay_at one contents name other replay third (moved_replay contents name scenario other replay same is.replay_at) also.replay_at in
+    (same, bases, one_sources contents name more other.nodes.items sources others moved also.nodes_at.sources_at, replays)

@@ -1,7 +1,7 @@
 -- A file is one scenario or one database, or has one blame.
 use Rattle.std.proofs.Common.{◌≡◌, ◌≢◌, ◌<◌, ◌+◌, ℕ, List, [], length, Option, Some, None, inl, inr, sym, ap, subst, ◌∙◌, arith}
 use Rattle.std.proofs.lemmas.Bool.{cases_order}
-use Rattle.std.specs.Prelude.{◌⊎◌, IsSome}
+use Rattle.std.specs.Prelude.{◌⊎◌}
 use Rattle.texts.specs.declared.blame.Blame.{Blame}
 use Rattle.capl_include.specs.Expansion.{Contents}
 use Rattle.dbc_reader.specs.Database.{IsDatabase}
@@ -16,7 +16,7 @@ use Rattle.std.specs.Str.Lines.{lines}
 use Rattle.sim_inputs.specs.Blame.{Holds, IsFileBlame, statement_rule, twice_rule}
 use Rattle.input_refusals.specs.Blame.{line_blame}
 use Rattle.sim_inputs.specs.Database.{BaseAt, IsBaseBlame, IsDatabaseBlame, IsStatementBlame, database_limit}
-use Rattle.sim_inputs.specs.Scenario.{IsLineBlame, IsNotYetBlame, IsScenarioBlame, ScenarioAt, scenario_limit}
+use Rattle.sim_inputs.specs.Scenario.{IsLineBlame, IsScenarioBlame, ScenarioAt, scenario_limit}
 
 -- ---- files
 
@@ -93,29 +93,12 @@ one_line_blame text name blame other (line, rule, refused, is) (line_too, rule_t
     let rules : rule ≡ rule_too = λ i. record { group = groups i; number = same.1 i } in
     is ∙ (λ i. line_blame name (same.0 i) (rules i)) ∙ sym also
 
--- two scenarios of a text replay the same log
-pub same_replay : (text : List ℕ) (scenario other : Scenario) → IsScenario text scenario → IsScenario text other → scenario.replay ≡ other.replay
-same_replay text scenario other is also = is.said.replay ∙ sym also.said.replay
-
-replayed_or_not : (found other : Option (List ℕ)) → found ≡ other → found ≡ None → IsSome other → ⊥
-replayed_or_not found other same none some = let other_none = subst IsSome (sym same ∙ none) some in cc
-
 -- a name that stands for a scenario has no blame
 pub scenario_or_blame : (contents : Contents) (name : List ℕ) (scenario : Scenario) (blame : Blame) → ScenarioAt contents name scenario → IsScenarioBlame contents name blame → ⊥
 scenario_or_blame contents name scenario blame at (inl file) = held_or_blamed contents scenario_limit name at.text blame at.held file
-scenario_or_blame contents name scenario blame at (inr (text, held, inl line)) =
+scenario_or_blame contents name scenario blame at (inr (text, held, line)) =
     let same = one_text contents scenario_limit name at.text text at.held held in
     scenario_or_line text name scenario blame (subst (λ t. IsScenario t scenario) same at.is) line
-scenario_or_blame contents name scenario blame at (inr (text, held, inr (other, is, beyond, also))) =
-    let same = one_text contents scenario_limit name at.text text at.held held in
-    let here = subst (λ t. IsScenario t scenario) same at.is in
-    replayed_or_not scenario.replay other.replay (same_replay text scenario other here is) at.no_replay beyond
-
-text_blame : (text name : List ℕ) (blame other : Blame) → IsLineBlame text name blame ⊎ IsNotYetBlame text name blame → IsLineBlame text name other ⊎ IsNotYetBlame text name other → blame ≡ other
-text_blame text name blame other (inl line) (inl line_too) = one_line_blame text name blame other line line_too
-text_blame text name blame other (inl line) (inr (scenario, is, beyond, also)) = absurd (scenario_or_line text name scenario blame is line)
-text_blame text name blame other (inr (scenario, is, beyond, also)) (inl line) = absurd (scenario_or_line text name scenario other is line)
-text_blame text name blame other (inr (scenario, is, beyond, one)) (inr (scenario_too, is_too, beyond_too, two)) = one ∙ sym two
 
 -- the scenario of a name has one blame
 pub one_scenario_blame : (contents : Contents) (name : List ℕ) (blame other : Blame) → IsScenarioBlame contents name blame → IsScenarioBlame contents name other → blame ≡ other
@@ -124,7 +107,7 @@ one_scenario_blame contents name blame other (inl file) (inr (text, held, is)) =
 one_scenario_blame contents name blame other (inr (text, held, is)) (inl file) = absurd (held_or_blamed contents scenario_limit name text other held file)
 one_scenario_blame contents name blame other (inr (text, held, is)) (inr (text_too, held_too, also)) =
     let same = one_text contents scenario_limit name text text_too held held_too in
-    text_blame text_too name blame other (subst (λ t. IsLineBlame t name blame ⊎ IsNotYetBlame t name blame) same is) also
+    one_line_blame text_too name blame other (subst (λ t. IsLineBlame t name blame) same is) also
 
 -- ---- databases
 

@@ -1,7 +1,9 @@
 -- What reading the inputs of a name may answer, over what the files hold.
-use Rattle.std.specs.Prelude.{◌≡◌, ◌≤◌, ℕ, List, All, length, map, None, Result, Ok, Err, ⊤}
+use Rattle.std.specs.Prelude.{◌≡◌, ◌<◌, ◌≤◌, ◌^◌, ℕ, List, All, length, map, Result, Ok, Err, ⊤}
 use Rattle.std.specs.List.{AllZip}
 use Rattle.bytecode.specs.declared.code.Code.{Code}
+use Rattle.log_line.specs.Written.{IsLoggable}
+use Rattle.replay_node.specs.declared.replay.Replay.{Replay}
 use Rattle.scenario.specs.Scenario.{IsScenario}
 use Rattle.scenario.specs.declared.scenario.Scenario.{Scenario}
 use Rattle.dbc_reader.specs.declared.message.DbcMessage.{DbcMessage}
@@ -19,11 +21,12 @@ abbrev pub AreCodesFor : List DbcMessage → List NodeSource → List Code → T
 AreCodesFor base sources codes =
     AllZip (λ source code. IsCodeFor base source.files source.program code) sources codes
 
--- the inputs are accepted, and have the scenario, the codes for the programs and the names of their files
+-- the inputs are accepted, and have the scenario, the codes for the programs, the names of their files, and
+-- the replay
 pub record AreInputsOf (contents : Contents) (name : List ℕ) (inputs : Inputs) : Type 0 where
   pub base : List DbcMessage
   pub sources : List NodeSource
-  pub accepted : AreAccepted contents name inputs.scenario base sources
+  pub accepted : AreAccepted contents name inputs.scenario base sources inputs.replay
   pub codes : AreCodesFor base sources inputs.codes.items
   pub files : inputs.files ≡ map file_names sources
 
@@ -43,13 +46,18 @@ pub record AreCoded (inputs : Inputs) : Type 0 where
   pub trees : All (λ source. AreTreesOf source.files source.program) sources
   pub files : inputs.files ≡ map file_names sources
 
--- a scenario is that of some text, replays no log, and has 1 to 64 nodes
+-- a scenario is that of some text, and has 1 to 64 nodes
 pub record IsTaken (scenario : Scenario) : Type 0 where
   pub text : List ℕ
   pub is : IsScenario text scenario
-  pub no_replay : scenario.replay ≡ None
   pub some_node : 1 ≤ length scenario.nodes.items
   pub few_nodes : length scenario.nodes.items ≤ 64
+
+-- the requests of a replay are frames of the first channel that can be sent, and its epoch is a number of 32
+-- bits
+pub record IsPlayable (replay : Replay) : Type 0 where
+  pub frames : All (λ request. IsLoggable request.frame) replay.list
+  pub epoch : replay.epoch < 2 ^ 32
 
 -- inputs have one code for each node
 abbrev pub HaveCodeForEach : Inputs → Type 0

@@ -9,9 +9,9 @@ use Rattle.capl_include.specs.Expansion.{Contents}
 abbrev pub missing_rule : Rule
 missing_rule = record { group = 70; number = 1 }
 
--- N01: the program does not run such a scenario yet
-abbrev pub not_yet_rule : Rule
-not_yet_rule = record { group = 78; number = 1 }
+-- L01: a line of a log that is replayed has no reading
+abbrev pub log_rule : Rule
+log_rule = record { group = 76; number = 1 }
 
 -- D01: a statement of a database has no spelling
 abbrev pub statement_rule : Rule

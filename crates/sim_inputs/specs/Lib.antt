@@ -6,4 +6,5 @@ pub mod Database
 pub mod Inside
 pub mod Law
 pub mod Nodes
+pub mod Replay
 pub mod Scenario

@@ -1,4 +1,5 @@
-//! What a simulation reads: a scenario, its database and the sources of its nodes, read and checked.
+//! What a simulation reads: a scenario, its database, the sources of its nodes and the log that it replays,
+//! read and checked.
 //!
 //! [`read_inputs`] reads the files that the name of a scenario leads to, in one order, and gives the
 //! scenario with the code and the names of the files of each node, or the first rule that a file breaks.
@@ -16,5 +17,6 @@ mod files;
 mod inputs;
 pub mod laws;
 mod nodes;
+mod replay;
 mod rules;
 mod scenario_file;

@@ -1,4 +1,5 @@
-// The rules that scenarios, databases and the programs of nodes together break, and files that are not there.
+// The rules that scenarios, databases, logs and the programs of nodes together break, and files that are not
+// there.
 
 use texts::Rule;
 
@@ -14,9 +15,9 @@ pub(crate) const TOO_LONG: Rule = Rule {
     number: 2,
 };
 
-/// The program does not run such a scenario yet.
-pub(crate) const NOT_YET: Rule = Rule {
-    group: b'N',
+/// A line of a log that is replayed has no reading.
+pub(crate) const BAD_LINE: Rule = Rule {
+    group: b'L',
     number: 1,
 };
 

@@ -1,16 +1,15 @@
 // The scenario.
 
-ghost use Rattle.std.specs.Prelude.{◌≡◌, ◌<◌, ◌≤◌, ◌^◌, ◌⊎◌, length, IfOk, IfSome, IsErrOf, None};
+ghost use Rattle.std.specs.Prelude.{◌≡◌, ◌<◌, ◌≤◌, ◌^◌, length, IfOk, IfSome, IsErrOf};
 ghost use Rattle.scenario.specs.Scenario.{IsScenario};
 ghost use Rattle.scenario.specs.Within.{IsWithin};
 ghost use Rattle.texts.specs.Fault.{HasRisen};
 ghost use Rattle.sim_inputs.specs.Answer.{IsTaken};
 ghost use Rattle.input_refusals.specs.Agreement.{Agrees, Judges};
-ghost use Rattle.sim_inputs.specs.Scenario.{IsLineBlame, IsNotYetBlame, IsScenarioBlame, ScenarioAt};
+ghost use Rattle.sim_inputs.specs.Scenario.{IsLineBlame, IsScenarioBlame, ScenarioAt};
 
 use crate::files::read_text;
-use crate::rules::NOT_YET;
-use input_refusals::{InputRefusal, blamed_file, blamed_line};
+use input_refusals::{InputRefusal, blamed_line};
 use scenario::{Scenario, ScenarioRefusal, read};
 use sim_outside::Files;
 use std::alloc::Global;
@@ -19,7 +18,7 @@ use texts::Text;
 /// The most bytes of a scenario.
 const SCENARIO_LIMIT: usize = 1 << 20;
 
-/// The scenario of this name, which replays no log.
+/// The scenario of this name.
 pub(crate) fn read_scenario<F: Files>(
     alloc: Global,
     name: &Text,
@@ -41,20 +40,14 @@ pub(crate) fn read_scenario<F: Files>(
 /// The scenario that the text of this file is.
 fn scenario_of(alloc: Global, name: &Text, text: &[u8]) -> Result<Scenario, InputRefusal>
     requires { length text.now < 2 ^ 32 }
-    ensures judged { Judges (λ scenario. IsScenario text.now scenario × (scenario.replay ≡ None))
-        (λ blame. IsLineBlame text.now name.now blame ⊎ IsNotYetBlame text.now name.now blame) result }
+    ensures judged { Judges (IsScenario text.now) (IsLineBlame text.now name.now) result }
     ensures within { IfOk result IsWithin }
 {
-    let scenario = match read(alloc, text) {
-        Ok(scenario) => scenario,
+    match read(alloc, text) {
+        Ok(scenario) => Ok(scenario),
         Err(ScenarioRefusal::Broken { line, rule }) => {
-            return Err(blamed_line(alloc, name.bytes(), line, rule));
+            Err(blamed_line(alloc, name.bytes(), line, rule))
         }
-        Err(ScenarioRefusal::NoMemory) => return Err(InputRefusal::NoMemory),
-    };
-    // The program replays no log yet.
-    if scenario.replay.is_some() {
-        return Err(blamed_file(alloc, name, NOT_YET));
+        Err(ScenarioRefusal::NoMemory) => Err(InputRefusal::NoMemory),
     }
-    Ok(scenario)
 }

@@ -1,5 +1,5 @@
 -- Words have at most one answer, accepted inputs have one, and what was written of it.
-use Rattle.std.proofs.Common.{◌≡◌, ℕ, List, [], ◌∷◌, ◌++◌, All, Option, None, Some, map, refl, sym, ap, subst, ◌∙◌}
+use Rattle.std.proofs.Common.{◌≡◌, ℕ, List, [], ◌∷◌, ◌++◌, All, Option, None, Some, inl, inr, length, map, refl, sym, ap, subst, ◌∙◌}
 use Rattle.std.specs.Prelude.{codes}
 use Rattle.std.specs.List.{AllZip}
 use Rattle.std.proofs.lemmas.List.Elements.{All-cons, All-nil}
@@ -7,10 +7,11 @@ use Rattle.texts.specs.declared.blame.Blame.{Blame}
 use Rattle.can_bus.specs.Bus.{BitTakesTime, BusState, new_bus, next_moment, one_channel}
 use Rattle.stack_vm.specs.declared.meter.MeterRow.{MeterRow}
 use Rattle.scenario.proofs.WithinLemmas.{scenario_within}
-use Rattle.scenario.specs.declared.scenario.Epoch.{Epoch}
 use Rattle.scenario.specs.declared.scenario.KeyItem.{KeyItem}
 use Rattle.scenario.specs.declared.scenario.NodeItem.{NodeItem}
 use Rattle.scenario.specs.declared.scenario.Scenario.{Scenario}
+use Rattle.replay_node.specs.declared.replay.Replay.{Replay}
+use Rattle.replay_node.specs.declared.replay.Request.{Request}
 use Rattle.dbc_reader.specs.declared.message.DbcMessage.{DbcMessage}
 use Rattle.capl_include.specs.Expansion.{Contents}
 use Rattle.capl_meaning.specs.Offences.{offences_of}
@@ -24,27 +25,28 @@ use Rattle.sim_inputs.specs.Accepted.{AreAccepted, IsFirstBlame}
 use Rattle.sim_inputs.specs.Law.{SayTheSame}
 use Rattle.sim_inputs.specs.Nodes.{IsNodeSource, NodeSource}
 use Rattle.sim_play.specs.Show.{shown, shown_first}
+use Rattle.sim_play.specs.Summary.{summary_of}
 use Rattle.sim_play.specs.declared.labels.Labels.{Labels}
 use Rattle.sim_play.specs.declared.labels.Show.{Show}
 use Rattle.sim_play.specs.declared.labels.Show.TheVariants as show
 use Rattle.sim_text.specs.Blame.{blame_line}
 use Rattle.source_laws.specs.Source.{SourceMemory, by_source_reaction}
-use Rattle.sim_run.proofs.CommandLemmas.{one_command}
+use Rattle.sim_run.proofs.CommandLemmas.{AsksSame, asked_or_none, one_asked}
 use Rattle.sim_run.proofs.LoadedLemmas.{nothing_due}
-use Rattle.sim_run.specs.Answer.{IsAnswer, IsAnswerOf, IsDone, IsRefused, IsShown}
-use Rattle.sim_run.specs.Command.{IsCommand, show_of}
+use Rattle.sim_run.specs.Answer.{IsAnswer, IsAnswerOf, IsAnswerOn, IsDone, IsRefused, IsShown}
+use Rattle.sim_run.specs.Command.{IsAsked}
 use Rattle.sim_run.specs.Run.{IsRunOf, first_rows, rows_in}
-use Rattle.sim_run.specs.Shown.{first_second, labels_of, node_lines, profile_if, shown_of}
-use Rattle.sim_run.specs.declared.command.Command.{Command}
+use Rattle.sim_run.specs.Shown.{labels_of, node_lines, shown_last, shown_of}
 use Rattle.sim_run.specs.declared.status.Status.{Status}
 use Rattle.sim_run.specs.declared.status.Status.TheVariants.{Done, Refused, Usage, ReadFault, WriteFault, OutOfMemory}
 
 -- ---- laws of what this stands on
 
--- two accepted scenarios of a name say the same, with equal messages and equal sources
+-- two accepted scenarios of a name say the same, with equal messages, equal sources and equal replays
 abbrev pub AcceptedLaw : Type 0
-AcceptedLaw = (contents : Contents) (name : List ℕ) (scenario other : Scenario) (base more : List DbcMessage) (sources others : List NodeSource) →
-    AreAccepted contents name scenario base sources → AreAccepted contents name other more others → SayTheSame scenario other × (base ≡ more) × (sources ≡ others)
+AcceptedLaw = (contents : Contents) (name : List ℕ) (scenario other : Scenario) (base more : List DbcMessage) (sources others : List NodeSource) (replay third : Replay) →
+    AreAccepted contents name scenario base sources replay → AreAccepted contents name other more others third →
+    SayTheSame scenario other × (base ≡ more) × (sources ≡ others) × (replay ≡ third)
 
 -- a name has one first blame
 abbrev pub BlameLaw : Type 0
@@ -52,8 +54,8 @@ BlameLaw = (contents : Contents) (name : List ℕ) (one other : Blame) → IsFir
 
 -- accepted inputs have none
 abbrev pub NotBothLaw : Type 0
-NotBothLaw = (contents : Contents) (name : List ℕ) (scenario : Scenario) (base : List DbcMessage) (sources : List NodeSource) (one : Blame) →
-    AreAccepted contents name scenario base sources → IsFirstBlame contents name one → ⊥
+NotBothLaw = (contents : Contents) (name : List ℕ) (scenario : Scenario) (base : List DbcMessage) (sources : List NodeSource) (replay : Replay) (one : Blame) →
+    AreAccepted contents name scenario base sources replay → IsFirstBlame contents name one → ⊥
 
 -- sources have one run at most
 abbrev pub OneRunLaw : Type 0
@@ -63,129 +65,142 @@ OneRunLaw = (until : ℕ) (before after end : RunState (NodeState SourceMemory) 
 -- sources that break no rule have a run
 abbrev pub SomeRunLaw : Type 0
 SomeRunLaw = (base : List DbcMessage) (turns : ℕ) (programs : List Program) → All (λ program. offences_of base program ≡ []) programs →
-    (until : ℕ) (b : BusState) (keys : List KeyItem) → BitTakesTime b → next_moment b ≡ None →
+    (until : ℕ) (b : BusState) (keys : List KeyItem) (requests : List Request) → BitTakesTime b → next_moment b ≡ None →
     (rounds : List Passed) × (after : RunState (NodeState SourceMemory) BusState)
-    × IsRun by_source_reaction one_channel until (new_run (first_source_nodes base turns programs) b keys []) rounds after
+    × IsRun by_source_reaction one_channel until (new_run (first_source_nodes base turns programs) b keys requests) rounds after
 
 -- ---- scenarios that say the same
 
 -- a run by the numbers of its scenario
-abbrev IsRunWith : List DbcMessage → List NodeSource → ℕ → ℕ → ℕ → List KeyItem → List Passed → Type 0
-IsRunWith base sources until turns bit keys rounds =
+abbrev IsRunWith : List DbcMessage → List NodeSource → List Request → ℕ → ℕ → ℕ → List KeyItem → List Passed → Type 0
+IsRunWith base sources requests until turns bit keys rounds =
     (end : RunState (NodeState SourceMemory) BusState)
-    × IsRun by_source_reaction one_channel until (new_run (first_source_nodes base turns (map (λ source. source.program) sources)) (new_bus bit) keys []) rounds end
+    × IsRun by_source_reaction one_channel until (new_run (first_source_nodes base turns (map (λ source. source.program) sources)) (new_bus bit) keys requests) rounds end
 
-moved_run : (scenario other : Scenario) (base : List DbcMessage) (sources : List NodeSource) (rounds : List Passed) → SayTheSame scenario other → IsRunOf scenario base sources rounds → IsRunOf other base sources rounds
-moved_run scenario other base sources rounds same run =
-    let there : IsRunWith base sources other.until other.turns other.bit other.keys.items rounds =
-    subst (λ k. IsRunWith base sources other.until other.turns other.bit k rounds) same.keys
-    (subst (λ b. IsRunWith base sources other.until other.turns b scenario.keys.items rounds) same.bit
-    (subst (λ t. IsRunWith base sources other.until t scenario.bit scenario.keys.items rounds) same.turns
-    (subst (λ u. IsRunWith base sources u scenario.turns scenario.bit scenario.keys.items rounds) same.until (run.end, run.is)))) in
+moved_run : (scenario other : Scenario) (base : List DbcMessage) (sources : List NodeSource) (replay : Replay) (rounds : List Passed) → SayTheSame scenario other →
+    IsRunOf scenario base sources replay rounds → IsRunOf other base sources replay rounds
+moved_run scenario other base sources replay rounds same run =
+    let there : IsRunWith base sources replay.list other.until other.turns other.bit other.keys.items rounds =
+    subst (λ k. IsRunWith base sources replay.list other.until other.turns other.bit k rounds) same.keys
+    (subst (λ b. IsRunWith base sources replay.list other.until other.turns b scenario.keys.items rounds) same.bit
+    (subst (λ t. IsRunWith base sources replay.list other.until t scenario.bit scenario.keys.items rounds) same.turns
+    (subst (λ u. IsRunWith base sources replay.list u scenario.turns scenario.bit scenario.keys.items rounds) same.until (run.end, run.is)))) in
     record { end = there.0; is = there.1 }
 
-same_labels : (scenario other : Scenario) (sources : List NodeSource) → SayTheSame scenario other → labels_of scenario sources ≡ labels_of other sources
-same_labels scenario other sources same =
+same_labels : (scenario other : Scenario) (sources : List NodeSource) (replay : Replay) → SayTheSame scenario other → labels_of scenario sources replay ≡ labels_of other sources replay
+same_labels scenario other sources replay same =
     let nodes = same.nodes in
     let interface = same.interface in
-    let epoch = same.epoch in
-    let made : List NodeItem → List ℕ → Epoch → Labels = λ items name moment. record (labels_of other sources) { names = map (λ node. node.name) items; interface = name; second = name; epoch = first_second moment } in
-    (λ i. made (nodes i) (interface i) (epoch i))
+    let made : List NodeItem → List ℕ → Labels = λ items name. record (labels_of other sources replay) { names = map (λ node. node.name) items; interface = name; second = name } in
+    (λ i. made (nodes i) (interface i))
 
-same_profile : (show : Show) (scenario other : Scenario) (base : List DbcMessage) (sources : List NodeSource) (list : List Step) → SayTheSame scenario other →
-    profile_if show scenario base sources list ≡ profile_if show other base sources list
-same_profile show.Window scenario other base sources list same = refl
-same_profile show.Log scenario other base sources list same = refl
-same_profile show.Both scenario other base sources list same = refl
-same_profile show.Profile scenario other base sources list same = let nodes = same.nodes in (λ i. node_lines base (row_then (first_rows base 0 sources) list) 0 (nodes i) sources)
+same_last : (show : Show) (scenario other : Scenario) (base : List DbcMessage) (sources : List NodeSource) (replay : Replay) (list : List Step) → SayTheSame scenario other →
+    shown_last show scenario base sources replay list ≡ shown_last show other base sources replay list
+same_last show.Window scenario other base sources replay list same = refl
+same_last show.Log scenario other base sources replay list same = refl
+same_last show.Both scenario other base sources replay list same = refl
+same_last show.Profile scenario other base sources replay list same =
+    let nodes = same.nodes in (λ i. node_lines base (row_then (first_rows base 0 sources) list) 0 (nodes i) sources)
+same_last show.Summary scenario other base sources replay list same =
+    ap (λ l. summary_of l (length sources) (entries list) (rows_in base sources list)) (same_labels scenario other sources replay same)
 
 -- what is shown rests on what the scenario says
-same_shown : (show : Show) (scenario other : Scenario) (base : List DbcMessage) (sources : List NodeSource) (list : List Step) → SayTheSame scenario other →
-    shown_of show scenario base sources list ≡ shown_of show other base sources list
-same_shown show scenario other base sources list same =
-    let labels = same_labels scenario other sources same in
-    let profile = same_profile show scenario other base sources list same in
-    (λ i. shown_first show (labels i) ++ (shown show (labels i) (entries list) ++ profile i))
+same_shown : (show : Show) (scenario other : Scenario) (base : List DbcMessage) (sources : List NodeSource) (replay : Replay) (list : List Step) → SayTheSame scenario other →
+    shown_of show scenario base sources replay list ≡ shown_of show other base sources replay list
+same_shown show scenario other base sources replay list same =
+    let labels = same_labels scenario other sources replay same in
+    let last = same_last show scenario other base sources replay list same in
+    (λ i. shown_first show (labels i) ++ (shown show (labels i) (entries list) ++ last i))
 
 -- and so does all that is shown of a run
-moved_shown : (show : Show) (scenario other : Scenario) (base : List DbcMessage) (sources : List NodeSource) (bytes : List ℕ) (rows : List MeterRow) → SayTheSame scenario other →
-    IsShown show scenario base sources bytes rows → IsShown show other base sources bytes rows
-moved_shown show scenario other base sources bytes rows same is =
+pub moved_shown : (show : Show) (scenario other : Scenario) (base : List DbcMessage) (sources : List NodeSource) (replay : Replay) (bytes : List ℕ) (rows : List MeterRow) → SayTheSame scenario other →
+    IsShown show scenario base sources replay bytes rows → IsShown show other base sources replay bytes rows
+moved_shown show scenario other base sources replay bytes rows same is =
     let picks = ap (λ p. steps is.rounds p) same.picks in
     record {
       rounds = is.rounds;
-      run = moved_run scenario other base sources is.rounds same is.run;
-      shows = is.shows ∙ same_shown show scenario other base sources (steps is.rounds scenario.picks.items) same ∙ ap (shown_of show other base sources) picks;
+      run = moved_run scenario other base sources replay is.rounds same is.run;
+      shows = is.shows ∙ same_shown show scenario other base sources replay (steps is.rounds scenario.picks.items) same ∙ ap (shown_of show other base sources replay) picks;
       counts = is.counts ∙ ap (rows_in base sources) picks;
     }
 
 -- ---- one answer
 
-one_shown : OneRunLaw → (show : Show) (scenario : Scenario) (base : List DbcMessage) (sources : List NodeSource) (bytes more : List ℕ) (rows others : List MeterRow) →
-    IsShown show scenario base sources bytes rows → IsShown show scenario base sources more others → (bytes ≡ more) × (rows ≡ others)
-one_shown law show scenario base sources bytes more rows others is also =
-    let first = new_run (first_source_nodes base scenario.turns (map (λ source. source.program) sources)) (new_bus scenario.bit) scenario.keys.items [] in
+one_shown : OneRunLaw → (show : Show) (scenario : Scenario) (base : List DbcMessage) (sources : List NodeSource) (replay : Replay) (bytes more : List ℕ) (rows others : List MeterRow) →
+    IsShown show scenario base sources replay bytes rows → IsShown show scenario base sources replay more others → (bytes ≡ more) × (rows ≡ others)
+one_shown law show scenario base sources replay bytes more rows others is also =
+    let first = new_run (first_source_nodes base scenario.turns (map (λ source. source.program) sources)) (new_bus scenario.bit) scenario.keys.items replay.list in
     let rounds = (law scenario.until first is.run.end also.run.end is.rounds also.rounds is.run.is also.run.is).0 in
     let list = ap (λ r. steps r scenario.picks.items) rounds in
-    (is.shows ∙ ap (shown_of show scenario base sources) list ∙ sym also.shows, is.counts ∙ ap (rows_in base sources) list ∙ sym also.counts)
+    (is.shows ∙ ap (shown_of show scenario base sources replay) list ∙ sym also.shows, is.counts ∙ ap (rows_in base sources) list ∙ sym also.counts)
 
-one_of : OneRunLaw → (what : Option Show) (scenario other : Scenario) (base : List DbcMessage) (sources : List NodeSource) (bytes more : List ℕ) (rows others : List MeterRow) →
-    SayTheSame scenario other → IsAnswerOf what scenario base sources bytes rows → IsAnswerOf what other base sources more others → (bytes ≡ more) × (rows ≡ others)
-one_of law None scenario other base sources bytes more rows others same is also = (is.0 ∙ sym also.0, is.1 ∙ sym also.1)
-one_of law (Some show) scenario other base sources bytes more rows others same is also =
-    one_shown law show other base sources bytes more rows others (moved_shown show scenario other base sources bytes rows same is) also
+one_of : OneRunLaw → (what : Option Show) (scenario other : Scenario) (base : List DbcMessage) (sources : List NodeSource) (replay : Replay) (bytes more : List ℕ) (rows others : List MeterRow) →
+    SayTheSame scenario other → IsAnswerOf what scenario base sources replay bytes rows → IsAnswerOf what other base sources replay more others → (bytes ≡ more) × (rows ≡ others)
+one_of law None scenario other base sources replay bytes more rows others same is also = (is.0 ∙ sym also.0, is.1 ∙ sym also.1)
+one_of law (Some show) scenario other base sources replay bytes more rows others same is also =
+    one_shown law show other base sources replay bytes more rows others (moved_shown show scenario other base sources replay bytes rows same is) also
 
--- one command on one accepted scenario has one list of bytes, and counts one list of rows
-one_done : AcceptedLaw → OneRunLaw → (contents : Contents) (words : List (List ℕ)) (bytes more : List ℕ) (rows others : List MeterRow) → IsDone contents words bytes rows → IsDone contents words more others →
+-- what is shown of one accepted scenario has one list of bytes, and counts one list of rows
+one_done : AcceptedLaw → OneRunLaw → (what : Option Show) (held : Contents) (name : List ℕ) (bytes more : List ℕ) (rows others : List MeterRow) → IsDone what held name bytes rows → IsDone what held name more others →
     (bytes ≡ more) × (rows ≡ others)
-one_done accepted law contents words bytes more rows others is also =
-    let same = one_command words also.command is.command also.name is.name also.words_are is.words_are in
-    let other = subst (λ n. AreAccepted contents n also.scenario also.base also.sources) same.1 also.accepted in
-    let inputs = accepted contents is.name is.scenario also.scenario is.base also.base is.sources also.sources is.accepted other in
-    let by_command = subst (λ c. IsAnswerOf (show_of c) is.scenario is.base is.sources bytes rows) (sym same.0) is.answers in
-    let by_base = subst (λ b. IsAnswerOf (show_of also.command) is.scenario b is.sources bytes rows) inputs.1 by_command in
-    let by_sources = subst (λ s. IsAnswerOf (show_of also.command) is.scenario also.base s bytes rows) inputs.2 by_base in
-    one_of law (show_of also.command) is.scenario also.scenario also.base also.sources bytes more rows others inputs.0 by_sources also.answers
+one_done accepted law what held name bytes more rows others is also =
+    let inputs = accepted held name is.scenario also.scenario is.base also.base is.sources also.sources is.replay also.replay is.accepted also.accepted in
+    let by_base = subst (λ b. IsAnswerOf what is.scenario b is.sources is.replay bytes rows) inputs.1 is.answers in
+    let by_sources = subst (λ s. IsAnswerOf what is.scenario also.base s is.replay bytes rows) inputs.2 by_base in
+    let by_replay = subst (λ (r : Replay). IsAnswerOf what is.scenario also.base also.sources r bytes rows) inputs.3 by_sources in
+    one_of law what is.scenario also.scenario also.base also.sources also.replay bytes more rows others inputs.0 by_replay also.answers
 
 -- the line of a refusal is one, and it has no rows
-one_refused : BlameLaw → (contents : Contents) (words : List (List ℕ)) (bytes more : List ℕ) (rows others : List MeterRow) → IsRefused contents words bytes rows → IsRefused contents words more others →
+one_refused : BlameLaw → (held : Contents) (name : List ℕ) (bytes more : List ℕ) (rows others : List MeterRow) → IsRefused held name bytes rows → IsRefused held name more others →
     (bytes ≡ more) × (rows ≡ others)
-one_refused law contents words bytes more rows others is also =
-    let same = one_command words also.command is.command also.name is.name also.words_are is.words_are in (
-      is.line ∙ ap blame_line (law contents is.name is.blame also.blame is.first (subst (λ n. IsFirstBlame contents n also.blame) same.1 also.first)) ∙ sym also.line,
-      is.no_rows ∙ sym also.no_rows,
-    )
+one_refused law held name bytes more rows others is also =
+    (is.line ∙ ap blame_line (law held name is.blame also.blame is.first also.first) ∙ sym also.line, is.no_rows ∙ sym also.no_rows)
 
 -- no inputs are both accepted and refused
-pub done_or_refused : NotBothLaw → (contents : Contents) (words : List (List ℕ)) (bytes more : List ℕ) (rows others : List MeterRow) → IsDone contents words bytes rows → IsRefused contents words more others → ⊥
-done_or_refused law contents words bytes more rows others is also =
-    let same = one_command words also.command is.command also.name is.name also.words_are is.words_are in
-    law contents is.name is.scenario is.base is.sources also.blame is.accepted (subst (λ n. IsFirstBlame contents n also.blame) same.1 also.first)
+pub done_or_refused : NotBothLaw → (what : Option Show) (held : Contents) (name : List ℕ) (bytes more : List ℕ) (rows others : List MeterRow) → IsDone what held name bytes rows → IsRefused held name more others → ⊥
+done_or_refused law what held name bytes more rows others is also = law held name is.scenario is.base is.sources is.replay also.blame is.accepted also.first
+
+-- two answers over the inputs of a name are one
+one_on : AcceptedLaw → BlameLaw → NotBothLaw → OneRunLaw → (what : Option Show) (held : Contents) (name : List ℕ) (status other : Status) (bytes more : List ℕ) (rows others : List MeterRow) →
+    IsAnswerOn what held name status bytes rows → IsAnswerOn what held name other more others → (status ≡ other) × (bytes ≡ more) × (rows ≡ others)
+one_on accepted blame not_both law what held name Done Done bytes more rows others is also = let same = one_done accepted law what held name bytes more rows others is also in (refl, same.0, same.1)
+one_on accepted blame not_both law what held name Done Refused bytes more rows others is also = absurd (done_or_refused not_both what held name bytes more rows others is also)
+one_on accepted blame not_both law what held name Done Usage bytes more rows others is also = absurd also
+one_on accepted blame not_both law what held name Done ReadFault bytes more rows others is also = absurd also
+one_on accepted blame not_both law what held name Done WriteFault bytes more rows others is also = absurd also
+one_on accepted blame not_both law what held name Done OutOfMemory bytes more rows others is also = absurd also
+one_on accepted blame not_both law what held name Refused Done bytes more rows others is also = absurd (done_or_refused not_both what held name more bytes others rows also is)
+one_on accepted blame not_both law what held name Refused Refused bytes more rows others is also = let same = one_refused blame held name bytes more rows others is also in (refl, same.0, same.1)
+one_on accepted blame not_both law what held name Refused Usage bytes more rows others is also = absurd also
+one_on accepted blame not_both law what held name Refused ReadFault bytes more rows others is also = absurd also
+one_on accepted blame not_both law what held name Refused WriteFault bytes more rows others is also = absurd also
+one_on accepted blame not_both law what held name Refused OutOfMemory bytes more rows others is also = absurd also
+one_on accepted blame not_both law what held name Usage other bytes more rows others is also = absurd is
+one_on accepted blame not_both law what held name ReadFault other bytes more rows others is also = absurd is
+one_on accepted blame not_both law what held name WriteFault other bytes more rows others is also = absurd is
+one_on accepted blame not_both law what held name OutOfMemory other bytes more rows others is also = absurd is
+
+-- an answer over the inputs of a name that is asked for is one over those of each that is
+pub moved_answer : (contents : Contents) (words : List (List ℕ)) (what other : Option Show) (held third : Contents) (name fourth : List ℕ) (status : Status) (bytes : List ℕ) (rows : List MeterRow) →
+    AsksSame what other held third name fourth → IsAnswerOn what held name status bytes rows → IsAnswerOn other third fourth status bytes rows
+moved_answer contents words what other held third name fourth status bytes rows same is =
+    subst (λ (n : List ℕ). IsAnswerOn other third n status bytes rows) same.names
+    (subst (λ (h : Contents). IsAnswerOn other h name status bytes rows) same.holds
+    (subst (λ (w : Option Show). IsAnswerOn w held name status bytes rows) same.shows is))
 
 -- two answers are one
 pub one_answer : AcceptedLaw → BlameLaw → NotBothLaw → OneRunLaw → (contents : Contents) (words : List (List ℕ)) (status other : Status) (bytes more : List ℕ) (rows others : List MeterRow) →
     IsAnswer contents words status bytes rows → IsAnswer contents words other more others → (status ≡ other) × (bytes ≡ more) × (rows ≡ others)
-one_answer accepted blame not_both law contents words Done Done bytes more rows others is also = let same = one_done accepted law contents words bytes more rows others is also in (refl, same.0, same.1)
-one_answer accepted blame not_both law contents words Done Refused bytes more rows others is also = absurd (done_or_refused not_both contents words bytes more rows others is also)
-one_answer accepted blame not_both law contents words Done Usage bytes more rows others is also = absurd (also.0 is.command is.name is.words_are)
-one_answer accepted blame not_both law contents words Refused Done bytes more rows others is also = absurd (done_or_refused not_both contents words more bytes others rows also is)
-one_answer accepted blame not_both law contents words Refused Refused bytes more rows others is also = let same = one_refused blame contents words bytes more rows others is also in (refl, same.0, same.1)
-one_answer accepted blame not_both law contents words Refused Usage bytes more rows others is also = absurd (also.0 is.command is.name is.words_are)
-one_answer accepted blame not_both law contents words Usage Done bytes more rows others is also = absurd (is.0 also.command also.name also.words_are)
-one_answer accepted blame not_both law contents words Usage Refused bytes more rows others is also = absurd (is.0 also.command also.name also.words_are)
-one_answer accepted blame not_both law contents words Usage Usage bytes more rows others is also = (refl, is.1 ∙ sym also.1, is.2 ∙ sym also.2)
-one_answer accepted blame not_both law contents words ReadFault other bytes more rows others is also = absurd is
-one_answer accepted blame not_both law contents words WriteFault other bytes more rows others is also = absurd is
-one_answer accepted blame not_both law contents words OutOfMemory other bytes more rows others is also = absurd is
-one_answer accepted blame not_both law contents words Done ReadFault bytes more rows others is also = absurd also
-one_answer accepted blame not_both law contents words Done WriteFault bytes more rows others is also = absurd also
-one_answer accepted blame not_both law contents words Done OutOfMemory bytes more rows others is also = absurd also
-one_answer accepted blame not_both law contents words Refused ReadFault bytes more rows others is also = absurd also
-one_answer accepted blame not_both law contents words Refused WriteFault bytes more rows others is also = absurd also
-one_answer accepted blame not_both law contents words Refused OutOfMemory bytes more rows others is also = absurd also
-one_answer accepted blame not_both law contents words Usage ReadFault bytes more rows others is also = absurd also
-one_answer accepted blame not_both law contents words Usage WriteFault bytes more rows others is also = absurd also
-one_answer accepted blame not_both law contents words Usage OutOfMemory bytes more rows others is also = absurd also
+one_answer accepted blame not_both law contents words status other bytes more rows others (inl is) (inl also) =
+    let same = one_asked contents words is.what also.what is.held also.held is.name also.name is.asked also.asked in
+    one_on accepted blame not_both law also.what also.held also.name status other bytes more rows others
+    (moved_answer contents words is.what also.what is.held also.held is.name also.name status bytes rows same is.answer) also.answer
+one_answer accepted blame not_both law contents words status other bytes more rows others (inl is) (inr (none, usage, empty, no_rows)) =
+    absurd (asked_or_none contents words is.what is.held is.name is.asked none)
+one_answer accepted blame not_both law contents words status other bytes more rows others (inr (none, usage, empty, no_rows)) (inl also) =
+    absurd (asked_or_none contents words also.what also.held also.name also.asked none)
+one_answer accepted blame not_both law contents words status other bytes more rows others (inr (none, usage, empty, no_rows)) (inr (none_too, usage_too, empty_too, no_rows_too)) =
+    (usage ∙ sym usage_too, empty ∙ sym empty_too, no_rows ∙ sym no_rows_too)
 
 -- ---- an answer is there
 
@@ -198,43 +213,47 @@ none_offends contents name base (node ∷ nodes) [] zip = elim zip [ ]
 none_offends contents name base (node ∷ nodes) (source ∷ sources) zip =
     All-cons (λ (program : Program). offences_of base program ≡ []) source.program (map (λ s. s.program) sources) (zip.0).no_offence (none_offends contents name base nodes sources zip.1)
 
-run_of : SomeRunLaw → (contents : Contents) (name : List ℕ) (scenario : Scenario) (base : List DbcMessage) (sources : List NodeSource) →
-    AreAccepted contents name scenario base sources → (rounds : List Passed) × IsRunOf scenario base sources rounds
-run_of law contents name scenario base sources accepted =
+run_of : SomeRunLaw → (contents : Contents) (name : List ℕ) (scenario : Scenario) (base : List DbcMessage) (sources : List NodeSource) (replay : Replay) →
+    AreAccepted contents name scenario base sources replay → (rounds : List Passed) × IsRunOf scenario base sources replay rounds
+run_of law contents name scenario base sources replay accepted =
     let within = scenario_within accepted.scenario_at.text scenario accepted.scenario_at.is in
     let ran =
-    law base scenario.turns (map (λ source. source.program) sources) (none_offends contents name base scenario.nodes.items sources accepted.sources_at)
-    scenario.until (new_bus scenario.bit) scenario.keys.items within.some_bit (nothing_due scenario.bit) in
+    law base scenario.turns (map (λ source. source.program) sources) (none_offends contents name base scenario.nodes.items sources accepted.nodes_at.sources_at)
+    scenario.until (new_bus scenario.bit) scenario.keys.items replay.list within.some_bit (nothing_due scenario.bit) in
     (ran.0, record { end = ran.1; is = ran.2 })
 
 -- a run is shown in some bytes
-shown_by : (show : Show) (scenario : Scenario) (base : List DbcMessage) (sources : List NodeSource) (rounds : List Passed) → IsRunOf scenario base sources rounds →
-    IsShown show scenario base sources (shown_of show scenario base sources (steps rounds scenario.picks.items)) (rows_in base sources (steps rounds scenario.picks.items))
-shown_by show scenario base sources rounds run = record { rounds = rounds; run = run; shows = refl; counts = refl }
+shown_by : (show : Show) (scenario : Scenario) (base : List DbcMessage) (sources : List NodeSource) (replay : Replay) (rounds : List Passed) → IsRunOf scenario base sources replay rounds →
+    IsShown show scenario base sources replay (shown_of show scenario base sources replay (steps rounds scenario.picks.items)) (rows_in base sources (steps rounds scenario.picks.items))
+shown_by show scenario base sources replay rounds run = record { rounds = rounds; run = run; shows = refl; counts = refl }
 
-answer_of : SomeRunLaw → (contents : Contents) (name : List ℕ) (what : Option Show) (scenario : Scenario) (base : List DbcMessage) (sources : List NodeSource) →
-    AreAccepted contents name scenario base sources → (bytes : List ℕ) × (rows : List MeterRow) × IsAnswerOf what scenario base sources bytes rows
-answer_of law contents name None scenario base sources accepted = (codes "ok\n", [], (refl, refl))
-answer_of law contents name (Some show) scenario base sources accepted =
-    let ran = run_of law contents name scenario base sources accepted in
+answer_of : SomeRunLaw → (contents : Contents) (name : List ℕ) (what : Option Show) (scenario : Scenario) (base : List DbcMessage) (sources : List NodeSource) (replay : Replay) →
+    AreAccepted contents name scenario base sources replay → (bytes : List ℕ) × (rows : List MeterRow) × IsAnswerOf what scenario base sources replay bytes rows
+answer_of law contents name None scenario base sources replay accepted = (codes "ok\n", [], (refl, refl))
+answer_of law contents name (Some show) scenario base sources replay accepted =
+    let ran = run_of law contents name scenario base sources replay accepted in
     let list : List Step = steps ran.0 scenario.picks.items in
-    (shown_of show scenario base sources list, rows_in base sources list, shown_by show scenario base sources ran.0 ran.1)
+    (shown_of show scenario base sources replay list, rows_in base sources list, shown_by show scenario base sources replay ran.0 ran.1)
 
--- accepted inputs of a command have an answer
-pub answer_there : SomeRunLaw → (contents : Contents) (words : List (List ℕ)) (command : Command) (name : List ℕ) (scenario : Scenario) (base : List DbcMessage) (sources : List NodeSource) →
-    IsCommand words command name → AreAccepted contents name scenario base sources → (bytes : List ℕ) × (rows : List MeterRow) × IsAnswer contents words Done bytes rows
-answer_there law contents words command name scenario base sources words_are accepted =
-    let own = answer_of law contents name (show_of command) scenario base sources accepted in (
+-- accepted inputs of which something is asked have an answer
+pub answer_there : SomeRunLaw → (contents held : Contents) (words : List (List ℕ)) (what : Option Show) (name : List ℕ) (scenario : Scenario) (base : List DbcMessage) (sources : List NodeSource) (replay : Replay) →
+    IsAsked contents words what held name → AreAccepted held name scenario base sources replay → (bytes : List ℕ) × (rows : List MeterRow) × IsAnswer contents words Done bytes rows
+answer_there law contents held words what name scenario base sources replay asked accepted =
+    let own = answer_of law held name what scenario base sources replay accepted in (
       own.0,
       own.1,
-      record {
-        command = command;
+      inl (record {
+        what = what;
+        held = held;
         name = name;
-        scenario = scenario;
-        base = base;
-        sources = sources;
-        words_are = words_are;
-        accepted = accepted;
-        answers = own.2;
-      },
+        asked = asked;
+        answer = record {
+          scenario = scenario;
+          base = base;
+          sources = sources;
+          replay = replay;
+          accepted = accepted;
+          answers = own.2;
+        };
+      }),
     )

@@ -3,7 +3,7 @@ use Rattle.std.proofs.Common.{◌≡◌, ℕ, ◌+◌, ◌<◌, ◌^◌, None, S
 use Rattle.std.specs.Prelude.{replicate, ◌==◌, if◌then◌else◌}
 use Rattle.std.specs.FinMap.{len-empty}
 use Rattle.std.specs.List.{sum_by}
-use Rattle.std.proofs.lemmas.List.Elements.{All-cons, All-head, All-nil, All-push, All-tail}
+use Rattle.std.proofs.lemmas.List.Elements.{All-cons, All-head, All-nil, All-push, All-tail, All-weaker}
 use Rattle.std.proofs.lemmas.List.{length-map, length-replicate, replicate-append-replicate}
 use Rattle.std.proofs.lemmas.List.Sums.{sum_by-append, sum_by-cons}
 use Rattle.bytecode.specs.declared.code.Code.{Code}
@@ -15,10 +15,11 @@ use Rattle.capl_tree.specs.declared.file.Program.{Program}
 use Rattle.dbc_reader.specs.declared.message.DbcMessage.{DbcMessage}
 use Rattle.node_run.specs.Node.{NodeInRound, loaded}
 use Rattle.node_run.specs.Sound.{IsSound}
-use Rattle.scenario.specs.Within.{IsEpochWithin}
-use Rattle.scenario.specs.declared.scenario.Epoch.{Epoch}
-use Rattle.scenario.specs.declared.scenario.Epoch.TheVariants.{At, First}
 use Rattle.scenario.specs.declared.scenario.NodeItem.{NodeItem}
+use Rattle.log_line.specs.Written.{IsLoggable}
+use Rattle.replay_node.specs.declared.replay.Replay.{Replay}
+use Rattle.replay_node.specs.declared.replay.Request.{Request}
+use Rattle.sim_inputs.specs.Answer.{IsPlayable}
 use Rattle.scenario.specs.declared.scenario.Scenario.{Scenario}
 use Rattle.sim_core.specs.Core.{IsLoaded}
 use Rattle.sim_inputs.specs.Answer.{AreCodesFor}
@@ -30,7 +31,6 @@ use Rattle.stack_vm.specs.declared.meter.MeterRow.{MeterRow}
 use Rattle.sim_run.proofs.FileLemmas.{files_number_entries}
 use Rattle.sim_run.specs.Inside.Loaded.{AreLoaded, loaded_nodes, no_run, rows_of_code}
 use Rattle.sim_run.specs.Inside.Played.{labels_with}
-use Rattle.sim_run.specs.Shown.{first_second}
 
 -- ---- one node more
 
@@ -127,18 +127,14 @@ files_there law base turns number (source ∷ sources) (code ∷ codes) codes_ar
       files_there law base turns (number + rows_of_code code) sources codes codes_are.1 (All-tail HasTrees source sources trees),
     )
 
-second_within : (epoch : Epoch) → IsEpochWithin epoch → first_second epoch < 2 ^ 32
-second_within (At seconds) within = omega (arith, within)
-second_within First within = omega arith
-
 -- they are shown under these names
 pub labels_fit : TablesLaw → (scenario : Scenario) (base : List DbcMessage) (sources : List NodeSource) (turns : ℕ) (codes : List Code) (nodes : List NodeInRound) (meter : List MeterRow)
-    (files : List (List (List ℕ))) → AreLoaded turns codes nodes meter → length codes ≡ length scenario.nodes.items → IsEpochWithin scenario.epoch → AreCodesFor base sources codes →
-    All HasTrees sources → files ≡ map file_names sources → AreLabelsOf (labels_with scenario files) nodes
-labels_fit law scenario base sources turns codes nodes meter files are one_each epoch codes_are trees files_are = record {
+    (files : List (List (List ℕ))) (replay : Replay) → AreLoaded turns codes nodes meter → length codes ≡ length scenario.nodes.items → replay.epoch < 2 ^ 32 → AreCodesFor base sources codes →
+    All HasTrees sources → files ≡ map file_names sources → AreLabelsOf (labels_with scenario files replay) nodes
+labels_fit law scenario base sources turns codes nodes meter files replay are one_each epoch codes_are trees files_are = record {
   names = length-map scenario.nodes.items (λ (node : NodeItem). node.name) ∙ sym one_each ∙ sym (as_many_nodes turns codes nodes meter are);
   files = subst (HaveFiles files) (sym are.are) (subst (λ f. HaveFiles f (loaded_nodes turns 0 codes)) (sym files_are) (files_there law base turns 0 sources codes codes_are trees));
-  in_range = second_within scenario.epoch epoch;
+  in_range = epoch;
 }
 
 -- ---- on a new bus
@@ -150,3 +146,9 @@ nothing_due bit = ap (λ n. if n == 0 then None else Some 0) (len-empty name_cmp
 -- and each frame that it carries is one, as it carries none
 pub carries_none : (bit : ℕ) (frame : FrameFields) → Carries (new_bus bit) frame → IsFrame frame
 carries_none bit frame carries = absurd (new_bus-carries_none bit frame carries)
+
+-- ---- the replay
+
+-- what a replay that can be played asks for are frames
+pub frames_of : (replay : Replay) → IsPlayable replay → All (λ (request : Request). IsFrame request.frame) replay.list
+frames_of replay playable = All-weaker (λ (request : Request). IsLoggable request.frame) (λ (request : Request). IsFrame request.frame) (λ request can. can.valid) replay.list playable.frames

@@ -1,5 +1,5 @@
 -- What is shown of the run of codes is what is shown of the run of their sources.
-use Rattle.std.proofs.Common.{◌≡◌, ℕ, ◌+◌, ◌<◌, ◌≤◌, Option, Some, List, [], ◌∷◌, ◌++◌, get_or, length, map, append_assoc, arith, refl, ap, subst, sym, ◌∙◌}
+use Rattle.std.proofs.Common.{◌≡◌, ℕ, suc, ◌+◌, ◌<◌, ◌≤◌, Option, Some, List, [], ◌∷◌, ◌++◌, get_or, length, map, append_assoc, arith, refl, ap, subst, sym, ◌∙◌}
 use Rattle.std.specs.Prelude.{replicate, slice_get, take}
 use Rattle.std.specs.List.{AllZip, range_with_len, sum_by}
 use Rattle.std.proofs.lemmas.List.{ext_get_or, get_or-replicate, length-replicate}
@@ -15,13 +15,15 @@ use Rattle.capl_tree.specs.declared.file.Program.{Program}
 use Rattle.dbc_reader.specs.declared.message.DbcMessage.{DbcMessage}
 use Rattle.node_rounds.specs.Reaction.{NodeState}
 use Rattle.node_run.specs.Code.{CodeMemory, code_reaction}
-use Rattle.node_run.specs.Node.{NodeInRound}
+use Rattle.node_run.specs.Node.{NodeInRound, loaded}
 use Rattle.run_laws.specs.Nodes.{AreLoadedFor, states_of}
 use Rattle.run_laws.specs.Sources.{first_source_nodes}
 use Rattle.run_meaning.specs.Counts.{row_then, row_with}
 use Rattle.run_meaning.specs.Done.{AddsAtMost}
 use Rattle.run_meaning.specs.Run.{IsRun, Passed, RunState, new_run, with_nodes}
 use Rattle.run_meaning.specs.Steps.{Step, entries, steps}
+use Rattle.replay_node.specs.declared.replay.Replay.{Replay}
+use Rattle.replay_node.specs.declared.replay.Request.{Request}
 use Rattle.scenario.specs.declared.scenario.KeyItem.{KeyItem}
 use Rattle.scenario.specs.declared.scenario.NodeItem.{NodeItem}
 use Rattle.scenario.specs.declared.scenario.Scenario.{Scenario}
@@ -30,13 +32,15 @@ use Rattle.sim_inputs.specs.Answer.{AreCodesFor}
 use Rattle.sim_inputs.specs.Nodes.{NodeSource, file_names}
 use Rattle.sim_outside.specs.Sink.{GrowsBy, GrowsByPrefix}
 use Rattle.sim_play.proofs.RowLemmas.{row_from_none}
-use Rattle.sim_play.specs.Play.{HasPlayed, IsPlayedInPart, shown_last, shown_run}
+use Rattle.sim_play.specs.Play as play
+use Rattle.sim_play.specs.Play.{HasPlayed, IsPlayedInPart, procedures_of, rows_then, shown_run}
 use Rattle.sim_play.specs.Files.{file_of}
 use Rattle.sim_play.specs.Profile.{handler_lines, profile_of}
 use Rattle.sim_play.specs.Show.{shown, shown_first}
+use Rattle.sim_play.specs.Summary.{summary_of}
 use Rattle.sim_play.specs.declared.labels.Labels.{Labels}
 use Rattle.sim_play.specs.declared.labels.Show.{Show}
-use Rattle.sim_play.specs.declared.labels.Show.TheVariants.{Window, Log, Both, Profile}
+use Rattle.sim_play.specs.declared.labels.Show.TheVariants.{Window, Log, Both, Profile, Summary}
 use Rattle.sim_text.specs.Profile.{profile_line}
 use Rattle.source_compiler.specs.Program.{lines_of}
 use Rattle.source_laws.specs.Code.{IsEntryOf, HasSourceTables}
@@ -46,7 +50,7 @@ use Rattle.sim_run.proofs.LoadedLemmas.{TablesLaw}
 use Rattle.sim_run.specs.Inside.Loaded.{AreLoaded, loaded_nodes, no_run, rows_of_code}
 use Rattle.sim_run.specs.Inside.Played.{IsCut, IsPlayed, labels_with}
 use Rattle.sim_run.specs.Run.{IsRunOf, first_rows, procedures_in, rows_in}
-use Rattle.sim_run.specs.Shown.{labels_of, node_lines, procedure_lines, profile_if, shown_of}
+use Rattle.sim_run.specs.Shown.{labels_of, node_lines, procedure_lines, shown_last, shown_of}
 
 -- ---- a node
 
@@ -131,44 +135,78 @@ profile_same law base row turns number (node ∷ nodes) (source ∷ sources) (co
     ∙ ap (λ n. node_lines base row (number + n) nodes sources) (rows_of_source law base source sources code codes codes_are) in
     (λ i. own i ++ rest i)
 
-last_same : TablesLaw → (show : Show) (scenario : Scenario) (base : List DbcMessage) (sources : List NodeSource) (codes : List Code) (list : List Step) → AreCodesFor base sources codes →
-    shown_last show (labels_of scenario sources) (loaded_nodes scenario.turns 0 codes) (row_then (rows_of (loaded_nodes scenario.turns 0 codes)) list) ≡ profile_if show scenario base sources list
-last_same law Window scenario base sources codes list codes_are = refl
-last_same law Log scenario base sources codes list codes_are = refl
-last_same law Both scenario base sources codes list codes_are = refl
-last_same law Profile scenario base sources codes list codes_are =
+as_many_sources : (base : List DbcMessage) (turns number : ℕ) (sources : List NodeSource) (codes : List Code) → AreCodesFor base sources codes → length (loaded_nodes turns number codes) ≡ length sources
+as_many_sources base turns number [] [] codes_are = refl
+as_many_sources base turns number [] (code ∷ codes) codes_are = elim codes_are [ ]
+as_many_sources base turns number (source ∷ sources) [] codes_are = elim codes_are [ ]
+as_many_sources base turns number (source ∷ sources) (code ∷ codes) codes_are =
+    ap suc (as_many_sources base turns (number + rows_of_code code) sources codes codes_are.1)
+
+-- nodes have as many event procedures as their sources
+procedures_same : TablesLaw → (base : List DbcMessage) (turns number : ℕ) (sources : List NodeSource) (codes : List Code) → AreCodesFor base sources codes →
+    procedures_of (loaded_nodes turns number codes) ≡ sum_by (procedures_in base) sources
+procedures_same law base turns number [] [] codes_are = refl
+procedures_same law base turns number [] (code ∷ codes) codes_are = elim codes_are [ ]
+procedures_same law base turns number (source ∷ sources) [] codes_are = elim codes_are [ ]
+procedures_same law base turns number (source ∷ sources) (code ∷ codes) codes_are =
+    let behind : List NodeInRound = loaded_nodes turns (number + rows_of_code code) codes in
+    let one = rows_of_source law base source sources code codes codes_are in
+    let rest = procedures_same law base turns (number + rows_of_code code) sources codes codes_are.1 in
+    let sum = sum_by-cons (λ (node : NodeInRound). length node.doing.node.memory.code.handlers) (loaded code number turns) behind in
+    let other = sum_by-cons (procedures_in base) source sources in
+    omega (arith, one, rest, sum, other)
+
+-- so they have the same rows
+rows_same : TablesLaw → (base : List DbcMessage) (turns : ℕ) (sources : List NodeSource) (codes : List Code) (list : List Step) → AreCodesFor base sources codes →
+    rows_then (loaded_nodes turns 0 codes) list ≡ rows_in base sources list
+rows_same law base turns sources codes list codes_are =
+    let first = rows_first law base turns 0 sources codes codes_are in
+    let many = procedures_same law base turns 0 sources codes codes_are in
+    (λ i. map (row_then (first i) list) (range_with_len 0 (many i)))
+
+last_same : TablesLaw → (show : Show) (scenario : Scenario) (base : List DbcMessage) (sources : List NodeSource) (replay : Replay) (codes : List Code) (list : List Step) → AreCodesFor base sources codes →
+    play.shown_last show (labels_of scenario sources replay) (loaded_nodes scenario.turns 0 codes) list ≡ shown_last show scenario base sources replay list
+last_same law Window scenario base sources replay codes list codes_are = refl
+last_same law Log scenario base sources replay codes list codes_are = refl
+last_same law Both scenario base sources replay codes list codes_are = refl
+last_same law Profile scenario base sources replay codes list codes_are =
     ap (λ rows. profile_of (map (λ node. node.name) scenario.nodes.items) (map file_names sources) (row_then rows list) (loaded_nodes scenario.turns 0 codes))
     (rows_first law base scenario.turns 0 sources codes codes_are)
     ∙ profile_same law base (row_then (first_rows base 0 sources) list) scenario.turns 0 scenario.nodes.items sources codes codes_are
+last_same law Summary scenario base sources replay codes list codes_are =
+    let many = as_many_sources base scenario.turns 0 sources codes codes_are in
+    let rows = rows_same law base scenario.turns sources codes list codes_are in
+    (λ i. summary_of (labels_of scenario sources replay) (many i) (entries list) (rows i))
 
 -- all that is shown of codes is shown of their sources
-all_same : TablesLaw → (show : Show) (scenario : Scenario) (base : List DbcMessage) (sources : List NodeSource) (codes : List Code) (list : List Step) → AreCodesFor base sources codes →
-    shown_run show (labels_of scenario sources) (loaded_nodes scenario.turns 0 codes) list ≡ shown_of show scenario base sources list
-all_same law show scenario base sources codes list codes_are =
-    let labels : Labels = labels_of scenario sources in
+all_same : TablesLaw → (show : Show) (scenario : Scenario) (base : List DbcMessage) (sources : List NodeSource) (replay : Replay) (codes : List Code) (list : List Step) → AreCodesFor base sources codes →
+    shown_run show (labels_of scenario sources replay) (loaded_nodes scenario.turns 0 codes) list ≡ shown_of show scenario base sources replay list
+all_same law show scenario base sources replay codes list codes_are =
+    let labels : Labels = labels_of scenario sources replay in
     let nodes : List NodeInRound = loaded_nodes scenario.turns 0 codes in
-    append_assoc (shown_first show labels) (shown show labels (entries list)) (shown_last show labels nodes (row_then (rows_of nodes) list))
-    ∙ ap (λ l. shown_first show labels ++ (shown show labels (entries list) ++ l)) (last_same law show scenario base sources codes list codes_are)
+    append_assoc (shown_first show labels) (shown show labels (entries list)) (play.shown_last show labels nodes list)
+    ∙ ap (λ l. shown_first show labels ++ (shown show labels (entries list) ++ l)) (last_same law show scenario base sources replay codes list codes_are)
 
 -- ---- the run
 
 -- a run of nodes that are loaded for programs is one of the programs
 abbrev pub RunsLaw : Type 0
 RunsLaw = (base : List DbcMessage) (turns : ℕ) (programs : List Program) (nodes : List NodeInRound) → AreLoadedFor base turns programs nodes → (until : ℕ) (b : BusState) (keys : List KeyItem)
-    (rounds : List Passed) (after : RunState (NodeState CodeMemory) BusState) → IsRun code_reaction one_channel until (new_run (states_of nodes) b keys []) rounds after →
-    (end : List (NodeState SourceMemory)) × IsRun by_source_reaction one_channel until (new_run (first_source_nodes base turns programs) b keys []) rounds (with_nodes after end)
+    (requests : List Request) (rounds : List Passed) (after : RunState (NodeState CodeMemory) BusState) →
+    IsRun code_reaction one_channel until (new_run (states_of nodes) b keys requests) rounds after →
+    (end : List (NodeState SourceMemory)) × IsRun by_source_reaction one_channel until (new_run (first_source_nodes base turns programs) b keys requests) rounds (with_nodes after end)
 
 -- the simulation of a scenario whose nodes have these codes
-abbrev pub core_with : Scenario → List Code → CoreState BusState
-core_with scenario codes = new_core (loaded_nodes scenario.turns 0 codes) (new_bus scenario.bit) scenario.keys.items [] scenario.picks.items scenario.until
+abbrev pub core_with : Scenario → List Code → Replay → CoreState BusState
+core_with scenario codes replay = new_core (loaded_nodes scenario.turns 0 codes) (new_bus scenario.bit) scenario.keys.items replay.list scenario.picks.items scenario.until
 
-run_there : RunsLaw → (scenario : Scenario) (base : List DbcMessage) (sources : List NodeSource) (codes : List Code) (rounds : List Passed) (end : RunState (NodeState CodeMemory) BusState) →
-    AreCodesFor base sources codes → IsRun code_reaction one_channel scenario.until (new_run (states_of (loaded_nodes scenario.turns 0 codes)) (new_bus scenario.bit) scenario.keys.items []) rounds end →
-    IsRunOf scenario base sources rounds
-run_there runs scenario base sources codes rounds end codes_are run =
+run_there : RunsLaw → (scenario : Scenario) (base : List DbcMessage) (sources : List NodeSource) (replay : Replay) (codes : List Code) (rounds : List Passed) (end : RunState (NodeState CodeMemory) BusState) →
+    AreCodesFor base sources codes → IsRun code_reaction one_channel scenario.until (new_run (states_of (loaded_nodes scenario.turns 0 codes)) (new_bus scenario.bit) scenario.keys.items replay.list) rounds end →
+    IsRunOf scenario base sources replay rounds
+run_there runs scenario base sources replay codes rounds end codes_are run =
     let own =
     runs base scenario.turns (map (λ source. source.program) sources) (loaded_nodes scenario.turns 0 codes) (all_loaded_for base scenario.turns 0 sources codes codes_are)
-    scenario.until (new_bus scenario.bit) scenario.keys.items rounds end run in
+    scenario.until (new_bus scenario.bit) scenario.keys.items replay.list rounds end run in
     record { end = with_nodes end own.0; is = own.1 }
 
 -- ---- the rows
@@ -186,22 +224,22 @@ rows_counted base sources list rows long counts =
 -- ---- a run that was played
 
 -- whole
-pub played_whole : TablesLaw → RunsLaw → (show : Show) (scenario : Scenario) (base : List DbcMessage) (sources : List NodeSource) (codes : List Code) (old new : Option (List ℕ)) (rows : List MeterRow) →
-    AreCodesFor base sources codes → length rows ≡ sum_by rows_of_code codes → HasPlayed one_channel show (labels_of scenario sources) (core_with scenario codes) old new rows →
-    IsPlayed show scenario base sources old new rows
-played_whole law runs show scenario base sources codes old new rows codes_are long played =
+pub played_whole : TablesLaw → RunsLaw → (show : Show) (scenario : Scenario) (base : List DbcMessage) (sources : List NodeSource) (replay : Replay) (codes : List Code) (old new : Option (List ℕ)) (rows : List MeterRow) →
+    AreCodesFor base sources codes → length rows ≡ sum_by rows_of_code codes → HasPlayed one_channel show (labels_of scenario sources replay) (core_with scenario codes replay) old new rows →
+    IsPlayed show scenario base sources replay old new rows
+played_whole law runs show scenario base sources replay codes old new rows codes_are long played =
     let list : List Step = steps played.rounds scenario.picks.items in
     let first = rows_first law base scenario.turns 0 sources codes codes_are in
     record {
-      bytes = shown_of show scenario base sources list;
+      bytes = shown_of show scenario base sources replay list;
       shown = record {
         rounds = played.rounds;
-        run = run_there runs scenario base sources codes played.rounds played.end codes_are played.is_run;
+        run = run_there runs scenario base sources replay codes played.rounds played.end codes_are played.is_run;
         shows = refl;
         counts = rows_counted base sources list rows (long ∙ rows_together law base sources codes codes_are)
             (λ number within. played.counts number within ∙ ap (λ l. Some (row_then l list number)) first);
       };
-      grows = subst (GrowsBy old new) (all_same law show scenario base sources codes list codes_are) played.grows;
+      grows = subst (GrowsBy old new) (all_same law show scenario base sources replay codes list codes_are) played.grows;
     }
 
 -- the row of a number in a meter that had zeros
@@ -211,22 +249,24 @@ zeros_at before number zeros within =
     ∙ ap (λ (row : MeterRow). Some row) (ap (λ l. get_or l number no_run) zeros ∙ get_or-replicate (length before) number no_run no_run within)
 
 -- in part
-pub played_in_part : TablesLaw → RunsLaw → (show : Show) (scenario : Scenario) (base : List DbcMessage) (sources : List NodeSource) (codes : List Code) (old new : Option (List ℕ))
+pub played_in_part : TablesLaw → RunsLaw → (show : Show) (scenario : Scenario) (base : List DbcMessage) (sources : List NodeSource) (replay : Replay) (codes : List Code) (old new : Option (List ℕ))
     (before rows : List MeterRow) → AreCodesFor base sources codes → before ≡ replicate (length before) no_run →
-    IsPlayedInPart one_channel show (labels_of scenario sources) (core_with scenario codes) old new before rows → IsCut show scenario base sources old new rows
-played_in_part law runs show scenario base sources codes old new before rows codes_are zeros played =
+    IsPlayedInPart one_channel show (labels_of scenario sources replay) (core_with scenario codes replay) old new before rows → IsCut show scenario base sources replay old new rows
+played_in_part law runs show scenario base sources replay codes old new before rows codes_are zeros played =
     let list : List Step = steps played.rounds scenario.picks.items in
     let first = rows_first law base scenario.turns 0 sources codes codes_are in
     let done : List Step = played.front ++ take 1 played.rest in
     record {
-      rounds = played.rounds;
-      run = run_there runs scenario base sources codes played.rounds played.end codes_are played.is_run;
-      begins = subst (GrowsByPrefix old new) (all_same law show scenario base sources codes list codes_are) played.begins;
-      front = played.front;
-      rest = played.rest;
-      are = played.are;
-      whole = played.whole;
-      at_most = λ number row there. runs_at_most before rows done (first_rows base 0 sources) (subst (λ l. AddsAtMost l done before rows) first played.metered) zeros number row there;
+      part = record {
+        rounds = played.rounds;
+        run = run_there runs scenario base sources replay codes played.rounds played.end codes_are played.is_run;
+        front = played.front;
+        rest = played.rest;
+        are = played.are;
+        whole = played.whole;
+        at_most = λ number row there. runs_at_most before rows done (first_rows base 0 sources) (subst (λ l. AddsAtMost l done before rows) first played.metered) zeros number row there;
+      };
+      begins = subst (GrowsByPrefix old new) (all_same law show scenario base sources replay codes list codes_are) played.begins;
     }
   where
     runs_at_most : (before rows : List MeterRow) (done : List Step) (first : List ℕ) → AddsAtMost first done before rows → before ≡ replicate (length before) no_run →
@@ -242,28 +282,28 @@ played_in_part law runs show scenario base sources codes old new before rows cod
 -- ---- what was made of inputs
 
 -- the simulation is that of a scenario with codes
-core_is : (scenario : Scenario) (codes : List Code) (nodes : List NodeInRound) (before : List MeterRow) (core : CoreState BusState) → AreLoaded scenario.turns codes nodes before →
-    core ≡ new_core nodes (new_bus scenario.bit) scenario.keys.items [] scenario.picks.items scenario.until → core ≡ core_with scenario codes
-core_is scenario codes nodes before core are is =
-    is ∙ ap (λ (l : List NodeInRound). new_core l (new_bus scenario.bit) scenario.keys.items [] scenario.picks.items scenario.until) are.are
+core_is : (scenario : Scenario) (replay : Replay) (codes : List Code) (nodes : List NodeInRound) (before : List MeterRow) (core : CoreState BusState) → AreLoaded scenario.turns codes nodes before →
+    core ≡ new_core nodes (new_bus scenario.bit) scenario.keys.items replay.list scenario.picks.items scenario.until → core ≡ core_with scenario codes replay
+core_is scenario replay codes nodes before core are is =
+    is ∙ ap (λ (l : List NodeInRound). new_core l (new_bus scenario.bit) scenario.keys.items replay.list scenario.picks.items scenario.until) are.are
 
 -- its run was shown whole
-pub shown_whole : TablesLaw → RunsLaw → (show : Show) (scenario : Scenario) (files : List (List (List ℕ))) (codes : List Code) (nodes : List NodeInRound) (labels : Labels) (core : CoreState BusState)
-    (old new : Option (List ℕ)) (before rows : List MeterRow) → AreLoaded scenario.turns codes nodes before → labels ≡ labels_with scenario files →
-    core ≡ new_core nodes (new_bus scenario.bit) scenario.keys.items [] scenario.picks.items scenario.until → length rows ≡ length before → HasPlayed one_channel show labels core old new rows →
-    (base : List DbcMessage) (sources : List NodeSource) → AreCodesFor base sources codes → files ≡ map file_names sources → IsPlayed show scenario base sources old new rows
-shown_whole law runs show scenario files codes nodes labels core old new before rows are labels_are core_are long played base sources codes_are files_are =
-    let own = subst (λ (k : CoreState BusState). HasPlayed one_channel show labels k old new rows) (core_is scenario codes nodes before core are core_are) played in
-    let named = subst (λ (l : Labels). HasPlayed one_channel show l (core_with scenario codes) old new rows) (labels_are ∙ ap (labels_with scenario) files_are) own in
-    played_whole law runs show scenario base sources codes old new rows codes_are (long ∙ ap length are.rows ∙ length-replicate (sum_by rows_of_code codes) no_run) named
+pub shown_whole : TablesLaw → RunsLaw → (show : Show) (scenario : Scenario) (replay : Replay) (files : List (List (List ℕ))) (codes : List Code) (nodes : List NodeInRound) (labels : Labels) (core : CoreState BusState)
+    (old new : Option (List ℕ)) (before rows : List MeterRow) → AreLoaded scenario.turns codes nodes before → labels ≡ labels_with scenario files replay →
+    core ≡ new_core nodes (new_bus scenario.bit) scenario.keys.items replay.list scenario.picks.items scenario.until → length rows ≡ length before → HasPlayed one_channel show labels core old new rows →
+    (base : List DbcMessage) (sources : List NodeSource) → AreCodesFor base sources codes → files ≡ map file_names sources → IsPlayed show scenario base sources replay old new rows
+shown_whole law runs show scenario replay files codes nodes labels core old new before rows are labels_are core_are long played base sources codes_are files_are =
+    let own = subst (λ (k : CoreState BusState). HasPlayed one_channel show labels k old new rows) (core_is scenario replay codes nodes before core are core_are) played in
+    let named = subst (λ (l : Labels). HasPlayed one_channel show l (core_with scenario codes replay) old new rows) (labels_are ∙ ap (λ f. labels_with scenario f replay) files_are) own in
+    played_whole law runs show scenario base sources replay codes old new rows codes_are (long ∙ ap length are.rows ∙ length-replicate (sum_by rows_of_code codes) no_run) named
 
 -- or in part
-pub shown_in_part : TablesLaw → RunsLaw → (show : Show) (scenario : Scenario) (files : List (List (List ℕ))) (codes : List Code) (nodes : List NodeInRound) (labels : Labels) (core : CoreState BusState)
-    (old new : Option (List ℕ)) (before rows : List MeterRow) → AreLoaded scenario.turns codes nodes before → labels ≡ labels_with scenario files →
-    core ≡ new_core nodes (new_bus scenario.bit) scenario.keys.items [] scenario.picks.items scenario.until → IsPlayedInPart one_channel show labels core old new before rows →
-    (base : List DbcMessage) (sources : List NodeSource) → AreCodesFor base sources codes → files ≡ map file_names sources → IsCut show scenario base sources old new rows
-shown_in_part law runs show scenario files codes nodes labels core old new before rows are labels_are core_are played base sources codes_are files_are =
-    let own = subst (λ (k : CoreState BusState). IsPlayedInPart one_channel show labels k old new before rows) (core_is scenario codes nodes before core are core_are) played in
-    let named = subst (λ (l : Labels). IsPlayedInPart one_channel show l (core_with scenario codes) old new before rows) (labels_are ∙ ap (labels_with scenario) files_are) own in
+pub shown_in_part : TablesLaw → RunsLaw → (show : Show) (scenario : Scenario) (replay : Replay) (files : List (List (List ℕ))) (codes : List Code) (nodes : List NodeInRound) (labels : Labels) (core : CoreState BusState)
+    (old new : Option (List ℕ)) (before rows : List MeterRow) → AreLoaded scenario.turns codes nodes before → labels ≡ labels_with scenario files replay →
+    core ≡ new_core nodes (new_bus scenario.bit) scenario.keys.items replay.list scenario.picks.items scenario.until → IsPlayedInPart one_channel show labels core old new before rows →
+    (base : List DbcMessage) (sources : List NodeSource) → AreCodesFor base sources codes → files ≡ map file_names sources → IsCut show scenario base sources replay old new rows
+shown_in_part law runs show scenario replay files codes nodes labels core old new before rows are labels_are core_are played base sources codes_are files_are =
+    let own = subst (λ (k : CoreState BusState). IsPlayedInPart one_channel show labels k old new before rows) (core_is scenario replay codes nodes before core are core_are) played in
+    let named = subst (λ (l : Labels). IsPlayedInPart one_channel show l (core_with scenario codes replay) old new before rows) (labels_are ∙ ap (λ f. labels_with scenario f replay) files_are) own in
     let long : length before ≡ sum_by rows_of_code codes = ap length are.rows ∙ length-replicate (sum_by rows_of_code codes) no_run in
-    played_in_part law runs show scenario base sources codes old new before rows codes_are (are.rows ∙ ap (λ n. replicate n no_run) (sym long)) named
+    played_in_part law runs show scenario base sources replay codes old new before rows codes_are (are.rows ∙ ap (λ n. replicate n no_run) (sym long)) named

@@ -4,6 +4,7 @@ use Rattle.std.specs.List.{range_with_len, sum_by}
 use Rattle.can_bus.specs.Bus.{BusState, new_bus, one_channel}
 use Rattle.stack_vm.specs.declared.meter.MeterRow.{MeterRow}
 use Rattle.scenario.specs.declared.scenario.Scenario.{Scenario}
+use Rattle.replay_node.specs.declared.replay.Replay.{Replay}
 use Rattle.dbc_reader.specs.declared.message.DbcMessage.{DbcMessage}
 use Rattle.capl_meaning.specs.Procedure.{handlers_in}
 use Rattle.node_rounds.specs.Reaction.{NodeState}
@@ -15,13 +16,14 @@ use Rattle.run_laws.specs.Sources.{first_source_nodes}
 use Rattle.sim_inputs.specs.Nodes.{NodeSource}
 
 -- These are the rounds of the run of a scenario whose nodes have these sources, with these messages of a
--- database: on a bus with the scenario's bits, with its keys, up to its end moment.
+-- database: on a bus with the scenario's bits, with its keys and the requests of its replay, up to its end
+-- moment.
 pub record IsRunOf (scenario : Scenario) (base : List DbcMessage) (sources : List NodeSource)
-    (rounds : List Passed) : Type 0 where
+    (replay : Replay) (rounds : List Passed) : Type 0 where
   pub end : RunState (NodeState SourceMemory) BusState
   pub is : IsRun by_source_reaction one_channel scenario.until
       (new_run (first_source_nodes base scenario.turns (map (λ source. source.program) sources))
-      (new_bus scenario.bit) scenario.keys.items []) rounds end
+      (new_bus scenario.bit) scenario.keys.items replay.list) rounds end
 
 -- how many event procedures a source has
 abbrev pub procedures_in : List DbcMessage → NodeSource → ℕ

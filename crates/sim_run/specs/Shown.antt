@@ -1,8 +1,7 @@
 -- What a command shows of a run of sources.
-use Rattle.std.specs.Prelude.{ℕ, ◌+◌, List, [], ◌∷◌, ◌++◌, map}
+use Rattle.std.specs.Prelude.{ℕ, ◌+◌, List, [], ◌∷◌, ◌++◌, length, map}
 use Rattle.stack_vm.specs.declared.meter.MeterRow.{MeterRow}
-use Rattle.scenario.specs.declared.scenario.Epoch.{Epoch}
-use Rattle.scenario.specs.declared.scenario.Epoch.TheVariants.{At, First}
+use Rattle.replay_node.specs.declared.replay.Replay.{Replay}
 use Rattle.scenario.specs.declared.scenario.NodeItem.{NodeItem}
 use Rattle.scenario.specs.declared.scenario.Scenario.{Scenario}
 use Rattle.dbc_reader.specs.declared.message.DbcMessage.{DbcMessage}
@@ -14,26 +13,23 @@ use Rattle.source_compiler.specs.Program.{lines_of}
 use Rattle.sim_inputs.specs.Nodes.{NodeSource, file_names}
 use Rattle.sim_play.specs.Files.{file_of}
 use Rattle.sim_play.specs.Show.{shown, shown_first}
+use Rattle.sim_play.specs.Summary.{summary_of}
 use Rattle.sim_play.specs.declared.labels.Labels.{Labels}
 use Rattle.sim_play.specs.declared.labels.Show.{Show}
-use Rattle.sim_play.specs.declared.labels.Show.TheVariants.{Profile}
+use Rattle.sim_play.specs.declared.labels.Show.TheVariants.{Profile, Summary}
 use Rattle.sim_text.specs.Profile.{profile_line}
-use Rattle.sim_run.specs.Run.{first_rows, procedures_in}
+use Rattle.sim_run.specs.Run.{first_rows, procedures_in, rows_in}
 
--- the second at which the measurement begins; without a log that is replayed, `first` is 0
-abbrev pub first_second : Epoch → ℕ
-first_second (At seconds) = seconds
-first_second First = 0
-
--- under which names a run is shown: those of the scenario's nodes, of their files and of its interface
-abbrev pub labels_of : Scenario → List NodeSource → Labels
-labels_of scenario sources = record {
+-- under which names a run is shown: those of the scenario's nodes, of their files and of its interface, from
+-- the epoch of its replay on
+abbrev pub labels_of : Scenario → List NodeSource → Replay → Labels
+labels_of scenario sources replay = record {
   names = map (λ node. node.name) scenario.nodes.items;
   files = map file_names sources;
   interface = scenario.interface;
   second = scenario.interface;
-  epoch = first_second scenario.epoch;
-  skipped = 0;
+  epoch = replay.epoch;
+  skipped = replay.skipped;
 }
 
 -- the lines of event procedures in a profile, the first of which has the row of a number
@@ -51,14 +47,18 @@ node_lines base row number (node ∷ nodes) (of ∷ sources) =
     ++ node_lines base row (number + procedures_in base of) nodes sources
 node_lines base row number _ _ = []
 
--- the profile of a run with these steps, where it is asked for
-abbrev pub profile_if : Show → Scenario → List DbcMessage → List NodeSource → List Step → List ℕ
-profile_if Profile scenario base sources steps =
+-- what is shown at the end of a run with these steps: the profile or the summary, where it is asked for
+abbrev pub shown_last : Show → Scenario → List DbcMessage → List NodeSource → Replay → List Step → List ℕ
+shown_last Profile scenario base sources replay steps =
     node_lines base (row_then (first_rows base 0 sources) steps) 0 scenario.nodes.items sources
-profile_if _ scenario base sources steps = []
+shown_last Summary scenario base sources replay steps =
+    summary_of (labels_of scenario sources replay) (length sources) (entries steps)
+    (rows_in base sources steps)
+shown_last _ scenario base sources replay steps = []
 
 -- all that is shown of a run with these steps
-abbrev pub shown_of : Show → Scenario → List DbcMessage → List NodeSource → List Step → List ℕ
-shown_of show scenario base sources steps =
-    shown_first show (labels_of scenario sources) ++ (shown show (labels_of scenario sources) (entries steps)
-    ++ profile_if show scenario base sources steps)
+abbrev pub shown_of : Show → Scenario → List DbcMessage → List NodeSource → Replay → List Step → List ℕ
+shown_of show scenario base sources replay steps =
+    let labels : Labels = labels_of scenario sources replay in
+    shown_first show labels ++ (shown show labels (entries steps)
+    ++ shown_last show scenario base sources replay steps)

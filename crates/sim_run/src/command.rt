@@ -1,12 +1,15 @@
 // Commands.
 
-ghost use Rattle.std.specs.Prelude.{◌≡◌, ◌≢◌, map, string_bytes, MatchOption};
-ghost use Rattle.sim_run.specs.Command.{IsCommand, IsNoCommand, command_word, show_of};
+ghost use Rattle.std.specs.Prelude.{◌≡◌, ◌≢◌, ◌≤◌, ℕ, codes, decimal, map, string_bytes, MatchOption};
+ghost use Rattle.sim_run.specs.Command.{IsNoCommand, command_word, show_of};
+ghost use Rattle.sim_run.specs.Inside.Answer.{AsksFor};
 ghost use Rattle.sim_run.specs.declared.command.Command.{Command};
 
+use itoa::Buffer;
+use sim_gen::MAX_COUNT;
 use sim_play::Show;
 
-/// What a user asks for.
+/// What is done with the inputs of a scenario.
 #[derive(Clone, Copy, Debug, PartialEq, Eq)]
 pub(crate) enum Command {
     /// Whether the inputs are accepted.
@@ -19,6 +22,15 @@ pub(crate) enum Command {
     Run,
     /// How often each event procedure ran, and how many turns it took.
     Profile,
+}
+
+/// What a user asks for.
+#[derive(Clone, Copy, Debug)]
+pub(crate) enum Asked<'a> {
+    /// A command on the scenario of this name.
+    Files(Command, &'a [u8]),
+    /// The summary of the generated scenario of so many nodes.
+    Generated(u32),
 }
 
 /// The command of its word.
@@ -41,16 +53,34 @@ fn command_of_word(word: &str) -> Option<Command>
     }
 }
 
-/// The command and the name of the scenario, or None where the words are no command.
-pub(crate) fn command_of(words: &[String]) -> Option<(Command, &[u8])>
+/// The number of nodes that a word stands for, from 1 to 64, without a leading zero.
+fn count_of_word(word: &str) -> Option<u32>
+    ensures { MatchOption result ((count : ℕ) → 1 ≤ count → count ≤ MAX_COUNT → word.now ≢ decimal count)
+        (λ count. (word.now ≡ decimal count) × (1 ≤ count) × (count ≤ MAX_COUNT)) }
+{
+    for before in 0..MAX_COUNT {
+        let count = before + 1;
+        let mut buffer = Buffer::new();
+        if buffer.format(count) == word {
+            return Some(count);
+        }
+    }
+    None
+}
+
+/// What the words ask for, or None where they are no command.
+pub(crate) fn asked_of(words: &[String]) -> Option<Asked<'_>>
     ensures { MatchOption result (IsNoCommand (map string_bytes words.now))
-        (λ found. IsCommand (map string_bytes words.now) found.0 found.1.now) }
+        (AsksFor (map string_bytes words.now)) }
 {
     if words.len() != 2 {
         return None;
     }
-    let command = command_of_word(words[0].as_str())?;
-    Some((command, words[1].as_bytes()))
+    let word = words[0].as_str();
+    if word == "gen" {
+        return Some(Asked::Generated(count_of_word(words[1].as_str())?));
+    }
+    Some(Asked::Files(command_of_word(word)?, words[1].as_bytes()))
 }
 
 /// What a command shows of a run.

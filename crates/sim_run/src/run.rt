@@ -2,19 +2,20 @@
 
 ghost use Rattle.std.specs.Prelude.{◌≡◌, ◌≤◌, ◌<◌, ◌++◌, [], All, IfOk, OnOk, length, map, replicate};
 ghost use Rattle.can_bus.specs.Bus.{new_bus};
+ghost use Rattle.can_frame.specs.Frame.{IsFrame};
 ghost use Rattle.node_run.specs.Node.{loaded};
 ghost use Rattle.node_run.specs.Sound.{IsSound};
 ghost use Rattle.scenario.specs.Within.{IsWithin};
 ghost use Rattle.sim_core.specs.Core.{IsLoaded, new_core};
 ghost use Rattle.sim_run.specs.Inside.Loaded.{AreLoaded, no_run, rows_of_code};
 ghost use Rattle.sim_run.specs.Inside.Played.{labels_with};
-ghost use Rattle.sim_run.specs.Shown.{first_second};
 
 use bus_heap::HeapBus;
 use bytecode::Verified;
 use items::Items;
 use node_run::Node;
-use scenario::{Epoch, NodeItem, Scenario};
+use replay_node::{Replay, Request};
+use scenario::{NodeItem, Scenario};
 use sim_core::Core;
 use sim_play::Labels;
 use stack_vm::Meter;
@@ -52,13 +53,15 @@ fn load_node(alloc: Global, code: Verified, turns: u64, meter: &mut Meter) -> Re
     Node::load(alloc, code, first_row, turns)
 }
 
-/// Under which names the nodes of a scenario are shown, which have these files.
+/// Under which names the nodes of a scenario are shown, which have these files, from the epoch of its replay
+/// on.
 pub(crate) fn labels_of(
     alloc: Global,
     scenario: &Scenario,
     files: Items<Items<Text>>,
+    replay: &Replay,
 ) -> Result<Labels, NoMemory>
-    ensures { IfOk result (λ labels. labels ≡ labels_with scenario.now files) }
+    ensures { IfOk result (λ labels. labels ≡ labels_with scenario.now files replay.now) }
 {
     let names = names_of(alloc, &scenario.nodes)?;
     let interface = Text::make(alloc, scenario.interface.bytes())?;
@@ -68,8 +71,8 @@ pub(crate) fn labels_of(
         files,
         interface,
         second,
-        epoch: first_second(scenario.epoch),
-        skipped: 0,
+        epoch: replay.epoch,
+        skipped: replay.skipped,
     })
 }
 
@@ -84,24 +87,21 @@ fn names_of(alloc: Global, nodes: &[NodeItem]) -> Result<Items<Text>, NoMemory>
     Ok(Items::from_list(names))
 }
 
-/// The second at which the measurement begins, where no log is replayed.
-fn first_second(epoch: Epoch) -> u64
-    ensures { result ≡ first_second epoch }
-{
-    match epoch {
-        Epoch::At(seconds) => seconds,
-        Epoch::First => 0,
-    }
-}
-
-/// The simulation of these nodes on the bus of a scenario, with its keys and its picks.
-pub(crate) fn core_of(alloc: Global, nodes: Vec<Node>, scenario: Scenario) -> Core<HeapBus>
+/// The simulation of these nodes on the bus of a scenario, with its keys, its picks and the requests of its
+/// replay.
+pub(crate) fn core_of(
+    alloc: Global,
+    nodes: Vec<Node>,
+    scenario: Scenario,
+    requests: Items<Request>,
+) -> Core<HeapBus>
     requires loaded { All IsLoaded nodes.items }
     requires few { length nodes.items ≤ 64 }
     requires within { IsWithin scenario }
     requires bytes { All (λ key. key.key < 256) scenario.keys.items }
-    ensures { result ≡ new_core nodes.items (new_bus scenario.bit) scenario.keys.items [] scenario.picks.items
-        scenario.until }
+    requires frames { All (λ request. IsFrame request.frame) requests }
+    ensures { result ≡ new_core nodes.items (new_bus scenario.bit) scenario.keys.items requests
+        scenario.picks.items scenario.until }
 {
     let Scenario {
         bit,
@@ -111,5 +111,5 @@ pub(crate) fn core_of(alloc: Global, nodes: Vec<Node>, scenario: Scenario) -> Co
         ..
     } = scenario;
     let bus = HeapBus::make(alloc, bit);
-    Core::make(alloc, nodes, bus, keys, Vec::new(alloc), picks, until)
+    Core::make(alloc, nodes, bus, keys, requests.into_list(), picks, until)
 }

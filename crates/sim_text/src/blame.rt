@@ -52,7 +52,7 @@ mod tests {
     #[test]
     fn lines_of_some_blames(rt: HostRuntime) -> Result<(), Fail> {
         let rows = [
-            (None, None, b'N', 1, "refused d/n.can N01\n"),
+            (None, None, b'L', 1, "refused d/n.can L01\n"),
             (Some(3), None, b'E', 7, "refused d/n.can:3 E07\n"),
             (Some(12), Some(40), b'E', 28, "refused d/n.can:12:40 E28\n"),
         ];

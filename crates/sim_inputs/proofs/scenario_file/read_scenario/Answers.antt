@@ -8,8 +8,7 @@ returns-clause-taken g c =
     let is = c.in_ok-scenario.ensures.judged in
     record {
       text = text;
-      is = is.0;
-      no_replay = is.1;
-      some_node = some_node text c.in_ok-scenario.scenario is.0;
-      few_nodes = few_nodes text c.in_ok-scenario.scenario is.0;
+      is = is;
+      some_node = some_node text c.in_ok-scenario.scenario is;
+      few_nodes = few_nodes text c.in_ok-scenario.scenario is;
     }

@@ -1,62 +1,57 @@
--- What was written of the answer.
-use Rattle.std.proofs.Common.{◌∙◌, List, ℕ, map, refl, sym, subst}
-use Rattle.std.specs.Prelude.{IsSome, string_bytes}
-use Rattle.sim_inputs.specs.Accepted.{IsFirstBlame}
-use Rattle.sim_text.specs.Blame.{blame_line}
-use Rattle.sim_run.specs.Command.{IsCommand, show_of}
-use Rattle.sim_run.specs.declared.command.Command.{Command}
-use Rattle.sim_run.proofs.CommandLemmas.{one_command}
-use Rattle.sim_run.proofs.WrittenLemmas.{answer_of_blame, blame_partly, inputs_as_it_happens, inputs_partly, inputs_whole}
+-- The answer to the words is that over the inputs that they ask for.
+use Rattle.std.proofs.Common.{map, inl, refl}
+use Rattle.std.specs.Prelude.{Some, string_bytes}
+use Rattle.sim_gen.specs.Files.{held_by}
+use Rattle.sim_play.specs.declared.labels.Show.TheVariants.{Summary}
+use Rattle.sim_run.proofs.WrittenLemmas.{answer_by, answer_over, asks_generated, begun_of, none_fails, part_over}
 use Rattle.sim_run.proofs.answer.simulate.Goals as goal
 
--- what was written is the answer over the inputs
-pub returns-in-Ok-read_inputs-clause-whole : goal.returns-in-Ok-read_inputs-clause-whole
-returns-in-Ok-read_inputs-clause-whole g c = λ contents told.
-    let words = map string_bytes c.args.words.now in
-    let command = c.in-Some.command in
-    let words_are = subst (IsCommand words command) (sym c.in-Ok.ensures) c.in-Some.ensures in
-    let are = rw told at c.in-Ok-read_inputs.ensures.told in
-    rw c.status_after.ensures
-    (inputs_whole contents words command c.in-Ok.name c.in-Ok-read_inputs.inputs c.answer_inputs-written.result _ _ c.answer_inputs-written.new.meter words_are are c.answer_inputs-written.ensures.answers)
+-- ---- a command
 
--- or a beginning of it
-pub returns-in-Ok-read_inputs-clause-prefix : goal.returns-in-Ok-read_inputs-clause-prefix
-returns-in-Ok-read_inputs-clause-prefix g c = λ contents told.
-    let words = map string_bytes c.args.words.now in
-    let command = c.in-Some.command in
-    let words_are = subst (IsCommand words command) (sym c.in-Ok.ensures) c.in-Some.ensures in
-    let are = rw told at c.in-Ok-read_inputs.ensures.told in
-    rw c.status_after.ensures
-    (inputs_partly contents words command c.in-Ok.name c.in-Ok-read_inputs.inputs c.answer_inputs-written.result _ _ c.answer_inputs-written.new.meter words_are are c.answer_inputs-written.ensures.answers)
+pub returns-in-Some-Files-clause-prefix : goal.returns-in-Some-Files-clause-prefix
+returns-in-Some-Files-clause-prefix g c = λ contents told ended.
+    begun_of contents (map string_bytes c.args.words.now) c.show_of.result contents c.in-Some-Files.name.now _ _
+    (inl (c.in-Some-Files.command, rw c.in-Some-Files.field-0-is at c.in-Some-Files.ensures, c.show_of.ensures, refl)) (c.answer_on.ensures.prefix contents told ended)
 
--- each line was written before later tasks ran
-pub returns-in-Ok-read_inputs-clause-as_it_happens : goal.returns-in-Ok-read_inputs-clause-as_it_happens
-returns-in-Ok-read_inputs-clause-as_it_happens g c = λ contents told other name other_are shows scenario base sources accepted failed.
-    let words = map string_bytes c.args.words.now in
-    let command = c.in-Some.command in
-    let words_are = subst (IsCommand words command) (sym c.in-Ok.ensures) c.in-Some.ensures in
-    let are = rw told at c.in-Ok-read_inputs.ensures.told in
-    let same = one_command words other command name c.in-Ok.name other_are words_are in
-    inputs_as_it_happens contents words command c.in-Ok.name c.in-Ok-read_inputs.inputs c.answer_inputs-written.result _ _ c.answer_inputs-written.new.meter words_are are
-    c.answer_inputs-written.ensures.answers (show_of command) refl (subst (λ (k : Command). IsSome (show_of k)) same.0 shows) (sym c.status_after.ensures ∙ failed)
+pub returns-in-Some-Files-clause-as_it_happens : goal.returns-in-Some-Files-clause-as_it_happens
+returns-in-Some-Files-clause-as_it_happens g c = λ contents told show held name asked scenario base sources replay accepted failed.
+    part_over contents (map string_bytes c.args.words.now) show c.show_of.result contents held c.in-Some-Files.name.now name scenario base sources replay _ _ c.answer_on.new.meter asked
+    (inl (c.in-Some-Files.command, rw c.in-Some-Files.field-0-is at c.in-Some-Files.ensures, c.show_of.ensures, refl)) accepted
+    (λ shows here. c.answer_on.ensures.as_it_happens contents told show shows scenario base sources replay here failed)
 
--- or a beginning of the line of a blame
-pub returns-in-Err-Blamed-clause-prefix : goal.returns-in-Err-Blamed-clause-prefix
-returns-in-Err-Blamed-clause-prefix g c = λ contents told.
-    let words = map string_bytes c.args.words.now in
-    let blame = c.in-Err-Blamed.blame in
-    let words_are = subst (IsCommand words c.in-Some.command) (sym c.in-Ok.ensures) c.in-Some.ensures in
-    let first = rw (told, c.in-Err-Blamed.field-0-is) at c.in-Err-Blamed.ensures.told in
-    let answer = answer_of_blame contents words c.in-Some.command c.in-Ok.name blame c.args.meter.now words_are first c.requires.no_rows in
-    let grows = rw c.in-Err-Blamed.blame-is at c.write_blame.ensures.grows in
-    rw c.status_after-in-Err-Blamed.ensures (blame_partly contents words c.write_blame.result _ _ (blame_line blame) c.args.meter.now answer grows)
+pub returns-in-Some-Files-clause-complete : goal.returns-in-Some-Files-clause-complete
+returns-in-Some-Files-clause-complete g c = λ contents told bytes rows answer none_read none_written.
+    c.answer_on.ensures.complete contents told bytes rows
+    (answer_over contents (map string_bytes c.args.words.now) c.show_of.result contents c.in-Some-Files.name.now bytes rows
+    (inl (c.in-Some-Files.command, rw c.in-Some-Files.field-0-is at c.in-Some-Files.ensures, c.show_of.ensures, refl)) answer) none_read none_written
 
--- accepted inputs have no blame
-pub returns-in-Err-Blamed-clause-as_it_happens : goal.returns-in-Err-Blamed-clause-as_it_happens
-returns-in-Err-Blamed-clause-as_it_happens g c = λ contents told other name other_are shows scenario base sources accepted failed.
-    let words = map string_bytes c.args.words.now in
-    let blame = c.in-Err-Blamed.blame in
-    let words_are = subst (IsCommand words c.in-Some.command) (sym c.in-Ok.ensures) c.in-Some.ensures in
-    let first = rw (told, c.in-Err-Blamed.field-0-is) at c.in-Err-Blamed.ensures.told in
-    let same = one_command words c.in-Some.command other c.in-Ok.name name words_are other_are in
-    absurd (c.one_reading.ensures.not_both contents name scenario base sources blame accepted (subst (λ (n : List ℕ). IsFirstBlame contents n blame) same.1 first))
+-- ---- a generated scenario
+
+pub returns-in-Ok-clause-whole : goal.returns-in-Ok-clause-whole
+returns-in-Ok-clause-whole g c = λ contents told ended.
+    let made = c.in-Ok.made in
+    answer_by contents (map string_bytes c.args.words.now) (Some Summary) (held_by made) c.as_bytes-name.result.now c.answer_on-in-Some-Generated.result _ _ c.answer_on-in-Some-Generated.new.meter
+    (asks_generated contents (map string_bytes c.args.words.now) c.in-Some-Generated.count made c.as_bytes-name.result.now (rw c.in-Some-Generated.field-0-is at c.in-Some-Generated.ensures) c.in-Ok.ensures c.as_bytes-name.ensures.value)
+    (c.answer_on-in-Some-Generated.ensures.whole (held_by made) refl ended)
+
+pub returns-in-Ok-clause-prefix : goal.returns-in-Ok-clause-prefix
+returns-in-Ok-clause-prefix g c = λ contents told ended.
+    let made = c.in-Ok.made in
+    begun_of contents (map string_bytes c.args.words.now) (Some Summary) (held_by made) c.as_bytes-name.result.now _ _
+    (asks_generated contents (map string_bytes c.args.words.now) c.in-Some-Generated.count made c.as_bytes-name.result.now (rw c.in-Some-Generated.field-0-is at c.in-Some-Generated.ensures) c.in-Ok.ensures c.as_bytes-name.ensures.value)
+    (c.answer_on-in-Some-Generated.ensures.prefix (held_by made) refl ended)
+
+pub returns-in-Ok-clause-as_it_happens : goal.returns-in-Ok-clause-as_it_happens
+returns-in-Ok-clause-as_it_happens g c = λ contents told show held name asked scenario base sources replay accepted failed.
+    let made = c.in-Ok.made in
+    part_over contents (map string_bytes c.args.words.now) show (Some Summary) (held_by made) held c.as_bytes-name.result.now name scenario base sources replay _ _ c.answer_on-in-Some-Generated.new.meter asked
+    (asks_generated contents (map string_bytes c.args.words.now) c.in-Some-Generated.count made c.as_bytes-name.result.now (rw c.in-Some-Generated.field-0-is at c.in-Some-Generated.ensures) c.in-Ok.ensures c.as_bytes-name.ensures.value) accepted
+    (λ shows here. c.answer_on-in-Some-Generated.ensures.as_it_happens (held_by made) refl show shows scenario base sources replay here failed)
+
+pub returns-in-Ok-clause-complete : goal.returns-in-Ok-clause-complete
+returns-in-Ok-clause-complete g c = λ contents told bytes rows answer none_read none_written.
+    let made = c.in-Ok.made in
+    c.answer_on-in-Some-Generated.ensures.complete (held_by made) refl bytes rows
+    (answer_over contents (map string_bytes c.args.words.now) (Some Summary) (held_by made) c.as_bytes-name.result.now bytes rows
+    (asks_generated contents (map string_bytes c.args.words.now) c.in-Some-Generated.count made c.as_bytes-name.result.now (rw c.in-Some-Generated.field-0-is at c.in-Some-Generated.ensures) c.in-Ok.ensures c.as_bytes-name.ensures.value) answer)
+    none_fails none_written
