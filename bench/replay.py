@@ -11,13 +11,14 @@ before or a little later, and so the longest log that a run of its length can ha
 
 The program runs `log` and `check`, and walker.rs, built by rustc -O, does the same by hand: it reads the file,
 counts each frame's bits one by one, and writes each line by a call of its own. Both run in turn so many rounds, 5 if
-not given, pinned to one core. A row tells the frames, of `log` and of `check` the median, the least and the greatest
-of the program's processor seconds and the median of the walker's, the seconds of `log` for a MiB, and how many
-times the bytes of the file the program's most memory is. What is written goes to /dev/null, or, with --to, to a
-file in a folder. Before that it looks whether both write the log that they read, and stops where they do not.
+not given, pinned to one core. A row tells the frames, and of `log` and of `check` the least of the program's
+processor seconds, and the median, the least and the greatest of their ratios to the walker's in the same round; then
+the least milliseconds of `log` for a MiB, and the most memory that one more run of `log` was seen to have, in MB and
+in times the file. What is written goes to /dev/null, or, with --to, to a file in a folder. Before that it looks
+whether both write the log that they read, and stops where they do not.
 
-With --gen `gen N` is timed in the same way, for 1, 2, 4 and so on up to 64 nodes or the numbers given. With --write
-a scenario and its log are kept in a folder, and nothing is run.
+With --gen `gen N` is timed, for 1, 2, 4 and so on up to 64 nodes or the numbers given: the least, the median and the
+greatest of its seconds. With --write a scenario and its log are kept in a folder, and nothing is run.
 """
 import argparse
 import os
@@ -27,6 +28,7 @@ import statistics
 import subprocess
 import sys
 import tempfile
+import time
 
 from run import processor
 
@@ -92,21 +94,41 @@ def write(folder, mib):
 # ---- the figures
 
 
-def timed(words, core, to):
-    """The processor seconds that a command takes, and its most memory in bytes."""
+def started(words, core, to):
+    """A process of a command, pinned to a core."""
     pin = lambda: os.sched_setaffinity(0, {core})
     with open(to, "wb") as out:
-        run = subprocess.Popen(words, stdin=subprocess.DEVNULL, stdout=out, preexec_fn=pin)
-        _, status, usage = os.wait4(run.pid, 0)
+        return subprocess.Popen(words, stdin=subprocess.DEVNULL, stdout=out, preexec_fn=pin)
+
+
+def timed(words, core, to):
+    """The processor seconds that a command takes."""
+    run = started(words, core, to)
+    _, status, usage = os.wait4(run.pid, 0)
     run.returncode = os.waitstatus_to_exitcode(status)
     if run.returncode:
         stop(f"{' '.join(map(str, words))} ended with status {run.returncode}")
-    return usage.ru_utime + usage.ru_stime, usage.ru_maxrss * 1024
+    return usage.ru_utime + usage.ru_stime
 
 
-def spread(seconds):
+def memory(words, core, to):
+    """The most bytes of memory that a command is seen to have; what wait4 tells has those of this script in it."""
+    run, most = started(words, core, to), 0
+    while run.poll() is None:
+        try:
+            if os.readlink(f"/proc/{run.pid}/exe") == str(words[0]):
+                status = pathlib.Path(f"/proc/{run.pid}/status").read_text()
+                most = max([most, *(1024 * int(row.split()[1]) for row in status.splitlines() if "VmHWM" in row)])
+        except OSError:
+            pass  # it has just ended
+        time.sleep(0.001)
+    return most
+
+
+def spread(numbers, places):
     """The median, the least and the greatest."""
-    return f"{statistics.median(seconds):.3f} ({min(seconds):.3f} to {max(seconds):.3f})"
+    return " ".join([f"{statistics.median(numbers):.{places}f}",
+                     f"({min(numbers):.{places}f} to {max(numbers):.{places}f})"])
 
 
 def walks(walker, command, folder):
@@ -128,26 +150,21 @@ def report(words, walker, folder, mib):
     size = (folder / "r.log").stat().st_size
     compare(words, walker, folder, name)
     to = words.to / "out.log" if words.to else os.devnull
-    rows, memory = [], 0
+    cells = [f"{mib:4} {count:10,}"]
+    least = {}
     for command in ("log", "check"):
-        taken, walked = [], []
-        for _ in range(words.rounds):
-            seconds, most = timed([words.program, command, name], words.core, to)
-            taken.append(seconds)
-            memory = max(memory, most)
-            walked.append(timed(walks(walker, command, folder), words.core, to)[0])
-        rows.append((taken, statistics.median(walked)))
-    (log, by_hand), (check, read_by_hand) = rows
-    print(f"{mib:4} {count:10,} {spread(log):24} {by_hand:7.3f} {spread(check):24} {read_by_hand:7.3f} "
-          f"{1000 * statistics.median(log) / mib:7.1f} {memory / size:7.2f}", flush=True)
+        rounds = [(timed([words.program, command, name], words.core, to),
+                   timed(walks(walker, command, folder), words.core, to)) for _ in range(words.rounds)]
+        least[command] = min(it[0] for it in rounds)
+        cells.append(f"{least[command]:7.3f} {spread([own / walked for own, walked in rounds], 2):21}")
+    most = memory([words.program, "log", name], words.core, to)
+    print(*cells, f"{1000 * least['log'] / mib:7.1f} {most / 1e6:6.1f} {most / size:6.2f}", flush=True)
 
 
 def report_generated(words, count):
     """Prints the row of a generated scenario."""
-    runs = [timed([words.program, "gen", str(count)], words.core, os.devnull) for _ in range(words.rounds)]
-    seconds = [it[0] for it in runs]
-    print(f"{count:5} {spread(seconds):24} {1000 * statistics.median(seconds) / count:8.2f} "
-          f"{max(it[1] for it in runs) / 1e6:5.0f}", flush=True)
+    seconds = [timed([words.program, "gen", str(count)], words.core, os.devnull) for _ in range(words.rounds)]
+    print(f"{count:5} {min(seconds):8.3f} {spread(seconds, 3):24} {1000 * min(seconds) / count:8.2f}", flush=True)
 
 
 def main():
@@ -168,11 +185,11 @@ def main():
         parser.error("a program is needed")
     print(processor())
     if words.gen is not None:
-        print("nodes seconds                  ms/node    MB")
+        print("nodes    least seconds                  ms/node")
         for count in words.gen or COUNTS:
             report_generated(words, count)
         return
-    print(" MiB     frames log                      by hand check                    by hand  ms/MiB  memory")
+    print(" MiB     frames     log times the walker        check times the walker       ms/MiB     MB  times")
     with tempfile.TemporaryDirectory(prefix="replay-bench-") as temporary:
         walker = pathlib.Path(temporary) / "walker"
         subprocess.run(["rustc", "-O", "-o", walker, HERE / "walker.rs"], check=True)
