@@ -19,6 +19,7 @@ Each scenario runs in a copy of its folder, for at most 60 seconds, and nothing
 may stand on standard error. Then examples/body-bus runs under random picks: its frames,
 the lines of each of its nodes and its profile have to be the same under all of them.
 At each bit rate its log is replayed to a node without procedures, which has to give the same log.
+A log of 64 MiB has to be read, and one of a byte more refused; both are of zeros alone, and made for the trial.
 Last `capl` is tried: without words and when asked for help,
 in a checkout with the released program and nothing built, where that program is of the
 sources, and in one whose sources are others, where it has to build and cannot.
@@ -49,6 +50,9 @@ BUS = ROOT / "examples" / "body-bus"
 LISTS = 20
 PICKS = 1000
 SEED = 20
+
+# The most bytes of a log that is replayed.
+MOST_LOG = 64 << 20
 
 # What a scenario may say of the bit rate, as docs/scenario.md has it.
 RATES = (10000, 12500, 15625, 20000, 25000, 31250, 40000, 50000, 62500, 100000, 125000, 200000, 250000, 500000, 1000000)
@@ -201,6 +205,20 @@ def faults_of_replays(program, rate):
     return [] if again == log else [f"replayed {again[:400]!r}, not {log[:400]!r}"]
 
 
+def faults_of_log_sizes(program):
+    """What is wrong with the greatest log that may be replayed, one line without a reading or an end, or with one more."""
+    with tempfile.TemporaryDirectory() as keep:
+        work = pathlib.Path(keep)
+        (work / "n.can").write_text("")
+        (work / "s.scn").write_text("scenario 1\nnode N n.can\nreplay r.log\n")
+        (work / "r.log").write_bytes(b"")
+        for size, want in ((MOST_LOG, (0, b"w 0.000000 replay skipped 1\n")), (MOST_LOG + 1, (1, b"refused r.log F02\n"))):
+            os.truncate(work / "r.log", size)
+            done = started(program, ["window", "s.scn"], work, stdout=subprocess.PIPE)
+            if (done.returncode, done.stdout) != want:
+                yield f"of {size} bytes: status {done.returncode}, wrote {done.stdout[:400]!r}, not {want}"
+
+
 def called(script, *words, **how):
     """Calls capl with words, and gives status, output and error output."""
     done = subprocess.run([script, *words], stdin=subprocess.DEVNULL, capture_output=True, timeout=SECONDS, **how)
@@ -263,6 +281,7 @@ def main():
     trials += [("examples/body-bus under random picks", faults_of_picks(program))]
     trials += [(f"examples/body-bus replayed at {rate} bits a second", faults_of_replays(program, rate))
                for rate in RATES]
+    trials += [("logs of 64 MiB and of a byte more", list(faults_of_log_sizes(program)))]
     trials += [(" ".join(["capl", *words]), list(faults_of_help(*words))) for words in ((), ("--help",), ("-h",))]
     trials += [("capl on a fresh clone", list(faults_of_released()))]
     passed = failed = 0
