@@ -10,8 +10,8 @@ use texts::{Blame, Text};
 /// Files with their names, of which the first is the scenario.
 type Files = &'static [(&'static [u8], &'static [u8])];
 
-/// A blame: the file, the line, and the letter and number of the rule.
-type Place = (&'static [u8], Option<u32>, u8, u8);
+/// A blame: the file, the line and the column, and the letter and number of the rule.
+type Place = (&'static [u8], Option<u32>, Option<u32>, u8, u8);
 
 /// A program of 900,000 cells.
 const LARGE: &[u8] = b"variables { byte a[900000]; }";
@@ -60,14 +60,14 @@ const TAKEN: [(Files, &[usize]); 3] = [
 ];
 
 const BLAMES: [(Files, Place); 19] = [
-    (&[(b"t", b"")], (b"s", None, b'F', 1)),
+    (&[(b"t", b"")], (b"s", None, None, b'F', 1)),
     (
         &[(b"s", b"scenario 1\nnode N n\nuntil x")],
-        (b"s", Some(3), b'S', 7),
+        (b"s", Some(3), None, b'S', 7),
     ),
     (
         &[(b"s", b"scenario 1\nnode N n\nreplay r"), (b"n", b"")],
-        (b"r", None, b'F', 1),
+        (b"r", None, None, b'F', 1),
     ),
     (
         &[
@@ -75,30 +75,33 @@ const BLAMES: [(Files, Place); 19] = [
             (b"n", b""),
             (b"r", b"(1.000000) can0 123#\n(1.000000) can0 #\n"),
         ],
-        (b"r", Some(2), b'L', 1),
+        (b"r", Some(2), None, b'L', 1),
     ),
     (
         &[(b"s", b"scenario 1\nnode N n\ndatabase b")],
-        (b"b", None, b'F', 1),
+        (b"b", None, None, b'F', 1),
     ),
     (
         &[
             (b"s", b"scenario 1\nnode N n\ndatabase b"),
             (b"b", b"\nBO_"),
         ],
-        (b"b", Some(2), b'D', 1),
+        (b"b", Some(2), None, b'D', 1),
     ),
     (
         &[
             (b"s", b"scenario 1\nnode N n\ndatabase b"),
             (b"b", b"BO_ 1 A: 1 N\nBO_ 1 B: 1 N"),
         ],
-        (b"b", Some(2), b'D', 2),
+        (b"b", Some(2), None, b'D', 2),
     ),
-    (&[(b"s", b"scenario 1\nnode N n")], (b"n", None, b'E', 7)),
+    (
+        &[(b"s", b"scenario 1\nnode N n")],
+        (b"n", None, None, b'E', 7),
+    ),
     (
         &[(b"s", b"scenario 1\nnode N n"), (b"n", b"\n `")],
-        (b"n", Some(2), b'E', 1),
+        (b"n", Some(2), Some(2), b'E', 1),
     ),
     // The tokens of all files come before the trees of any.
     (
@@ -107,11 +110,11 @@ const BLAMES: [(Files, Place); 19] = [
             (b"n", b"#include \"u\"\nfloat"),
             (b"u", b"on on"),
         ],
-        (b"n", Some(2), b'E', 5),
+        (b"n", Some(2), Some(1), b'E', 5),
     ),
     (
         &[(b"s", b"scenario 1\nnode N n"), (b"n", b"on"), (b"u", b"")],
-        (b"n", None, b'E', 2),
+        (b"n", None, None, b'E', 2),
     ),
     (
         &[
@@ -119,7 +122,7 @@ const BLAMES: [(Files, Place); 19] = [
             (b"n", b"includes { #include \"u\" } on"),
             (b"u", b"\non start {"),
         ],
-        (b"u", None, b'E', 2),
+        (b"u", None, None, b'E', 2),
     ),
     (
         &[
@@ -127,7 +130,7 @@ const BLAMES: [(Files, Place); 19] = [
             (b"n", b"includes { #include \"u\" } void f() { }"),
             (b"u", b"\nvoid g() {\n  f(1); }"),
         ],
-        (b"u", Some(3), b'E', 16),
+        (b"u", Some(3), Some(3), b'E', 16),
     ),
     // The sources of the nodes come one after another, each whole before the next is read.
     (
@@ -136,11 +139,11 @@ const BLAMES: [(Files, Place); 19] = [
             (b"n", b""),
             (b"m", b"`"),
         ],
-        (b"b", None, b'F', 1),
+        (b"b", None, None, b'F', 1),
     ),
     (
         &[(b"s", b"scenario 1\nnode N n\nnode M m"), (b"n", b"")],
-        (b"m", None, b'E', 7),
+        (b"m", None, None, b'E', 7),
     ),
     (
         &[
@@ -148,7 +151,7 @@ const BLAMES: [(Files, Place); 19] = [
             (b"n", b""),
             (b"m", b"\n\non start { x = 1; }"),
         ],
-        (b"m", Some(3), b'E', 9),
+        (b"m", Some(3), Some(12), b'E', 9),
     ),
     (
         &[
@@ -156,7 +159,7 @@ const BLAMES: [(Files, Place); 19] = [
             (b"n", b"\non start { x = 1; }"),
             (b"m", b"`"),
         ],
-        (b"n", Some(2), b'E', 9),
+        (b"n", Some(2), Some(12), b'E', 9),
     ),
     // The file of the node with which the programs are too large together is to blame, once nothing of it is.
     (
@@ -168,7 +171,7 @@ const BLAMES: [(Files, Place); 19] = [
             (b"n", LARGE),
             (b"m", LARGE),
         ],
-        (b"m", None, b'E', 29),
+        (b"m", None, None, b'E', 29),
     ),
     (
         &[
@@ -179,7 +182,7 @@ const BLAMES: [(Files, Place); 19] = [
             (b"n", LARGEST),
             (b"m", b"variables { int i; }"),
         ],
-        (b"m", None, b'E', 29),
+        (b"m", None, None, b'E', 29),
     ),
 ];
 
@@ -197,9 +200,9 @@ fn read(alloc: Global, name: &[u8], files: Files) -> Result<Result<Inputs, Input
 fn is_blame(blame: &Blame, place: &Place) -> bool {
     blame.file.bytes() == place.0
         && blame.line == place.1
-        && blame.column.is_none()
-        && blame.rule.group == place.2
-        && blame.rule.number == place.3
+        && blame.column == place.2
+        && blame.rule.group == place.3
+        && blame.rule.number == place.4
 }
 
 #[test]

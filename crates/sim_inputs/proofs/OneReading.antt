@@ -21,7 +21,6 @@ use Rattle.capl_meaning.specs.Size.{cells_of_program}
 use Rattle.replay_node.specs.declared.replay.Replay.{Replay}
 use Rattle.sim_inputs.specs.Accepted.{AreAccepted, AreNodes, IsFirstBlame, IsLastBlame, IsLaterBlame}
 use Rattle.source_compiler.specs.Source.{IsProgramBlame, IsSource, IsSourceBlame}
-use Rattle.input_refusals.specs.Blame.{without_column}
 use Rattle.sim_inputs.specs.Database.{BaseAt, IsBaseBlame}
 use Rattle.sim_inputs.specs.Law.{SayTheSame}
 use Rattle.sim_inputs.specs.Nodes.{AreSources, AreWithin, IsNodesBlame, IsSumBlame, NodeSource, cells_in, weight_in}
@@ -67,14 +66,12 @@ one_files contents name files others (end, went, is) (end_too, went_too, also) =
     is ∙ ap (λ (e : Expansion). e.files) ends ∙ sym also
 
 files_or_blame : (contents : Contents) (name : List ℕ) (files : List SourceFile) (blame : Blame) → FilesAt contents name files → IsFilesBlame contents name blame → ⊥
-files_or_blame contents name files blame (end, went, is) (first, stopped, also) =
-    let same = one_outcome contents name (Went end) (Stopped first) went stopped in cc
+files_or_blame contents name files blame (end, went, is) stopped =
+    let same = one_outcome contents name (Went end) (Stopped blame) went stopped in cc
 
 one_files_blame : (contents : Contents) (name : List ℕ) (blame other : Blame) → IsFilesBlame contents name blame → IsFilesBlame contents name other → blame ≡ other
-one_files_blame contents name blame other (first, stopped, is) (first_too, stopped_too, also) =
-    let same = one_outcome contents name (Stopped first) (Stopped first_too) stopped stopped_too in
-    let firsts : first ≡ first_too = cc in
-    is ∙ ap without_column firsts ∙ sym also
+one_files_blame contents name blame other stopped stopped_too =
+    let same = one_outcome contents name (Stopped blame) (Stopped other) stopped stopped_too in cc
 
 -- what is wrong with the program of files that spell it
 abbrev IsMeaningBlame : List DbcMessage → List ℕ → List SourceFile → Program → Blame → Type 0

@@ -4,6 +4,7 @@ use Rattle.std.proofs.lemmas.List.Elements.{All-append, All-cons, All-nil}
 use Rattle.std.proofs.lemmas.List.{take_more}
 use Rattle.std.proofs.lemmas.List.Sums.{get_or-le-sum_by}
 use Rattle.capl_include.specs.Answer.{token_count}
+use Rattle.capl_include.specs.Blame.{place_blame}
 use Rattle.std.proofs.lemmas.Bool.{cases_order}
 use Rattle.std.specs.List.{AllZip}
 use Rattle.texts.specs.declared.blame.Blame.{Blame}
@@ -20,7 +21,6 @@ use Rattle.parser_laws.proofs.Whole.{only_tree}
 use Rattle.capl_tree.specs.declared.file.FileTree.{FileTree}
 use Rattle.capl_tree.specs.declared.file.Program.{Program}
 use Rattle.capl_include.specs.declared.expanded.SourceFile.{SourceFile}
-use Rattle.input_refusals.specs.Blame.{line_blame}
 use Rattle.source_compiler.specs.Program.{AreTreesOf, HasTree, IsFirstFile, IsParsed, IsParseBlame, IsScreenBlame, IsScreened, IsTokenBlame, IsTreeBlame}
 
 -- ---- the first file
@@ -131,16 +131,16 @@ rule_of tokens place rule other one two =
     (subst (λ (t : Token). BreaksBehind (kinds_of two.before) t.tok rule) token (subst (λ (b : List Token). BreaksBehind (kinds_of b) one.token.tok rule) before one.breaks)) two.breaks
 
 same_place : (tokens : List Token) (name : List ℕ) (place : ℕ) (rule other : Rule) (one : Breaks tokens place rule) (two : Breaks tokens place other) →
-    line_blame name one.token.line rule ≡ line_blame name two.token.line other
+    place_blame name one.token.line one.token.column rule ≡ place_blame name two.token.line two.token.column other
 same_place tokens name place rule other one two =
     let rules = rule_of tokens place rule other one two in
     let token = token_of tokens place rule other one two in
-    (λ i. line_blame name ((token i).line) (rules i))
+    (λ i. place_blame name ((token i).line) ((token i).column) (rules i))
 
 moved_place : (tokens : List Token) (name : List ℕ) (place spot : ℕ) (rule other : Rule) → place ≡ spot → (one : Breaks tokens place rule) (two : Breaks tokens spot other) →
-    line_blame name one.token.line rule ≡ line_blame name two.token.line other
+    place_blame name one.token.line one.token.column rule ≡ place_blame name two.token.line two.token.column other
 moved_place tokens name place spot rule other same one two =
-    subst (λ (p : ℕ). (third : Breaks tokens p other) → line_blame name one.token.line rule ≡ line_blame name third.token.line other) same
+    subst (λ (p : ℕ). (third : Breaks tokens p other) → place_blame name one.token.line one.token.column rule ≡ place_blame name third.token.line third.token.column other) same
     (λ third. same_place tokens name place rule other one third) two
 
 one_token : (blame other : Blame) (file : SourceFile) → IsTokenBlame blame file → IsTokenBlame other file → blame ≡ other
@@ -266,7 +266,7 @@ token_found tokens place rule breaks d =
 -- the first token of a file that a program may not have is to blame
 pub token_blame : (file : SourceFile) (tokens : List Token) (name : List ℕ) (place : ℕ) (rule : Rule) (d : Token) → tokens ≡ file.tokens → name ≡ file.name →
     Breaks tokens place rule → ((earlier : ℕ) (other : Rule) → earlier < place → Breaks tokens earlier other → ⊥) →
-    IsTokenBlame (line_blame name (get_or tokens place d).line rule) file
+    IsTokenBlame (place_blame name (get_or tokens place d).line (get_or tokens place d).column rule) file
 token_blame file tokens name place rule d same named breaks first =
     let moved = subst (λ (t : List Token). Breaks t place rule) same breaks in
     let token : get_or tokens place d ≡ moved.token = ap (λ (t : List Token). get_or t place d) same ∙ token_found file.tokens place rule moved d in
@@ -275,5 +275,5 @@ token_blame file tokens name place rule d same named breaks first =
       rule = rule;
       breaks = moved;
       first = subst (λ (t : List Token). (earlier : ℕ) (other : Rule) → earlier < place → Breaks t earlier other → ⊥) same first;
-      is = λ i. line_blame (named i) ((token i).line) rule;
+      is = λ i. place_blame (named i) ((token i).line) ((token i).column) rule;
     }

@@ -8,10 +8,8 @@ use Rattle.capl_include.specs.declared.expanded.SourceFile.{SourceFile}
 use Rattle.capl_meaning.specs.Offences.{IsFirst, IsNoLater, offences_of}
 use Rattle.capl_meaning.specs.declared.offence.Offence.{Offence}
 use Rattle.capl_tree.specs.declared.file.Program.{Program}
-use Rattle.check_types.specs.Lines.{line_in}
 use Rattle.dbc_reader.specs.declared.message.DbcMessage.{DbcMessage}
-use Rattle.input_refusals.specs.Blame.{line_blame}
-use Rattle.source_compiler.specs.Program.{IsOffenceBlame, lines_of, name_in, offence_blame}
+use Rattle.source_compiler.specs.Program.{IsOffenceBlame, name_in, offence_blame, token_blame, token_in}
 
 -- two offences of which none is later are at one place, by rules of one number
 record AreAtOnePlace (a b : Offence) : Type 0 where
@@ -35,7 +33,7 @@ one_place offences a b one two =
 
 same_blame : (files : List SourceFile) (a b : Offence) → AreAtOnePlace a b → offence_blame files a ≡ offence_blame files b
 same_blame files a b same =
-    λ i. line_blame (name_in files (same.file i)) (line_in (lines_of files) (same.file i) (same.token i)) (source_rule (same.number i))
+    λ i. token_blame (name_in files (same.file i)) (token_in files (same.file i) (same.token i)) (source_rule (same.number i))
 
 -- an offence has one blame
 pub one_offence_blame : (base : List DbcMessage) (files : List SourceFile) (program : Program) (blame other : Blame) → IsOffenceBlame base files program blame → IsOffenceBlame base files program other → blame ≡ other

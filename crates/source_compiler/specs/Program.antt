@@ -1,11 +1,12 @@
 -- The program of a node's files, and which of its rules is the first that is broken.
-use Rattle.std.specs.Prelude.{◌≡◌, ◌<◌, ◌≤◌, ◌⊎◌, ℕ, List, [], ◌∷◌, ◌++◌, map, slice_get, unwrap_or, All}
+use Rattle.std.specs.Prelude.{◌≡◌, ◌<◌, ◌≤◌, ◌⊎◌, ℕ, List, [], ◌∷◌, ◌++◌, map, slice_get, unwrap_or, Option, Some, None, All}
 use Rattle.std.specs.List.{AllZip}
-use Rattle.std.specs.Option.{option_map}
+use Rattle.std.specs.Option.{option_and_then, option_map}
 use Rattle.texts.specs.declared.blame.Blame.{Blame}
 use Rattle.texts.specs.declared.blame.Rule.{Rule}
 use Rattle.dbc_reader.specs.declared.message.DbcMessage.{DbcMessage}
 use Rattle.capl_lexer.specs.Screening.{Breaks}
+use Rattle.capl_lexer.specs.declared.token.Token.{Token}
 use Rattle.capl_nesting.specs.Tokens.{toks}
 use Rattle.capl_tree.specs.Nesting.{nesting}
 use Rattle.capl_tree.specs.Tree.{IsTreeOf}
@@ -13,14 +14,12 @@ use Rattle.capl_tree.specs.Weight.{weight}
 use Rattle.capl_tree.specs.declared.file.FileTree.{FileTree}
 use Rattle.capl_tree.specs.declared.file.Program.{Program}
 use Rattle.capl_parser.specs.Refusal.{nesting_limit}
-use Rattle.capl_include.specs.Blame.{file_blame, source_rule}
+use Rattle.capl_include.specs.Blame.{file_blame, place_blame, source_rule}
 use Rattle.capl_include.specs.Expansion.{Contents, Expansion, Went, Stopped, IsExpansion}
 use Rattle.capl_include.specs.declared.expanded.SourceFile.{SourceFile}
 use Rattle.capl_meaning.specs.Offences.{IsFirstOffence, offences_of}
 use Rattle.capl_meaning.specs.Size.{cells_of_program}
 use Rattle.capl_meaning.specs.declared.offence.Offence.{Offence}
-use Rattle.check_types.specs.Lines.{line_in}
-use Rattle.input_refusals.specs.Blame.{line_blame, without_column}
 
 -- ---- files
 
@@ -31,8 +30,7 @@ FilesAt contents name files =
 
 -- the expansion stopped at its first blame, E01, E04, E07, E08, E29 or F02
 abbrev pub IsFilesBlame : Contents → List ℕ → Blame → Type 0
-IsFilesBlame contents name blame =
-    (first : Blame) × IsExpansion contents name (Stopped first) × (blame ≡ without_column first)
+IsFilesBlame contents name blame = IsExpansion contents name (Stopped blame)
 
 -- a file has this, and all files before it are right
 pub record IsFirstFile (IsRight IsWrong : SourceFile → Type 0) (files : List SourceFile) : Type 0 where
@@ -55,7 +53,7 @@ pub record IsTokenBlame (blame : Blame) (file : SourceFile) : Type 0 where
   pub rule : Rule
   pub breaks : Breaks file.tokens place rule
   pub first : (earlier : ℕ) (other : Rule) → earlier < place → Breaks file.tokens earlier other → ⊥
-  pub is : blame ≡ line_blame file.name breaks.token.line rule
+  pub is : blame ≡ place_blame file.name breaks.token.line breaks.token.column rule
 
 -- the first such token of the first file that has one
 abbrev pub IsScreenBlame : List SourceFile → Blame → Type 0
@@ -97,10 +95,19 @@ lines_of files = map (λ file. map (λ token. token.line) file.tokens) files
 abbrev pub name_in : List SourceFile → ℕ → List ℕ
 name_in files number = unwrap_or (option_map (λ file. file.name) (slice_get files number)) []
 
--- the blame of an offence: the line of its token in its file
+-- the token of a number in the file of a number
+abbrev pub token_in : List SourceFile → ℕ → ℕ → Option Token
+token_in files file token = option_and_then (λ f. slice_get f.tokens token) (slice_get files file)
+
+-- the place of a token of a file is to blame; line and column are 0 where there is no such token
+abbrev pub token_blame : List ℕ → Option Token → Rule → Blame
+token_blame name None rule = place_blame name 0 0 rule
+token_blame name (Some token) rule = place_blame name token.line token.column rule
+
+-- the blame of an offence: the place of its token in its file
 abbrev pub offence_blame : List SourceFile → Offence → Blame
 offence_blame files offence =
-    line_blame (name_in files offence.file) (line_in (lines_of files) offence.file offence.token)
+    token_blame (name_in files offence.file) (token_in files offence.file offence.token)
     (source_rule offence.rule.number)
 
 -- the program breaks a rule of E09 to E28, and this is its first offence

@@ -1,6 +1,6 @@
 // The code of a program, from its files.
 
-ghost use Rattle.std.specs.Prelude.{◌≡◌, ◌≤◌, ◌<◌, ◌^◌, ◌⊎◌, All, IfOk, length, map, slice_get, unwrap_or};
+ghost use Rattle.std.specs.Prelude.{◌≡◌, ◌≤◌, ◌<◌, ◌^◌, ◌⊎◌, All, IfOk, length, map};
 ghost use Rattle.capl_include.specs.Answer.{token_count};
 ghost use Rattle.capl_include.specs.Blame.{file_blame, source_rule};
 ghost use Rattle.capl_lexer.specs.Reading.{token_limit};
@@ -27,7 +27,7 @@ use capl_tree::{FileTree, Program, weight_of};
 use check_types::{CheckRefusal, check};
 use dbc_reader::Database;
 use gen_stmt::{CompileRefusal, cells_of, compile};
-use input_refusals::{InputRefusal, blamed_file, blamed_line};
+use input_refusals::{InputRefusal, blamed_file, blamed_place};
 use items::Items;
 use std::alloc::Global;
 use texts::{NoMemory, Text};
@@ -77,8 +77,8 @@ fn screen_file(alloc: Global, file: &SourceFile) -> Result<(), InputRefusal>
     let tokens = file.tokens.as_slice();
     match screen(tokens) {
         Some((place, rule)) => {
-            let line = tokens[place].line;
-            Err(blamed_line(alloc, file.name.bytes(), line, rule))
+            let token = &tokens[place];
+            Err(blamed_place(alloc, file.name.bytes(), token.line, token.column, rule))
         }
         None => Ok(()),
     }
@@ -173,22 +173,13 @@ fn blamed_offence(alloc: Global, files: &[SourceFile], offence: &Offence) -> Inp
     ensures { IsBlamedOrNoMemory (offence_blame files.now offence.now) result }
 {
     let rule = source_rule(offence.rule.number);
-    match files.get(offence.file as usize) {
-        Some(file) => {
-            let line = line_at(file, offence.token);
-            blamed_line(alloc, file.name.bytes(), line, rule)
-        }
-        None => blamed_line(alloc, b"", 0, rule),
-    }
-}
-
-/// The line of a token of a file; 0 where there is no such token.
-fn line_at(file: &SourceFile, token: u32) -> u32
-    ensures { result ≡ unwrap_or (slice_get (map (λ t. t.line) file.now.tokens) token) 0 }
-{
-    match file.tokens.as_slice().get(token as usize) {
-        Some(token) => token.line,
-        None => 0,
+    let Some(file) = files.get(offence.file as usize) else {
+        return blamed_place(alloc, b"", 0, 0, rule);
+    };
+    let name = file.name.bytes();
+    match file.tokens.as_slice().get(offence.token as usize) {
+        Some(token) => blamed_place(alloc, name, token.line, token.column, rule),
+        None => blamed_place(alloc, name, 0, 0, rule),
     }
 }
 

@@ -1,10 +1,9 @@
-// The rules that sources break, and blames without a column.
+// The rules that sources break.
 
 ghost use Rattle.std.specs.Prelude.{◌≡◌};
 ghost use Rattle.capl_include.specs.Blame.{source_rule};
-ghost use Rattle.input_refusals.specs.Blame.{without_column};
 
-use texts::{Blame, Rule};
+use texts::Rule;
 
 /// The tokens of a file spell no tree.
 pub(crate) const NOT_SPELLED: Rule = Rule {
@@ -31,15 +30,5 @@ pub(crate) fn source_rule(number: u8) -> Rule
     Rule {
         group: b'E',
         number,
-    }
-}
-
-/// The same blame, which shows no column.
-pub(crate) fn without_column(blame: Blame) -> Blame
-    ensures { result ≡ without_column blame }
-{
-    Blame {
-        column: None,
-        ..blame
     }
 }

@@ -12,7 +12,6 @@ ghost use Rattle.source_compiler.specs.Program.{FilesAt, IsFilesBlame, most};
 
 use crate::compiled::Compiled;
 use crate::program::code_of;
-use crate::rules::without_column;
 use capl_include::{ExpandRefusal, SourceFile, expand};
 use dbc_reader::Database;
 use input_refusals::InputRefusal;
@@ -60,7 +59,7 @@ fn read_files<F: Files>(
 {
     match expand(alloc, files, name) {
         Ok(expanded) => Ok(expanded.files),
-        Err(ExpandRefusal::Blamed(blame)) => Err(InputRefusal::Blamed(without_column(blame))),
+        Err(ExpandRefusal::Blamed(blame)) => Err(InputRefusal::Blamed(blame)),
         Err(ExpandRefusal::Failed) => Err(InputRefusal::Failed),
         Err(ExpandRefusal::NoMemory) => Err(InputRefusal::NoMemory),
     }

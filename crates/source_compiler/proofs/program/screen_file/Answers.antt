@@ -3,7 +3,7 @@ use Rattle.std.proofs.Common.{ℕ, List, get_or, subst}
 use Rattle.texts.specs.declared.blame.Rule.{Rule}
 use Rattle.capl_lexer.specs.Screening.{Breaks}
 use Rattle.capl_lexer.specs.declared.token.Token.{Token}
-use Rattle.input_refusals.specs.Blame.{line_blame}
+use Rattle.capl_include.specs.Blame.{place_blame}
 use Rattle.source_compiler.specs.Program.{IsScreened, IsTokenBlame}
 use Rattle.source_compiler.proofs.FileLemmas.{token_blame}
 use Rattle.input_refusals.proofs.Passing.{blamed}
@@ -17,8 +17,8 @@ returns-in-Some c =
     let place = c.in-Some.place in
     let rule = c.in-Some.rule in
     let d = c.index-tokens-place.result in
-    blamed {A = Unit {0}} (λ done. IsScreened file) (λ blame. IsTokenBlame blame file) (line_blame name (get_or tokens place d).line rule) c.blamed_line.result
-    (token_blame file tokens name place rule d c.as_slice-tokens.ensures c.bytes.ensures c.in-Some.ensures.breaks c.in-Some.ensures.first) c.blamed_line.ensures
+    blamed {A = Unit {0}} (λ done. IsScreened file) (λ blame. IsTokenBlame blame file) (place_blame name (get_or tokens place d).line (get_or tokens place d).column rule) c.blamed_place.result
+    (token_blame file tokens name place rule d c.as_slice-tokens.ensures c.bytes.ensures c.in-Some.ensures.breaks c.in-Some.ensures.first) c.blamed_place.ensures
 
 pub returns-in-None : goal.returns-in-None
 returns-in-None c =
