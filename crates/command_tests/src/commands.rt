@@ -179,7 +179,7 @@ static RUNS: [Run; 26] = [
         words: &["check", "s.scn"],
         files: &[("n.can", "on start {\n  x = 1; }")],
         status: Status::Refused,
-        written: "refused n.can:2 E09\n",
+        written: "refused n.can:2:3 E09\n",
         ..EMPTY
     },
     Run {
@@ -329,7 +329,7 @@ static PAIRS: [Run; 9] = [
     Run {
         files: &[("m.can", ""), ("n.can", "\non start { x = 1; }")],
         status: Status::Refused,
-        written: "refused n.can:2 E09\n",
+        written: "refused n.can:2:3 E09\n",
         rows: &[],
         ..PAIR
     },
