@@ -58,8 +58,11 @@ UNTIL = 1000
 TURNS = 1000
 
 COMMANDS = ["check", "run", "window", "log", "profile"]
+# Rules of a file as a whole, and the letters of those of a line; all others are told with a line and a column.
 WHOLE = {"E02", "E03", "E04", "E07", "E29", "F01", "F02", "N01"}
-RULE = re.compile(rb"refused ([^\n]*?)(?::([1-9]\d*))? (S0[1-9]|S1[0-2]|F0[12]|N01|D0[12]|L01|E0[1-9]|E[12]\d)\n")
+OF_LINES = ("S", "D", "L")
+RULE = re.compile(rb"refused ([^\n]*?)(?::([1-9]\d*)(?::([1-9]\d*))?)? "
+                  rb"(S0[1-9]|S1[0-2]|F0[12]|N01|D0[12]|L01|E0[1-9]|E[12]\d)\n")
 WINDOW = re.compile(rb"w (0|[1-9]\d*)\.(\d{6}) ([A-Za-z_]\w*) [^\n\r]*\n")
 FRAME = re.compile(rb"\((\d{10}|[1-9]\d{10,})\.(\d{6})\) ([\w.-]{1,15}) "
                    rb"([0-7][0-9A-F]{2}|[01][0-9A-F]{7})#((?:[0-9A-F]{2}){0,8}|R[1-8]?)\n")
@@ -177,12 +180,20 @@ def faults_of_refusal(case, out):
     match = RULE.fullmatch(out)
     if not match:
         return [f"no line of a refusal: {out[:200]!r}"]
-    file, line, rule = match[1], match[2], match[3].decode()
+    file, line, column, rule = match[1], match[2], match[3], match[4].decode()
     if (line is None) != (rule in WHOLE):
         return [f"{rule} is told {'without' if line is None else 'with'} a line: {out!r}"]
+    if (column is None) != (rule in WHOLE or rule.startswith(OF_LINES)):
+        return [f"{rule} is told {'without' if column is None else 'with'} a column: {out!r}"]
     data = case.files.get(os.fsdecode(file).removeprefix(case.folder))
-    if line and isinstance(data, bytes) and int(line) > data.count(b"\n") + 2:
+    if not line or not isinstance(data, bytes):
+        return []
+    # S12 is told of the line behind the last, which a line feed may end.
+    rows = data.split(b"\n") + [b""]
+    if int(line) > len(rows):
         return [f"the line is not in the file: {out!r}"]
+    if column and int(column) > len(rows[int(line) - 1]):
+        return [f"the column is not in the line: {out!r}"]
     return []
 
 
@@ -396,13 +407,14 @@ def faults_of_constants(place, chance):
     """What is wrong with a constant: its number is that of the same expression when it is evaluated in a run."""
     text = " ".join(grammar.constant(chance, 4))
     write = 'write("%I64d %I64d %I64u", {}, v, q);'
-    source = (f"variables {{ const int64 c = {text}; int64 v = {text}; qword q = {text}; }} "
+    head = "variables { const int64 c = "
+    source = (f"{head}{text}; int64 v = {text}; qword q = {text}; }} "
               f"on start {{ {write.format('c')} v = {text}; q = {text}; {write.format('v')} }}")
     case = grammar.Case({"s.scn": b"scenario 1\nnode N n.can\n", "n.can": source.encode()}, {})
     place.lay(case)
     ended = place.run(["window", "s.scn"])
     lines = lines_of(ended.out)
-    if ended.status == 1 and re.fullmatch(rb"refused n.can:1 E19\n", ended.out):
+    if ended.status == 1 and ended.out == b"refused n.can:1:%d E19\n" % (len(head) + 1):
         return
     if ended.status or ended.err or len(lines) != 2 or lines[0] != lines[1]:
         yield f"constants: {text}: status {ended.status}, wrote {ended.out[:200]!r}"
@@ -633,7 +645,9 @@ WRONG = {
     "seconds of a processor": ("form", 'i=0; while [ $1 = log ] && [ $i -lt 900000 ]; do i=$((i+1)); done; P "$@"'),
     "standard error": ("form", 'P "$@"; s=$?; echo warning >&2; exit $s'),
     "a refusal of another form": ("form", where("true", "s/^refused /refuse /")),
-    "a refusal without its line": ("form", where("true", r"s/^\(refused [^:]*\):[0-9]*/\1/")),
+    "a refusal without its line": ("form", where("true", r"s/^\(refused [^:]*\)[:0-9]*/\1/")),
+    "a refusal without its column": ("form", where("true", r"s/^\(refused [^:]*:[0-9]*\):[0-9]*/\1/")),
+    "a column behind the end of its line": ("form", where("true", r"s/^\(refused [^:]*:[0-9]*:\)/\19999/")),
     "frames in lower case": ("form", where("true", r"/^(/s/[A-F]/\L&/g")),
     "moments that fall": ("form", where("[ $1 = log ]", "1{h;d};$G")),
     "a text that changes with the process": ("again", where("true", "s/text/$$/")),

@@ -169,7 +169,7 @@ def faults_of_refused(screen, program, folder):
     made(folder, {"s.scn": "scenario 1\nnode N n.can\n", "n.can": "on start {\n  x = 1;\n}\n"})
     opened(screen, folder, written("page.py", program, str(folder / "s.scn"))[1])
     text = screen.value("document.body.innerText")
-    for part in (f"refused {folder}/n.can:2 E09", "2 |   x = 1;\n  |   ~~~~~~"):
+    for part in (f"refused {folder}/n.can:2:3 E09", "2 |   x = 1;\n  |   ^"):
         if part not in text:
             yield f"{part!r} is not in {text!r}"
 

@@ -366,9 +366,9 @@ def faults_of_why(program):
         path = made(pathlib.Path(keep), {"s.scn": "scenario 1\nnode N n.can\n", "n.can": source})
         asked = {"why.py": written("why.py", program, path), "page.py": written("page.py", program, path),
                  "vcd.py": written("vcd.py", program, path)}
-        line = f"refused {keep}/n.can:2 E09"
+        line = f"refused {keep}/n.can:2:2 E09"
         accepted = written("why.py", program, BODY)
-    marked = "2 | \tnoThing = 1 < 2;\n  | \t~~~~~~~~~~~~~~~~"
+    marked = "2 | \tnoThing = 1 < 2;\n  | \t^"
     for script, (status, out, errors) in asked.items():
         if status != 1:
             yield f"{script} ended with status {status}"

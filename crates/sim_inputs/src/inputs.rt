@@ -50,8 +50,8 @@ pub struct Inputs {
 /// over all files in program order, for each file E03 and E02, E09 to E28, E29 where the cells or the weight
 /// of the program exceed 1,000,000, and E29 of the source's own file where the cells or the weights of the
 /// programs of all nodes up to this one exceed 4,000,000; then F01, F02 and L01 of the log that is replayed.
-/// A blame of a source's token or place has its line and its column. `Failed` comes only where a read failed, and `NoMemory` only where the system gives
-/// no memory.
+/// A blame of a token of a source, or of the place where none begins, has its line and its column. `Failed`
+/// comes only where a read failed, and `NoMemory` only where the system gives no memory.
 pub fn read_inputs<F: Files>(
     alloc: Global,
     name: &Text,
