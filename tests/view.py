@@ -411,7 +411,7 @@ def faults_of_marks():
         if refusal.mark_under(line, column) != want:
             yield f"under {line} stands {refusal.mark_under(line, column)!r}, not {want!r}"
     for out, want in ((b"refused n.can:3:7 E17\n", ("n.can", 3, 7, "E17")),
-                      (b"refused d e.can:3 E02\n", ("d e.can", 3, None, "E02")),
+                      (b"refused d e.scn:3 S07\n", ("d e.scn", 3, None, "S07")),
                       (b"refused s.scn F01\n", ("s.scn", None, None, "F01"))):
         if refusal.read(out)[1:] != want:
             yield f"{out} is read as {refusal.read(out)}"
