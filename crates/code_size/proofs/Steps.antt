@@ -73,3 +73,21 @@ arms_saturated typed arms other = by_size (cases_lt other (2 ^ 64))
         min (arms_size_of typed arms (min other (2 ^ 64 - 1))) (2 ^ 64 - 1) ≡ min (arms_size_of typed arms other) (2 ^ 64 - 1)
     by_size (inl below) = let same : min other (2 ^ 64 - 1) ≡ other = omega (arith, below) in ap (λ k. min (arms_size_of typed arms k) (2 ^ 64 - 1)) same
     by_size (inr above) = omega (arith, above, arms_other typed arms other, arms_other typed arms (min other (2 ^ 64 - 1)))
+
+-- a jump over two sizes that are counted up to a limit
+two_saturated : (a b : ℕ) → jump_size (min a (2 ^ 64 - 1) + min b (2 ^ 64 - 1)) ≡ jump_size (a + b)
+two_saturated a b = grind (arith, nat_tests)
+
+sum_saturated : (init test step body jump : ℕ) →
+    min (min init (2 ^ 64 - 1) + (jump + (min body (2 ^ 64 - 1) + min step (2 ^ 64 - 1) + min test (2 ^ 64 - 1)))) (2 ^ 64 - 1)
+    ≡ min (init + (jump + (body + step + test))) (2 ^ 64 - 1)
+sum_saturated init test step body jump = omega arith
+
+-- the parts of a `for`, counted up to a limit
+pub for_saturated : (init test step body : ℕ) →
+    min (min init (2 ^ 64 - 1) + (jump_size (min body (2 ^ 64 - 1) + min step (2 ^ 64 - 1)) +
+    (min body (2 ^ 64 - 1) + min step (2 ^ 64 - 1) + min test (2 ^ 64 - 1)))) (2 ^ 64 - 1)
+    ≡ min (init + (jump_size (body + step) + (body + step + test))) (2 ^ 64 - 1)
+for_saturated init test step body =
+    ap (λ j. min (min init (2 ^ 64 - 1) + (j + (min body (2 ^ 64 - 1) + min step (2 ^ 64 - 1) + min test (2 ^ 64 - 1)))) (2 ^ 64 - 1)) (two_saturated body step)
+    ∙ sum_saturated init test step body (jump_size (body + step))
