@@ -284,6 +284,8 @@ fn lines_have_their_texts_and_numbers(rt: HostRuntime) -> Result<(), Fail> {
         let copy = copied(rt.alloc(), text, letters)?;
         let line = line(rt.alloc(), &copy, numbers)?;
         assert_eq!(rt; line.bytes(), expected);
+        assert_eq!(rt; copy.text(), text);
+        assert_eq!(rt; copy.args().len(), letters.len());
     }
     Ok(())
 }

@@ -9,4 +9,8 @@ use Rattle.write_format.specs.Reading.{pieces_of}
 pub record IsRead (text : List ℕ) (arguments : List ArgKind) (format : FormatText) : Type 0 where
   pub pieces : List Piece
   pub read : pieces_of text ≡ Some pieces
-  pub same : format ≡ record { elements = elements_of pieces arguments }
+  pub same : format ≡ record {
+    text = text;
+    arguments = arguments;
+    elements = elements_of pieces arguments;
+  }

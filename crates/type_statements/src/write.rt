@@ -4,7 +4,7 @@ ghost use Rattle.std.specs.Prelude.{◌≡◌, [], ◌∷◌, ◌++◌, IfOk, On
 ghost use Rattle.capl_meaning.specs.Format.{text_in};
 ghost use Rattle.capl_meaning.specs.Message.{array_in};
 ghost use Rattle.capl_meaning.specs.Sort.{sort_of};
-ghost use Rattle.typed_source.specs.Statement.{argument_by, argument_of, formats_written, numbers_of, pieces_written, text_argument, writing};
+ghost use Rattle.typed_source.specs.Statement.{argument_by, argument_of, formats_written, numbers_of, pieces_written, text_argument, text_written, writing};
 ghost use Rattle.check_sorts.specs.Scope.{scope_in};
 ghost use Rattle.type_statements.specs.Tables.{AreTables, order_of};
 ghost use Rattle.type_statements.specs.Write.{IsRead};
@@ -153,7 +153,8 @@ pub(crate) fn make_write(
         tree ≡ writing s (order_of tables.now) (length formats.old.items)
         (pieces_written s format.now arguments.now) arguments.now) }
     ensures formats { let s = scope_in scope.entry in OnOk result (formats.new.items ≡ formats.old.items
-        ++ formats_written s (pieces_written s format.now arguments.now) arguments.now) }
+        ++ formats_written s (text_written format.now)
+        (pieces_written s format.now arguments.now) arguments.now) }
 {
     let made = make_arguments(alloc, scope, tables, arguments)?;
     let Some(text) = text_in(format) else {

@@ -32,7 +32,7 @@ use Rattle.typed_laws.proofs.Effects.{cancel_as, copy_as, eval_as, halt_as, no_c
 use Rattle.typed_laws.proofs.Runs.{map_same}
 use Rattle.typed_source.specs.Expression.{expression_of}
 use Rattle.typed_source.specs.Program.{HasEach}
-use Rattle.typed_source.specs.Statement.{StandFrom, alone_of, argument_of, format_of, formats_of_alone, formats_of_call, formats_written, of_assignment, of_call_alone, pieces_written, setting, writing}
+use Rattle.typed_source.specs.Statement.{StandFrom, alone_of, argument_of, format_of, formats_of_alone, formats_of_call, formats_written, of_assignment, of_call_alone, pieces_written, setting, text_written, writing}
 use Rattle.typed_source.proofs.Expressions.{gives}
 use Rattle.typed_source.proofs.Shown.{arguments_are}
 
@@ -93,12 +93,12 @@ module _ (scope : Scope) (order : List ℕ) (each : HasEach scope.names order) (
   cancels name timer at is (Some v) named = cancel_as scope order formats name timer at v _ is named (λ _. refl)
 
   writes : (before : ℕ) (name : Text) (format : Expr) (arguments : List Expr) (at : ℕ) → callee scope.names name ≡ OfLanguage builtin.Write →
-      (o : Option (List Piece)) → pieces_written scope format arguments ≡ o → StandFrom before (formats_written scope o arguments) formats →
+      (o : Option (List Piece)) → pieces_written scope format arguments ≡ o → StandFrom before (formats_written scope (text_written format) o arguments) formats →
       AloneDoesAs scope order formats (expr.Call name (format ∷ arguments) at) (writing scope order before o arguments)
   writes before name format arguments at is None fitting there = no_write_as scope order formats name format arguments at is fitting
   writes before name format arguments at is (Some pieces) fitting there =
       let first : before + 0 ≡ before = omega arith in
-      write_as scope order formats name format arguments at pieces (map (argument_of scope) arguments) (format_of scope pieces arguments) before _ is fitting
+      write_as scope order formats name format arguments at pieces (map (argument_of scope) arguments) (format_of scope (text_written format) pieces arguments) before _ is fitting
       (arguments_are scope (text_in format) arguments pieces fitting) refl (ap (slice_get formats) (sym first) ∙ there 0 _ refl)
       (zip_map (GivesAs scope order) (expression_of scope order) (gives scope order each) (filter (λ e. is_number (sort_of scope e)) arguments))
 

@@ -54,24 +54,31 @@ argument_by _ text = text
 abbrev pub argument_of : Scope → Expr → ArgKind
 argument_of s e = argument_by (sort_of s e) (text_argument s.names (text_in e) (array_in s e))
 
--- the format of pieces and arguments
-abbrev pub format_of : Scope → List Piece → List Expr → FormatText
-format_of s pieces arguments =
-    record { elements = format_elements pieces (map (argument_of s) arguments) }
+-- the text of the format of a `write`
+abbrev pub text_written : Expr → List ℕ
+text_written format = option_map_or (λ text. text) (text_in format) []
+
+-- the format of a text, its pieces and arguments
+abbrev pub format_of : Scope → List ℕ → List Piece → List Expr → FormatText
+format_of s text pieces arguments = record {
+  text = text;
+  arguments = map (argument_of s) arguments;
+  elements = format_elements pieces (map (argument_of s) arguments);
+}
 
 -- the pieces of a `write`, if its format reads and fits
 abbrev pub pieces_written : Scope → Expr → List Expr → Option (List Piece)
 pieces_written s format arguments = fitting_pieces (map (sort_of s) arguments) (text_in format)
 
 -- the format of a `write`, if there is one
-abbrev pub formats_written : Scope → Option (List Piece) → List Expr → List FormatText
-formats_written s None arguments = []
-formats_written s (Some pieces) arguments = format_of s pieces arguments ∷ []
+abbrev pub formats_written : Scope → List ℕ → Option (List Piece) → List Expr → List FormatText
+formats_written s text None arguments = []
+formats_written s text (Some pieces) arguments = format_of s text pieces arguments ∷ []
 
 -- the format of a call that stands alone, if it is a `write`
 abbrev pub formats_of_call : Scope → Callee → List Expr → List FormatText
 formats_of_call s (OfLanguage builtin.Write) (format ∷ arguments) =
-    formats_written s (pieces_written s format arguments) arguments
+    formats_written s (text_written format) (pieces_written s format arguments) arguments
 formats_of_call s _ _ = []
 
 -- the formats of an expression that stands alone

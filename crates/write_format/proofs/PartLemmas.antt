@@ -186,12 +186,12 @@ numbers_at parts i d within =
     omega (arith, more, whole)
 
 -- there are numbers for a part
-pub room : (format : FormatText) (parts : List Part) (numbers : List ℤ) (i taken : ℕ) (part : Part) → format ≡ record { elements = all_elements parts }
+pub room : (format : FormatText) (parts : List Part) (numbers : List ℤ) (i taken : ℕ) (part : Part) → format.elements ≡ all_elements parts
     → length numbers ≡ numbers_taken format → i < length parts → part ≡ get_or parts i part → taken ≡ count_by takes_number (all_elements (take i parts))
     → taken + count_by takes_number (elements_in part) ≤ length numbers
 room format parts numbers i taken part is count within at so_far =
     let few = numbers_at parts i part within in
-    let all = ap numbers_taken is in
+    let all = ap (count_by takes_number) is in
     let same : count_by takes_number (elements_in part) ≡ count_by takes_number (elements_in (get_or parts i part)) = ap (λ p. count_by takes_number (elements_in p)) at in
     omega (arith, few, all, same, count, so_far)
 
@@ -231,11 +231,11 @@ short_more parts i count more part within is so_far more_is few short =
     }
 
 -- where one more is too long, or has too long a text, the format is not short
-pub not_short : (format : FormatText) (parts : List Part) (i count more : ℕ) (part : Part) → format ≡ record { elements = all_elements parts }
+pub not_short : (format : FormatText) (parts : List Part) (i count more : ℕ) (part : Part) → format.elements ≡ all_elements parts
     → i < length parts → part ≡ get_or parts i part → AreShort parts i count → more ≡ length (elements_in part)
     → (count + more < 2 ^ 32 → All IsShortElement (elements_in part) → ⊥) → IsShort format → ⊥
 not_short format parts i count more part is within at so_far more_is long short =
-    let all : all_elements parts ≡ format.elements = sym (ap (λ (f : FormatText). f.elements) is) in
+    let all : all_elements parts ≡ format.elements = sym is in
     let room : length (all_elements (take i parts)) + length (elements_in (get_or parts i part)) ≤ length (all_elements parts) = length-flat_map-take elements_in parts i part within in
     let few = short.few in
     let count_is = so_far.count_is in
@@ -245,10 +245,10 @@ not_short format parts i count more part is within at so_far more_is long short 
     (subst (λ p. All IsShortElement (elements_in p)) (sym at) (elements_at IsShortElement parts i part within (subst (All IsShortElement) (sym all) short.texts)))
 
 -- a format whose parts are all short is short
-pub all_short : (format : FormatText) (parts : List Part) (i count : ℕ) → format ≡ record { elements = all_elements parts } → i ≡ length parts → AreShort parts i count → IsShort format
+pub all_short : (format : FormatText) (parts : List Part) (i count : ℕ) → format.elements ≡ all_elements parts → i ≡ length parts → AreShort parts i count → IsShort format
 all_short format parts i count is at_end so_far =
     let whole : take i parts ≡ parts = ap (λ n. take n parts) at_end ∙ take-length parts in
-    let same : all_elements (take i parts) ≡ format.elements = ap all_elements whole ∙ sym (ap (λ (f : FormatText). f.elements) is) in
+    let same : all_elements (take i parts) ≡ format.elements = ap all_elements whole ∙ sym is in
     let few = so_far.few in
     let count_is = so_far.count_is in
     let length_is = ap length same in

@@ -12,8 +12,11 @@ use Rattle.write_format.specs.Element.{Element, Byte, Number, Character, Chars, 
 use Rattle.write_format.specs.Line.{before_zero, line_of}
 use Rattle.write_format.specs.Reading.{AreMatched, codes_of, first_unfit}
 
--- a format as contracts see it: the parts of its line, in order
+-- a format as contracts see it: the text and the arguments that it was read from, and the parts of its line,
+-- in order
 pub record FormatText : Type 0 where
+  pub text : List ℕ
+  pub arguments : List ArgKind
   pub elements : List Element
 
 -- a code with an argument that it shows
@@ -37,6 +40,8 @@ pub record IsFormatOf (text : List ℕ) (arguments : List ArgKind) (format : For
   pub pieces : List Piece
   pub matched : AreMatched text arguments pieces
   pub fit : first_unfit (codes_of pieces) arguments ≡ None
+  pub text_is : format.text ≡ text
+  pub arguments_are : format.arguments ≡ arguments
   pub elements : format.elements ≡ elements_of pieces arguments
 
 -- whether a part shows a number

@@ -1,10 +1,11 @@
 // Formats.
 
-ghost use Rattle.std.specs.Prelude.{◌≡◌, ◌↔◌, ◌<◌, ◌^◌, ℕ, All, IfOk, IfErr, IsErrOf, IsTrue, Some, None, count_by, length};
+ghost use Rattle.std.specs.Prelude.{◌≡◌, ◌↔◌, ◌<◌, ◌^◌, ℕ, List, All, IfOk, IfErr, IsErrOf, IsTrue, Some, None, count_by, length};
 ghost use Rattle.write_format.specs.Arrays.{IsCharArray};
 ghost use Rattle.write_format.specs.Format.{IsFormatOf, IsShort, IsShortArgument, array_of, char_arrays, numbers_taken, takes_number};
-ghost use Rattle.write_format.specs.Inside.Parts.{all_elements, elements_in};
-ghost use Rattle.write_format.specs.Reading.{HasCodesFor, IsFirstUnfit};
+ghost use Rattle.write_format.specs.Inside.Parts.{all_elements, elements_in, format_held};
+ghost use Rattle.write_format.specs.Reading.{AreMatched, HasCodesFor, IsFirstUnfit, codes_of, first_unfit};
+ghost use Rattle.write_format.specs.declared.piece.Piece as declared;
 ghost use Rattle.std.specs.List.{filter_map};
 
 use crate::argument::ArgKind;
@@ -12,6 +13,7 @@ use crate::part::{Part, is_short_part, numbers_in, part_len, parts_of};
 use crate::reading::look_over;
 use crate::refusal::FormatRefusal;
 use int_kinds::Kind;
+use items::Items;
 use std::alloc::Global;
 use std::marker::Model;
 use texts::NoMemory;
@@ -20,22 +22,27 @@ use texts::NoMemory;
 pub(crate) const LIMIT: usize = 0x1_0000_0000;
 
 /// A format with what is known of its arguments.
+///
+/// It keeps the text and the arguments that it was read from beside the parts that lines are made of.
 #[derive(Debug, Drop)]
 pub struct Format {
+    text: Items<u8>,
+    args: Items<ArgKind>,
     parts: Vec<Part>,
     numbers: usize,
 }
 
 impl Model for Format {
     ghost use Rattle.std.specs.Prelude.{◌≡◌, count_by};
-    ghost use Rattle.write_format.specs.Format.{FormatText, takes_number};
-    ghost use Rattle.write_format.specs.Inside.Parts.{all_elements};
+    ghost use Rattle.write_format.specs.Format.{FormatText, IsFormatOf, takes_number};
+    ghost use Rattle.write_format.specs.Inside.Parts.{all_elements, format_held};
 
     ghost Value = { FormatText };
 
-    ghost view = { λ format. record { elements = all_elements format.parts.items } };
+    ghost view = { λ format. format_held format.text format.args format.parts.items };
 
-    ghost invariant = { λ format. format.numbers ≡ count_by takes_number (all_elements format.parts.items) };
+    ghost invariant = { λ format. (format.numbers ≡ count_by takes_number (all_elements format.parts.items))
+        × IsFormatOf format.text format.args (format_held format.text format.args format.parts.items) };
 }
 
 impl Format {
@@ -62,19 +69,33 @@ impl Format {
         if let Some(place) = survey.unfit {
             return Err(FormatRefusal::Wrong { arg: Some(place) });
         }
-        let parts = parts_of(alloc, text, args)?;
-        Ok(from_parts(parts))
+        Ok(make(alloc, text, args)?)
     }
 
     /// The same format once more. Takes time and memory linear in its text and the texts in it.
     pub fn copy(&self) -> Result<Format, NoMemory>
         ensures { IfOk result (λ format. format ≡ self.now) }
     {
-        let mut parts = Vec::new(*self.parts.allocator());
-        for part in self.parts() {
-            parts.push(part.copy()?)?;
-        }
-        Ok(from_parts(parts))
+        let alloc = *self.parts.allocator();
+        let text = self.text.copy()?;
+        let args = copy_args(alloc, self.args.as_slice())?;
+        let parts = copy_parts(alloc, &self.parts)?;
+        Ok(from_parts(text, args, parts))
+    }
+
+    /// The text that it was read from.
+    pub fn text(&self) -> &[u8]
+        ensures text { result.now ≡ (self.now).text }
+        ensures read { IsFormatOf (self.now).text (self.now).arguments self.now }
+    {
+        self.text.as_slice()
+    }
+
+    /// The arguments that it was read with.
+    pub fn args(&self) -> &[ArgKind]
+        ensures { result.now ≡ (self.now).arguments }
+    {
+        self.args.as_slice()
     }
 
     /// How many numbers a line of this format takes.
@@ -115,18 +136,57 @@ impl Format {
 
     /// The parts of its line.
     pub(crate) fn parts(&self) -> &[Part]
-        ensures { self.now ≡ record { elements = all_elements result.now } }
+        ensures { (self.now).elements ≡ all_elements result.now }
     {
         self.parts.as_slice()
     }
 }
 
-/// The format of these parts.
-fn from_parts(parts: Vec<Part>) -> Format
-    ensures { result ≡ record { elements = all_elements parts.items } }
+/// The format of a text and arguments, each of which its code shows.
+fn make(alloc: Global, text: &[u8], args: &[ArgKind]) -> Result<Format, NoMemory>
+    requires { (pieces : List declared.Piece) × AreMatched text.now args.now pieces
+        × (first_unfit (codes_of pieces) args.now ≡ None) }
+    ensures { IfOk result (IsFormatOf text.now args.now) }
+{
+    let parts = parts_of(alloc, text, args)?;
+    let kept = Items::from_list(Vec::from_slice(alloc, text)?);
+    Ok(from_parts(kept, copy_args(alloc, args)?, parts))
+}
+
+/// The format that was read from this text with these arguments and has these parts.
+fn from_parts(text: Items<u8>, args: Items<ArgKind>, parts: Vec<Part>) -> Format
+    requires { IsFormatOf text args (format_held text args parts.items) }
+    ensures { result ≡ format_held text args parts.items }
 {
     let numbers = count_numbers(&parts);
-    Format { parts, numbers }
+    Format {
+        text,
+        args,
+        parts,
+        numbers,
+    }
+}
+
+/// The same arguments once more.
+fn copy_args(alloc: Global, args: &[ArgKind]) -> Result<Items<ArgKind>, NoMemory>
+    ensures { IfOk result (λ copies. copies ≡ args.now) }
+{
+    let mut copies = Vec::new(alloc);
+    for arg in args {
+        copies.push(arg.copy(alloc)?)?;
+    }
+    Ok(Items::from_list(copies))
+}
+
+/// The same parts once more.
+fn copy_parts(alloc: Global, parts: &[Part]) -> Result<Vec<Part>, NoMemory>
+    ensures { IfOk result (λ copies. copies.items ≡ parts.now) }
+{
+    let mut copies = Vec::new(alloc);
+    for part in parts {
+        copies.push(part.copy()?)?;
+    }
+    Ok(copies)
 }
 
 /// How many parts show a number.

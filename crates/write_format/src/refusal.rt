@@ -1,6 +1,6 @@
 // Why a format is refused.
 
-use std::alloc::{AllocError, AllocFailed};
+use texts::NoMemory;
 
 /// Why a format is refused.
 #[derive(Clone, Copy, Debug, PartialEq, Eq)]
@@ -14,13 +14,13 @@ pub enum FormatRefusal {
     NoMemory,
 }
 
-impl From<AllocError> for FormatRefusal {
+impl From<NoMemory> for FormatRefusal {
     ghost use Rattle.std.specs.Prelude.{◌≡◌};
     ghost use Rattle.write_format.specs.declared.refusal.FormatRefusal.TheVariants.{NoMemory};
 
     ghost from_gives = { λ _ refusal. refusal ≡ NoMemory };
 
-    fn from(_: AllocError) -> FormatRefusal {
+    fn from(_: NoMemory) -> FormatRefusal {
         FormatRefusal::NoMemory
     }
 }

@@ -3,7 +3,7 @@ use Rattle.std.proofs.Common.{◌≡◌, ◌++◌, All, get_or, take, length, sy
 use Rattle.std.specs.Prelude.{count_by, filter_map}
 use Rattle.std.proofs.lemmas.List.{length-drop}
 use Rattle.write_format.specs.Arrays.{HoldsBytes}
-use Rattle.write_format.specs.Format.{array_of, char_arrays, takes_number}
+use Rattle.write_format.specs.Format.{array_of, takes_number}
 use Rattle.write_format.specs.Inside.Parts.{all_elements, elements_in}
 use Rattle.write_format.specs.Line.{line_of}
 use Rattle.write_format.specs.declared.part.Part.{Part}
@@ -30,7 +30,7 @@ append_part-requires-clause-arrays c =
     let parts = c.parts-part-items.result.now in
     subst (λ (part : Part). All (HoldsBytes cells) (filter_map array_of (elements_in part))) (sym c.part-item.is)
     (arrays_at (HoldsBytes cells) parts c.loop-part.part-index c.part-item.result (omega arith)
-    (subst (All (HoldsBytes cells)) (ap char_arrays c.parts-part-items.ensures) c.requires.arrays))
+    (subst (All (HoldsBytes cells)) (ap (filter_map array_of) c.parts-part-items.ensures) c.requires.arrays))
 
 pub overflow_add-taken : goal.overflow_add-taken
 overflow_add-taken c =

@@ -19,7 +19,7 @@ returns-then-not-has_array_in c =
       λ all. subst IsTrue c.if-not-has_array_in.true ((c.has_array_in.ensures).1
           (subst (λ (p : Part). All (IsCharArray kinds) (filter_map array_of (elements_in p))) (sym c.part-item.is)
           (arrays_at (IsCharArray kinds) parts c.loop-part.part-index part (omega arith)
-          (subst (All (IsCharArray kinds)) (ap char_arrays c.parts-part-items.ensures) all)))),
+          (subst (All (IsCharArray kinds)) (ap (filter_map array_of) c.parts-part-items.ensures) all)))),
     )
 
 pub loop-part-preserved : goal.loop-part-preserved
@@ -40,5 +40,5 @@ returns c =
     let count : c.loop-part.part-index ≡ length parts = omega arith in
     let whole : take c.loop-part.part-index parts ≡ parts = ap (λ n. take n parts) count ∙ take-length parts in
     let same : filter_map array_of (all_elements (take c.loop-part.part-index parts)) ≡ char_arrays c.args.self.now =
-    ap (λ l. filter_map array_of (all_elements l)) whole ∙ ap char_arrays (sym c.parts-part-items.ensures) in
+    ap (λ l. filter_map array_of (all_elements l)) whole ∙ ap (filter_map array_of) (sym c.parts-part-items.ensures) in
     (λ _. subst (All (IsCharArray kinds)) same c.loop-part.invariant, λ _. search rules)

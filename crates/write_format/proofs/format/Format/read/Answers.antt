@@ -1,6 +1,5 @@
 -- Which answer stands for which text.
-use Rattle.std.proofs.Common.{◌≡◌, Some, None, refl, sym, ap, ◌∙◌}
-use Rattle.write_format.specs.Format.{FormatText, IsFormatOf}
+use Rattle.std.proofs.Common.{◌≡◌, Some, None, refl, sym, ◌∙◌}
 use Rattle.write_format.specs.Reading.{AreMatched, codes_of, first_unfit}
 use Rattle.write_format.proofs.ReadingLemmas.{count_differs, one_unfit}
 use Rattle.write_format.proofs.ShortLemmas.{format_short}
@@ -27,8 +26,8 @@ returns-in-Some-unfit-clause-unfit c place =
       λ unfit. let same : Some c.in-Some-unfit.place ≡ Some place = sym c.in-Some-unfit.is ∙ one_unfit c.args.text.now c.args.args.now found.0 c.in-Some.survey.unfit found.1 found.3 place unfit in cc,
     )
 
-pub returns-in_err-parts-clause-unfit : goal.returns-in_err-parts-clause-unfit
-returns-in_err-parts-clause-unfit c place =
+pub returns-in_err-make-clause-unfit : goal.returns-in_err-make-clause-unfit
+returns-in_err-make-clause-unfit c place =
     let found = c.in-Some.ensures.some in
     let told = c.from_residual.ensures.1 in (
       λ wrong. absurd (let other = rw wrong at told in cc),
@@ -44,11 +43,4 @@ returns-clause-unfit c place =
 
 pub returns-clause-short : goal.returns-clause-short
 returns-clause-short c short all =
-    let found = c.in-Some.ensures.some in
-    let format : IsFormatOf c.args.text.now c.args.args.now c.from_parts.result = record {
-      pieces = found.0;
-      matched = record { spelled = found.1; count = sym found.2 ∙ c.if-survey-args.false };
-      fit = sym found.3 ∙ c.in_default-unfit.is;
-      elements = ap (λ (f : FormatText). f.elements) c.from_parts.ensures ∙ c.in_ok-parts.ensures found.0 found.1;
-    } in
-    format_short c.args.text.now c.args.args.now c.from_parts.result format short all
+    format_short c.args.text.now c.args.args.now c.in_ok-make.field-0 c.in_ok-make.ensures short all
