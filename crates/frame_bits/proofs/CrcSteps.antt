@@ -1,8 +1,9 @@
 -- The register of fifteen bits follows the long division.
-use Rattle.std.proofs.Common.{◌≡◌, ℕ, zero, suc, ◌+◌, ◌*◌, ◌/◌, ◌%◌, ◌^◌, ◌<◌, ◌≤◌, Bool, true, false, not, eqb, List, [], ◌∷◌, ◌++◌, length, replicate, refl, sym, ap, ◌∙◌, arith, length-append, append_assoc, bit_and}
+use Rattle.std.proofs.Common.{◌≡◌, ◌⊎◌, inl, inr, ℕ, zero, suc, ◌+◌, ◌*◌, ◌/◌, ◌%◌, ◌^◌, ◌<◌, ◌≤◌, Bool, true, false, not, cond, eqb, List, [], ◌∷◌, ◌++◌, length, replicate, refl, sym, ap, subst, ◌∙◌, arith, length-append, append_assoc, bit_and}
 use Rattle.std.specs.Int.Bits.{bit_xor}
 use Rattle.std.proofs.Math.Bool.{beq}
 use Rattle.std.proofs.lemmas.Nat.{and_mask, xor_comm, xor_lt}
+use Rattle.std.proofs.lemmas.List.{append-nil}
 use Rattle.std.proofs.lemmas.Nat.Bits.{bit_at_xor, bit_at-lt}
 use Rattle.can_frame.specs.Bits.{field_bits, number_of}
 use Rattle.can_frame.proofs.BitLists.{length-field_bits, number_of-field_bits, field_bits-suc, field_bits-zero, field_bits-snoc, field_bits-mod, field_bits-number_of}
@@ -40,11 +41,11 @@ bit_sum-onto_zeros : (cs : List Bool) → bit_sum cs (replicate (length cs) fals
 bit_sum-onto_zeros [] = refl
 bit_sum-onto_zeros (c ∷ cs) = ap (λ b. b ∷ bit_sum cs (replicate (length cs) false)) (xor-false c) ∙ ap (λ l. c ∷ l) (bit_sum-onto_zeros cs)
 
-bit_sum-zero_end : (cs bits : List Bool) → length cs < length bits → bit_sum (cs ++ false ∷ []) bits ≡ bit_sum cs bits
-bit_sum-zero_end [] [] h = absurd (omega (arith, h))
-bit_sum-zero_end [] (b ∷ bits) h = refl
-bit_sum-zero_end (c ∷ cs) [] h = absurd (omega (arith, h))
-bit_sum-zero_end (c ∷ cs) (b ∷ bits) h = ap (λ l. xor c b ∷ l) (bit_sum-zero_end cs bits (omega (arith, h)))
+-- zeros behind the coefficients add nothing
+pub bit_sum-zero_end : (k : ℕ) (cs bits : List Bool) → length cs + k ≤ length bits → bit_sum (cs ++ replicate k false) bits ≡ bit_sum cs bits
+bit_sum-zero_end k [] bits h = bit_sum-zeros k bits (omega (arith, h))
+bit_sum-zero_end k (c ∷ cs) [] h = absurd (omega (arith, h))
+bit_sum-zero_end k (c ∷ cs) (b ∷ bits) h = ap (λ l. xor c b ∷ l) (bit_sum-zero_end k cs bits (omega (arith, h)))
 
 xor-assoc : (x y z : Bool) → xor (xor x y) z ≡ xor x (xor y z)
 xor-assoc false y z = refl
@@ -52,7 +53,8 @@ xor-assoc true false z = refl
 xor-assoc true true true = refl
 xor-assoc true true false = refl
 
-bit_sum-twice : (a b bits : List Bool) → length a ≤ length b → length b ≤ length bits → bit_sum (bit_sum a b) bits ≡ bit_sum a (bit_sum b bits)
+-- to add a sum is to add both, one after the other
+pub bit_sum-twice : (a b bits : List Bool) → length a ≤ length b → length b ≤ length bits → bit_sum (bit_sum a b) bits ≡ bit_sum a (bit_sum b bits)
 bit_sum-twice [] b bits h k = refl
 bit_sum-twice (x ∷ a) [] bits h k = absurd (omega (arith, h))
 bit_sum-twice (x ∷ a) (y ∷ b) [] h k = absurd (omega (arith, k))
@@ -104,7 +106,7 @@ moved r =
 -- what follows the register gets its bits without the leading one
 moved_bit_sum : (r : ℕ) (more : List Bool) → 15 ≤ length more → bit_sum (field_bits 14 r) more ≡ bit_sum (field_bits 15 (r % 2 ^ 14 * 2)) more
 moved_bit_sum r more h =
-    sym (bit_sum-zero_end (field_bits 14 r) more (omega (arith, length-field_bits 14 r, h)))
+    sym (bit_sum-zero_end 1 (field_bits 14 r) more (omega (arith, length-field_bits 14 r, h)))
     ∙ ap (λ l. bit_sum l more) (sym (moved r))
 
 xor-same : (b : Bool) → xor b b ≡ false
@@ -170,6 +172,42 @@ IsRegister-push r next bit bits step old more h =
     ∙ ap (λ l. division_step (division_steps (length bits) l)) (append_assoc bits (bit ∷ []) more)
     ∙ ap division_step (old (bit ∷ more) (omega (arith, h)))
     ∙ step more h
+
+-- ---- the register behind several bits
+-- the register behind one more bit
+abbrev register_next : ℕ → Bool → ℕ
+register_next r bit = cond (beq (eqb (r / 16384) 1) bit) (r % 2 ^ 14 * 2) (bit_xor (r % 2 ^ 14 * 2) 0x4599)
+
+-- the register behind these bits
+abbrev pub register_after : ℕ → List Bool → ℕ
+register_after r [] = r
+register_after r (b ∷ bits) = register_after (register_next r b) bits
+
+either : (t : Bool) → (t ≡ true) ⊎ (t ≡ false)
+either true = inl refl
+either false = inr refl
+
+IsRegister-next : (r : ℕ) (bit : Bool) (bits : List Bool) → r < 2 ^ 15 → IsRegister r bits → (register_next r bit < 2 ^ 15) × IsRegister (register_next r bit) (bits ++ bit ∷ [])
+IsRegister-next r bit bits h now =
+    let m : ℕ = r % 2 ^ 14 * 2 in
+    let Fits : ℕ → Type 0 = λ next. (next < 2 ^ 15) × IsRegister next (bits ++ bit ∷ []) in
+    elim (either (beq (eqb (r / 16384) 1) bit)) [
+      | inl same ↦
+          subst Fits (ap (λ t. cond t m (bit_xor m 0x4599)) (sym same))
+          (omega arith, IsRegister-push r m bit bits (λ more k. division_step_zero r bit more k (leads_same r bit h same)) now)
+      | inr other ↦
+          subst Fits (ap (λ t. cond t m (bit_xor m 0x4599)) (sym other))
+          (next-lt r, IsRegister-push r (bit_xor m 0x4599) bit bits (λ more k. division_step_one r bit more k (leads_other r bit h other)) now)
+    ]
+
+-- it holds what the division of all bits adds
+pub IsRegister-after : (r : ℕ) (more bits : List Bool) → r < 2 ^ 15 → IsRegister r bits → (register_after r more < 2 ^ 15) × IsRegister (register_after r more) (bits ++ more)
+IsRegister-after r [] bits h now = (h, subst (IsRegister r) (sym (append-nil bits)) now)
+IsRegister-after r (b ∷ more) bits h now =
+    let next : ℕ = register_next r b in
+    let one = IsRegister-next r b bits h now in
+    let all = IsRegister-after next more (bits ++ b ∷ []) one.0 one.1 in
+    (all.0, subst (IsRegister (register_after next more)) (append_assoc bits (b ∷ []) more) all.1)
 
 -- what the register holds at the end is the CRC
 pub IsRegister-crc : (r : ℕ) (bits : List Bool) → IsRegister r bits → crc_bits bits ≡ field_bits 15 r

@@ -2,5 +2,6 @@
 mod CrcSteps
 mod Runs
 mod FieldSteps
+mod NibbleSteps
 pub mod OneStuffing
 pub mod Lengths

@@ -1,12 +1,18 @@
 // The CRC of ISO 11898-1.
 
 ghost use Rattle.std.specs.Prelude.{◌≡◌, ◌<◌, ◌^◌, Bool, List, [], ◌∷◌, ◌++◌};
-ghost use Rattle.can_frame.specs.Bits.{number_of};
+ghost use Rattle.can_frame.specs.Bits.{field_bits, number_of};
 ghost use Rattle.frame_bits.specs.Crc.{crc_bits};
 ghost use Rattle.frame_bits.specs.Inside.Crc.{IsRegister};
 
 /// The generator polynomial without its leading term.
 const GENERATOR: u16 = 0x4599;
+
+/// What each nibble leaves in the register.
+const REMAINDERS: [u16; 16] = [
+    0x0000, 0x4599, 0x4EAB, 0x0B32, 0x58CF, 0x1D56, 0x1664, 0x53FD, 0x7407, 0x319E, 0x3AAC, 0x7F35,
+    0x2CC8, 0x6951, 0x6263, 0x27FA,
+];
 
 /// The fifteen bits of the CRC register.
 #[derive(Clone, Copy)]
@@ -37,6 +43,18 @@ impl Crc {
         };
     }
 
+    /// Takes the four bits of a nibble in. They meet the leading bits of the register alone, and the
+    /// others move up.
+    pub fn push_nibble(&mut self, nibble: u8)
+        requires { nibble < 16 }
+        ensures { (bits : List Bool) → IsRegister self.old.register bits
+            → IsRegister self.new.register (bits ++ field_bits 4 nibble) }
+    {
+        let leading = (self.register >> 11) ^ u16::from(nibble);
+        let shifted = (self.register & 0x7FF) << 4;
+        self.register = shifted ^ remainder(leading);
+    }
+
     /// The CRC of the bits that were taken in.
     pub fn value(&self) -> u16
         ensures range { result < 2 ^ 15 }
@@ -45,6 +63,15 @@ impl Crc {
     {
         self.register
     }
+}
+
+/// What the bits of a nibble leave in the register.
+fn remainder(nibble: u16) -> u16
+    requires { nibble < 16 }
+    ensures range { result < 2 ^ 15 }
+    ensures value { IsRegister result (field_bits 4 nibble) }
+{
+    REMAINDERS[usize::from(nibble)]
 }
 
 /// The CRC of the bits: their remainder by x^15 + x^14 + x^10 + x^8 + x^7 + x^4 + x^3 + 1 with

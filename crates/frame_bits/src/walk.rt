@@ -1,6 +1,7 @@
 // A walk over the bits of a frame, with a CRC register and a counter of the stuffing.
 
 ghost use Rattle.std.specs.Prelude.{◌≡◌, ◌+◌, ◌*◌, ◌≤◌, ◌<◌, ◌^◌, [], ◌∷◌, length};
+ghost use Rattle.can_frame.specs.Bits.{field_bits};
 ghost use Rattle.frame_bits.specs.Bits.{data_bits};
 ghost use Rattle.frame_bits.specs.Inside.Field.{bits_in, bits_in_all};
 ghost use Rattle.frame_bits.specs.Inside.Walk.{HasWalked, GoesOver};
@@ -37,8 +38,42 @@ impl Walk {
         self.stuffing.push(bit);
     }
 
-    /// Goes over the bits of a field.
+    /// Goes over the four bits of a nibble.
+    fn push_nibble(&mut self, nibble: u8)
+        requires nibble { nibble < 16 }
+        requires room { self.old.stuffing.count + 8 < 2 ^ 32 }
+        ensures walked { GoesOver self.old self.new (field_bits 4 nibble) }
+        ensures at_most { self.new.stuffing.count ≤ self.old.stuffing.count + 8 }
+    {
+        self.crc.push_nibble(nibble);
+        self.stuffing.push_nibble(nibble);
+    }
+
+    /// Goes over the bits of a field: those that make no whole nibble, and then nibbles.
     pub fn push(&mut self, field: Field)
+        requires { self.old.stuffing.count + 2 * field.width < 2 ^ 32 }
+        ensures walked { GoesOver self.old self.new (bits_in field) }
+        ensures at_most_two { self.new.stuffing.count ≤ self.old.stuffing.count + 2 * field.width }
+    {
+        let nibbles = field.width / 4;
+        self.push_bits(Field::new(field.width % 4, field.number >> (4 * nibbles)));
+        self.push_nibbles(field.number, nibbles);
+    }
+
+    /// Goes over so many nibbles, the lowest of the number.
+    fn push_nibbles(&mut self, number: u32, nibbles: u8)
+        requires few { nibbles ≤ 4 }
+        requires room { self.old.stuffing.count + 8 * nibbles < 2 ^ 32 }
+        ensures walked { GoesOver self.old self.new (field_bits (4 * nibbles) number) }
+        ensures at_most { self.new.stuffing.count ≤ self.old.stuffing.count + 8 * nibbles }
+    {
+        for place in (0..nibbles).rev() {
+            self.push_nibble((number >> (4 * place) & 0xF) as u8);
+        }
+    }
+
+    /// Goes over the bits of a field one by one.
+    fn push_bits(&mut self, field: Field)
         requires { self.old.stuffing.count + 2 * field.width < 2 ^ 32 }
         ensures walked { GoesOver self.old self.new (bits_in field) }
         ensures at_most_two { self.new.stuffing.count ≤ self.old.stuffing.count + 2 * field.width }

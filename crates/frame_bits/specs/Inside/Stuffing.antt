@@ -1,5 +1,5 @@
 -- The stuffing of bits that come one by one.
-use Rattle.std.specs.Prelude.{◌≡◌, ℕ, ◌+◌, ◌==◌, Bool, not, if◌then◌else◌, List, [], ◌∷◌, ◌++◌, length}
+use Rattle.std.specs.Prelude.{◌≡◌, ℕ, ◌+◌, ◌*◌, ◌==◌, Bool, not, if◌then◌else◌, List, [], ◌∷◌, ◌++◌, length}
 use Rattle.std.specs.Bool.{beq}
 use Rattle.frame_bits.specs.Stuffing.{stuffing_of}
 
@@ -19,3 +19,12 @@ stuffing_behind last run (b ∷ bits) =
 abbrev pub CountsStuffing : Bool → ℕ → ℕ → List Bool → Type 0
 CountsStuffing last run count bits =
     (more : List Bool) → length (stuffing_of (bits ++ more)) ≡ count + length (stuffing_behind last run more)
+
+-- what bits do behind so many bits of one value, as one number below 256: the run in which they end, its
+-- value, and how many stuff bits they bring beside those so far
+abbrev pub step_of : Bool → ℕ → ℕ → List Bool → ℕ
+step_of last run brought [] = 32 * run + (if last then 16 else 0) + brought
+step_of last run brought (b ∷ bits) =
+    if run_with last run b == 5
+    then step_of (not b) 1 (brought + 1) bits
+    else step_of b (run_with last run b) brought bits

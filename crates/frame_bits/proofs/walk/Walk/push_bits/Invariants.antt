@@ -2,7 +2,7 @@
 use Rattle.std.proofs.Common.{◌+◌, ◌-◌, ◌*◌, ◌/◌, ◌^◌, ◌≤◌, Bool, List, ◌++◌}
 use Rattle.can_frame.specs.Bits.{field_bits}
 use Rattle.frame_bits.specs.Inside.Walk.{HasWalked}
-use Rattle.frame_bits.proofs.walk.Walk.push.Given as goal
+use Rattle.frame_bits.proofs.walk.Walk.push_bits.Given as goal
 
 abbrev pub invariant-loop-place : goal.invariant-loop-place
 invariant-loop-place l = record {

@@ -1,0 +1,220 @@
+-- Four bits at a time: fields cut in two, the register and the stuffing over a nibble, and the tables.
+use Rattle.std.proofs.Common.{◌≡◌, ℕ, zero, suc, ◌+◌, ◌-◌, ◌*◌, ◌/◌, ◌%◌, ◌^◌, ◌<◌, ◌≤◌, Bool, true, false, not, cond, eqb, List, [], ◌∷◌, ◌++◌, length, map, get_or, replicate, refl, sym, ap, subst, ◌∙◌, inl, inr, arith, zero-add, length-append, append_assoc, bit_and}
+use Rattle.std.specs.Int.Bits.{bit_xor}
+use Rattle.std.specs.List.{range_with_len}
+use Rattle.std.proofs.lemmas.Bool.{cases_lt}
+use Rattle.std.proofs.lemmas.List.{append-nil}
+use Rattle.std.proofs.lemmas.List.FromFn.{get_or-map-range_with_len}
+use Rattle.std.proofs.lemmas.Nat.{and_mask, shr-shr, xor_comm, xor_lt}
+use mir.Val.{bool_byte}
+use Rattle.can_frame.specs.Bits.{field_bits}
+use Rattle.can_frame.proofs.BitLists.{length-field_bits, field_bits-suc, field_bits-zero, field_bits-mod}
+use Rattle.frame_bits.specs.Crc.{xor, bit_sum, division_step, division_steps}
+use Rattle.frame_bits.specs.Stuffing.{stuffing_of}
+use Rattle.frame_bits.specs.Inside.Crc.{IsRegister}
+use Rattle.frame_bits.specs.Inside.Stuffing.{run_with, stuffing_behind, CountsStuffing, step_of}
+use Rattle.frame_bits.proofs.CrcSteps.{length-bit_sum, bit_sum-zero_end, bit_sum-twice, field_bits-xor, register_after, IsRegister-none, IsRegister-after}
+use Rattle.frame_bits.proofs.Runs.{not_five, run_with-le, stuffing_behind-run, stuffing_behind-more}
+
+-- ---- fields in two parts
+-- a field is the field above a place and the one below it
+pub field_bits-split : (a b n : ℕ) → field_bits (a + b) n ≡ field_bits a (n / 2 ^ b) ++ field_bits b n
+field_bits-split zero b n =
+    ap (λ k. field_bits k n) (zero-add b) ∙ ap (λ l. l ++ field_bits b n) (sym (field_bits-zero (n / 2 ^ b)))
+field_bits-split (suc a) b n =
+    let longer : suc a + b ≡ suc (a + b) = omega arith in
+    let places : b + a ≡ a + b = omega arith in
+    ap (λ k. field_bits k n) longer
+    ∙ field_bits-suc (a + b) n
+    ∙ ap (λ l. eqb (n / 2 ^ (a + b) % 2) 1 ∷ l) (field_bits-split a b n)
+    ∙ ap (λ m. eqb (m % 2) 1 ∷ (field_bits a (n / 2 ^ b) ++ field_bits b n)) (sym (shr-shr n b a ∙ ap (λ k. n / 2 ^ k) places))
+    ∙ ap (λ l. l ++ field_bits b n) (sym (field_bits-suc a (n / 2 ^ b)))
+
+-- no nibble stands above the first
+pub nibbles_start : (bits : List Bool) (count n : ℕ) → bits ≡ bits ++ field_bits (4 * (count - count)) n
+nibbles_start bits count n =
+    let none : 0 ≡ 4 * (count - count) = omega arith in
+    sym (append-nil bits) ∙ ap (λ l. bits ++ l) (sym (field_bits-zero n)) ∙ ap (λ k. bits ++ field_bits k n) none
+
+-- the nibbles down to the next place, as the code takes the one there
+pub nibbles_grow : (bits : List Bool) (count place n : ℕ) → 0 < place → place ≤ count → (bits ++ field_bits (4 * (count - place)) (n / 2 ^ (4 * place))) ++ field_bits 4 (bit_and (n / 2 ^ (4 * (place - 1))) 15) ≡ bits ++ field_bits (4 * (count - (place - 1))) (n / 2 ^ (4 * (place - 1)))
+nibbles_grow bits count place n low high =
+    let below : ℕ = n / 2 ^ (4 * (place - 1)) in
+    let upper : List Bool = field_bits (4 * (count - place)) (n / 2 ^ (4 * place)) in
+    let above : 4 * (place - 1) + 4 ≡ 4 * place = omega (arith, low) in
+    let longer : 4 * (count - place) + 4 ≡ 4 * (count - (place - 1)) = omega (arith, low, high) in
+    append_assoc bits upper _
+    ∙ ap (λ m. bits ++ (upper ++ field_bits 4 m)) (and_mask below 4)
+    ∙ ap (λ l. bits ++ (upper ++ l)) (field_bits-mod 4 4 below (omega arith))
+    ∙ ap (λ m. bits ++ (field_bits (4 * (count - place)) m ++ field_bits 4 below)) (sym (shr-shr n (4 * (place - 1)) 4 ∙ ap (λ k. n / 2 ^ k) above))
+    ∙ ap (λ l. bits ++ l) (sym (field_bits-split (4 * (count - place)) 4 below))
+    ∙ ap (λ k. bits ++ field_bits k below) longer
+
+-- down to place 0 they are all nibbles
+pub nibbles_end : (bits : List Bool) (count place n : ℕ) → place ≡ 0 → bits ++ field_bits (4 * (count - place)) (n / 2 ^ (4 * place)) ≡ bits ++ field_bits (4 * count) n
+nibbles_end bits count place n e =
+    let whole : 4 * (count - 0) ≡ 4 * count = omega arith in
+    let same : n / 2 ^ 0 ≡ n = omega arith in
+    ap (λ q. bits ++ field_bits (4 * (count - q)) (n / 2 ^ (4 * q))) e ∙ ap (λ k. bits ++ field_bits k (n / 2 ^ 0)) whole ∙ ap (λ m. bits ++ field_bits (4 * count) m) same
+
+-- a field is its leading bits and then nibbles
+pub field_nibbles : (bits : List Bool) (width n lead_width lead : ℕ) → lead_width ≡ width % 4 → lead ≡ n / 2 ^ (4 * (width / 4)) → (bits ++ field_bits lead_width lead) ++ field_bits (4 * (width / 4)) n ≡ bits ++ field_bits width n
+field_nibbles bits width n lead_width lead w e =
+    let sum : width % 4 + 4 * (width / 4) ≡ width = omega arith in
+    append_assoc bits (field_bits lead_width lead) _
+    ∙ ap (λ k. bits ++ (field_bits k lead ++ field_bits (4 * (width / 4)) n)) w
+    ∙ ap (λ m. bits ++ (field_bits (width % 4) m ++ field_bits (4 * (width / 4)) n)) e
+    ∙ ap (λ l. bits ++ l) (sym (field_bits-split (width % 4) (4 * (width / 4)) n))
+    ∙ ap (λ k. bits ++ field_bits k n) sum
+
+-- ---- the register over a nibble
+division_steps-add : (k m : ℕ) (bits : List Bool) → division_steps (k + m) bits ≡ division_steps k (division_steps m bits)
+division_steps-add zero m bits = ap (λ n. division_steps n bits) (zero-add m)
+division_steps-add (suc k) m bits =
+    let longer : suc k + m ≡ suc (k + m) = omega arith in
+    ap (λ n. division_steps n bits) longer ∙ ap division_step (division_steps-add k m bits)
+
+bit_sum-append : (a b c d : List Bool) → length a ≡ length c → bit_sum (a ++ b) (c ++ d) ≡ bit_sum a c ++ bit_sum b d
+bit_sum-append [] b [] d h = refl
+bit_sum-append [] b (y ∷ c) d h = absurd (omega (arith, h))
+bit_sum-append (x ∷ a) b [] d h = absurd (omega (arith, h))
+bit_sum-append (x ∷ a) b (y ∷ c) d h = ap (λ l. xor x y ∷ l) (bit_sum-append a b c d (omega (arith, h)))
+
+-- the register without its leading nibble, moved up by four places
+moved : (r : ℕ) → field_bits 15 (r % 2 ^ 11 * 16) ≡ field_bits 11 r ++ replicate 4 false
+unfolding field_bits
+moved r =
+    let upper : r % 2 ^ 11 * 16 / 2 ^ 4 ≡ r % 2 ^ 11 = omega arith in
+    let lower : r % 2 ^ 11 * 16 % 2 ^ 4 ≡ 0 = omega arith in
+    field_bits-split 11 4 (r % 2 ^ 11 * 16)
+    ∙ ap (λ m. field_bits 11 m ++ field_bits 4 (r % 2 ^ 11 * 16)) upper
+    ∙ ap (λ l. l ++ field_bits 4 (r % 2 ^ 11 * 16)) (field_bits-mod 11 11 r (omega arith))
+    ∙ ap (λ l. field_bits 11 r ++ l) (sym (field_bits-mod 4 4 (r % 2 ^ 11 * 16) (omega arith)) ∙ ap (field_bits 4) lower)
+
+-- a nibble in the register: what it and the leading bits leave is added to the others, moved up
+pub IsRegister-nibble : (r left n : ℕ) (bits : List Bool) → IsRegister left (field_bits 4 (bit_xor (r / 2 ^ 11) n)) → IsRegister r bits → IsRegister (bit_xor (r % 2 ^ 11 * 16) left) (bits ++ field_bits 4 n)
+IsRegister-nibble r left n bits leaves old more h =
+    let nibble : List Bool = field_bits 4 n in
+    let leading : List Bool = field_bits 4 (bit_xor (r / 2 ^ 11) n) in
+    let others : List Bool = bit_sum (field_bits 11 r) more in
+    let m : ℕ = r % 2 ^ 11 * 16 in
+    let four : length nibble ≡ 4 = length-field_bits 4 n in
+    let longer : length (bits ++ nibble) ≡ 4 + length bits = omega (arith, length-append bits nibble, four) in
+    let enough : 15 ≤ length (nibble ++ more) = omega (arith, length-append nibble more, h) in
+    let whole : length others ≡ length more = length-bit_sum (field_bits 11 r) more (omega (arith, length-field_bits 11 r, h)) in
+    ap (λ k. division_steps k ((bits ++ nibble) ++ more)) longer
+    ∙ division_steps-add 4 (length bits) ((bits ++ nibble) ++ more)
+    ∙ ap (λ l. division_steps 4 (division_steps (length bits) l)) (append_assoc bits nibble more)
+    ∙ ap (division_steps 4) (old (nibble ++ more) enough)
+    ∙ ap (λ l. division_steps 4 (bit_sum l (nibble ++ more))) (field_bits-split 4 11 r)
+    ∙ ap (division_steps 4) (bit_sum-append (field_bits 4 (r / 2 ^ 11)) (field_bits 11 r) nibble more (length-field_bits 4 (r / 2 ^ 11) ∙ sym four))
+    ∙ ap (λ l. division_steps 4 (l ++ others)) (sym (field_bits-xor 4 (r / 2 ^ 11) n))
+    ∙ ap (λ k. division_steps k (leading ++ others)) (sym (length-field_bits 4 (bit_xor (r / 2 ^ 11) n)))
+    ∙ leaves others (omega (arith, whole, h))
+    ∙ ap (bit_sum (field_bits 15 left)) (sym (bit_sum-zero_end 4 (field_bits 11 r) more (omega (arith, length-field_bits 11 r, h))) ∙ ap (λ l. bit_sum l more) (sym (moved r)))
+    ∙ sym (bit_sum-twice (field_bits 15 left) (field_bits 15 m) more (omega (arith, length-field_bits 15 left, length-field_bits 15 m)) (omega (arith, length-field_bits 15 m, h)))
+    ∙ ap (λ l. bit_sum l more) (sym (field_bits-xor 15 left m))
+    ∙ ap (λ k. bit_sum (field_bits 15 k) more) (xor_comm left m)
+
+-- what the code computes of the register
+pub nibble_shifted : (r : ℕ) → bit_and r 2047 * 16 % 65536 ≡ r % 2 ^ 11 * 16
+nibble_shifted r = omega (arith, and_mask r 11)
+
+-- the register stays below two to the fifteenth
+pub nibble_next-lt : (r left : ℕ) → left < 2 ^ 15 → bit_xor (r % 2 ^ 11 * 16) left < 2 ^ 15
+nibble_next-lt r left h = xor_lt 15 (r % 2 ^ 11 * 16) left (omega arith) h
+
+-- the leading bits and a nibble make a nibble
+pub leading-lt : (r n : ℕ) → r < 2 ^ 15 → n < 16 → bit_xor (r / 2 ^ 11) n < 16
+leading-lt r n h k = xor_lt 4 (r / 2 ^ 11) n (omega arith) k
+
+-- ---- tables
+-- an entry of a table that has the values of a function
+pub entry : (f : ℕ → ℕ) (size n : ℕ) (table : List ℕ) → table ≡ map f (range_with_len 0 size) → n < size → get_or table n 0 ≡ f n
+entry f size n table is h = ap (λ t. get_or t n 0) is ∙ get_or-map-range_with_len f 0 size n n 0 h (zero-add n)
+
+-- what a nibble leaves in the register
+abbrev pub left_by : ℕ → ℕ
+left_by n = register_after 0 (field_bits 4 n)
+
+pub left_by-is : (n : ℕ) → (left_by n < 2 ^ 15) × IsRegister (left_by n) (field_bits 4 n)
+left_by-is n = IsRegister-after 0 (field_bits 4 n) [] (omega arith) IsRegister-none
+
+-- what a nibble does behind a run, by its place in the table
+abbrev pub step_at : ℕ → ℕ
+step_at i = step_of (eqb (i / 16 % 2) 1) (i / 32) 0 (field_bits 4 (i % 16))
+
+pub bool_byte-le : (b : Bool) → bool_byte b ≤ 1
+bool_byte-le true = omega arith
+bool_byte-le false = omega arith
+
+bit_of_byte : (b : Bool) (m : ℕ) → m % 2 ≡ bool_byte b → eqb (m % 2) 1 ≡ b
+bit_of_byte true m e = ap (λ k. eqb k 1) e
+bit_of_byte false m e = ap (λ k. eqb k 1) e
+
+-- the place of a run and a nibble
+pub step_at-is : (last : Bool) (run n : ℕ) → n < 16 → step_at (16 * (2 * run + bool_byte last) + n) ≡ step_of last run 0 (field_bits 4 n)
+step_at-is last run n h =
+    let i : ℕ = 16 * (2 * run + bool_byte last) + n in
+    let row : i / 16 % 2 ≡ bool_byte last = omega (arith, bool_byte-le last, h) in
+    let runs : i / 32 ≡ run = omega (arith, bool_byte-le last, h) in
+    let column : i % 16 ≡ n = omega (arith, h) in
+    ap (λ l. step_of l (i / 32) 0 (field_bits 4 (i % 16))) (bit_of_byte last (i / 16) row)
+    ∙ ap (λ r. step_of last r 0 (field_bits 4 (i % 16))) runs
+    ∙ ap (λ m. step_of last run 0 (field_bits 4 m)) column
+
+-- ---- the stuffing over several bits
+-- what a step says of the stuffing behind it
+pub record Steps (last : Bool) (run brought : ℕ) (bits : List Bool) (step : ℕ) : Type 0 where
+  pub short : step / 32 < 5
+  pub few : step % 16 ≤ length bits + brought
+  pub counts : (more : List Bool) → length (stuffing_behind last run (bits ++ more)) + brought ≡ length bits + step % 16 + length (stuffing_behind (eqb (step / 16 % 2) 1) (step / 32) more)
+
+Steps-none : (last : Bool) (run brought step : ℕ) → run < 5 → step / 32 ≡ run → eqb (step / 16 % 2) 1 ≡ last → step % 16 ≡ brought → Steps last run brought [] step
+Steps-none last run brought step h r l b = record {
+  short = omega (arith, r, h);
+  few = omega (arith, b);
+  counts = λ more. rw (r, l, b) (omega arith);
+}
+
+-- each step says so
+pub Steps-all : (bits : List Bool) (last : Bool) (run brought : ℕ) → run < 5 → length bits + brought < 16 → Steps last run brought bits (step_of last run brought bits)
+Steps-all [] true run brought h k =
+    let upper : (32 * run + 16 + brought) / 16 % 2 ≡ 1 = omega (arith, k) in
+    Steps-none true run brought _ h (omega (arith, k)) (ap (λ m. eqb m 1) upper) (omega (arith, k))
+Steps-all [] false run brought h k =
+    let upper : (32 * run + 0 + brought) / 16 % 2 ≡ 0 = omega (arith, k) in
+    Steps-none false run brought _ h (omega (arith, k)) (ap (λ m. eqb m 1) upper) (omega (arith, k))
+Steps-all (b ∷ bits) last run brought h k =
+    let n : ℕ = run_with last run b in
+    let full_step : ℕ = step_of (not b) 1 (brought + 1) bits in
+    let more_step : ℕ = step_of b n brought bits in
+    let All : ℕ → Type 0 = Steps last run brought (b ∷ bits) in
+    elim (cases_lt n 5) [
+      | inl less ↦
+          let now = Steps-all bits b n brought less (omega (arith, k)) in
+          subst All (ap (λ t. cond t full_step more_step) (sym (not_five n less))) (record {
+            short = now.short;
+            few = omega (arith, now.few);
+            counts = λ more. omega (arith, ap length (stuffing_behind-more last b run (bits ++ more) less), now.counts more);
+          })
+      | inr full ↦
+          let five : n ≡ 5 = omega (arith, run_with-le last b run h, full) in
+          let now = Steps-all bits (not b) 1 (brought + 1) (omega arith) (omega (arith, k)) in
+          subst All (ap (λ m. cond (eqb m 5) full_step more_step) (sym five)) (record {
+            short = now.short;
+            few = omega (arith, now.few);
+            counts = λ more. omega (arith, ap length (stuffing_behind-run last b run (bits ++ more) five), now.counts more);
+          })
+    ]
+
+-- a counter that counts a step
+pub CountsStuffing-step : (last : Bool) (run count step : ℕ) (bits piece : List Bool) → Steps last run 0 piece step → CountsStuffing last run count bits → CountsStuffing (eqb (step / 16 % 2) 1) (step / 32) (count + (length piece + step % 16)) (bits ++ piece)
+CountsStuffing-step last run count step bits piece steps now more =
+    ap (λ l. length (stuffing_of l)) (append_assoc bits piece more) ∙ now (piece ++ more) ∙ omega (arith, steps.counts more)
+
+-- what the code's step over a nibble says
+pub nibble_step : (last : Bool) (run n step : ℕ) → run < 5 → step ≡ step_of last run 0 (field_bits 4 n) → Steps last run 0 (field_bits 4 n) step × (length (field_bits 4 n) ≡ 4)
+nibble_step last run n step h is =
+    let four : length (field_bits 4 n) ≡ 4 = length-field_bits 4 n in
+    (subst (Steps last run 0 (field_bits 4 n)) (sym is) (Steps-all (field_bits 4 n) last run 0 h (omega (arith, four))), four)
