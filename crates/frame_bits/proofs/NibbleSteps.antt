@@ -6,13 +6,12 @@ use Rattle.std.proofs.lemmas.Bool.{cases_lt}
 use Rattle.std.proofs.lemmas.List.{append-nil}
 use Rattle.std.proofs.lemmas.List.FromFn.{get_or-map-range_with_len}
 use Rattle.std.proofs.lemmas.Nat.{and_mask, shr-shr, xor_comm, xor_lt}
-use mir.Val.{bool_byte}
 use Rattle.can_frame.specs.Bits.{field_bits}
 use Rattle.can_frame.proofs.BitLists.{length-field_bits, field_bits-suc, field_bits-zero, field_bits-mod}
 use Rattle.frame_bits.specs.Crc.{xor, bit_sum, division_step, division_steps}
 use Rattle.frame_bits.specs.Stuffing.{stuffing_of}
 use Rattle.frame_bits.specs.Inside.Crc.{IsRegister}
-use Rattle.frame_bits.specs.Inside.Stuffing.{run_with, stuffing_behind, CountsStuffing, step_of}
+use Rattle.frame_bits.specs.Inside.Stuffing.{run_with, stuffing_behind, CountsStuffing, last_of, run_of, step_of, step_behind}
 use Rattle.frame_bits.proofs.CrcSteps.{length-bit_sum, bit_sum-zero_end, bit_sum-twice, field_bits-xor, register_after, IsRegister-none, IsRegister-after}
 use Rattle.frame_bits.proofs.Runs.{not_five, run_with-le, stuffing_behind-run, stuffing_behind-more}
 
@@ -137,40 +136,29 @@ entry f size n table is h = ap (λ t. get_or t n 0) is ∙ get_or-map-range_with
 abbrev pub left_by : ℕ → ℕ
 left_by n = register_after 0 (field_bits 4 n)
 
+-- it is a register of them
 pub left_by-is : (n : ℕ) → (left_by n < 2 ^ 15) × IsRegister (left_by n) (field_bits 4 n)
 left_by-is n = IsRegister-after 0 (field_bits 4 n) [] (omega arith) IsRegister-none
 
--- what a nibble does behind a run, by its place in the table
+-- what a nibble does behind a row, by its place in the table
 abbrev pub step_at : ℕ → ℕ
-step_at i = step_of (eqb (i / 16 % 2) 1) (i / 32) 0 (field_bits 4 (i % 16))
+step_at i = step_behind (i / 16) (field_bits 4 (i % 16))
 
-pub bool_byte-le : (b : Bool) → bool_byte b ≤ 1
-bool_byte-le true = omega arith
-bool_byte-le false = omega arith
-
-bit_of_byte : (b : Bool) (m : ℕ) → m % 2 ≡ bool_byte b → eqb (m % 2) 1 ≡ b
-bit_of_byte true m e = ap (λ k. eqb k 1) e
-bit_of_byte false m e = ap (λ k. eqb k 1) e
-
--- the place of a run and a nibble
-pub step_at-is : (last : Bool) (run n : ℕ) → n < 16 → step_at (16 * (2 * run + bool_byte last) + n) ≡ step_of last run 0 (field_bits 4 n)
-step_at-is last run n h =
-    let i : ℕ = 16 * (2 * run + bool_byte last) + n in
-    let row : i / 16 % 2 ≡ bool_byte last = omega (arith, bool_byte-le last, h) in
-    let runs : i / 32 ≡ run = omega (arith, bool_byte-le last, h) in
-    let column : i % 16 ≡ n = omega (arith, h) in
-    ap (λ l. step_of l (i / 32) 0 (field_bits 4 (i % 16))) (bit_of_byte last (i / 16) row)
-    ∙ ap (λ r. step_of last r 0 (field_bits 4 (i % 16))) runs
-    ∙ ap (λ m. step_of last run 0 (field_bits 4 m)) column
+-- the place of a row and a nibble
+pub step_at-is : (row n : ℕ) → n < 16 → step_at (16 * row + n) ≡ step_behind row (field_bits 4 n)
+step_at-is row n h =
+    let upper : (16 * row + n) / 16 ≡ row = omega (arith, h) in
+    let lower : (16 * row + n) % 16 ≡ n = omega (arith, h) in
+    ap (λ r. step_behind r (field_bits 4 ((16 * row + n) % 16))) upper ∙ ap (λ m. step_behind row (field_bits 4 m)) lower
 
 -- ---- the stuffing over several bits
 -- what a step says of the stuffing behind it
 pub record Steps (last : Bool) (run brought : ℕ) (bits : List Bool) (step : ℕ) : Type 0 where
-  pub short : step / 32 < 5
+  pub short : step / 16 / 2 < 5
   pub few : step % 16 ≤ length bits + brought
-  pub counts : (more : List Bool) → length (stuffing_behind last run (bits ++ more)) + brought ≡ length bits + step % 16 + length (stuffing_behind (eqb (step / 16 % 2) 1) (step / 32) more)
+  pub counts : (more : List Bool) → length (stuffing_behind last run (bits ++ more)) + brought ≡ length bits + step % 16 + length (stuffing_behind (eqb (step / 16 % 2) 1) (step / 16 / 2) more)
 
-Steps-none : (last : Bool) (run brought step : ℕ) → run < 5 → step / 32 ≡ run → eqb (step / 16 % 2) 1 ≡ last → step % 16 ≡ brought → Steps last run brought [] step
+Steps-none : (last : Bool) (run brought step : ℕ) → run < 5 → step / 16 / 2 ≡ run → eqb (step / 16 % 2) 1 ≡ last → step % 16 ≡ brought → Steps last run brought [] step
 Steps-none last run brought step h r l b = record {
   short = omega (arith, r, h);
   few = omega (arith, b);
@@ -208,13 +196,12 @@ Steps-all (b ∷ bits) last run brought h k =
           })
     ]
 
--- a counter that counts a step
-pub CountsStuffing-step : (last : Bool) (run count step : ℕ) (bits piece : List Bool) → Steps last run 0 piece step → CountsStuffing last run count bits → CountsStuffing (eqb (step / 16 % 2) 1) (step / 32) (count + (length piece + step % 16)) (bits ++ piece)
-CountsStuffing-step last run count step bits piece steps now more =
-    ap (λ l. length (stuffing_of l)) (append_assoc bits piece more) ∙ now (piece ++ more) ∙ omega (arith, steps.counts more)
+-- the step behind a row says so
+pub step_behind-is : (row step : ℕ) (bits : List Bool) → row < 10 → length bits < 16 → step ≡ step_behind row bits → Steps (last_of row) (run_of row) 0 bits step
+step_behind-is row step bits h k is =
+    subst (Steps (last_of row) (run_of row) 0 bits) (sym is) (Steps-all bits (last_of row) (run_of row) 0 (omega (arith, h)) (omega (arith, k)))
 
--- what the code's step over a nibble says
-pub nibble_step : (last : Bool) (run n step : ℕ) → run < 5 → step ≡ step_of last run 0 (field_bits 4 n) → Steps last run 0 (field_bits 4 n) step × (length (field_bits 4 n) ≡ 4)
-nibble_step last run n step h is =
-    let four : length (field_bits 4 n) ≡ 4 = length-field_bits 4 n in
-    (subst (Steps last run 0 (field_bits 4 n)) (sym is) (Steps-all (field_bits 4 n) last run 0 h (omega (arith, four))), four)
+-- a counter that counts a step
+pub CountsStuffing-step : (row count step width brought : ℕ) (bits piece : List Bool) → Steps (last_of row) (run_of row) 0 piece step → width ≡ length piece → brought ≡ step % 16 → CountsStuffing row count bits → CountsStuffing (step / 16) (count + (width + brought)) (bits ++ piece)
+CountsStuffing-step row count step width brought bits piece steps w b now more =
+    ap (λ l. length (stuffing_of l)) (append_assoc bits piece more) ∙ now (piece ++ more) ∙ omega (arith, steps.counts more, w, b)

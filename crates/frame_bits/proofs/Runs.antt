@@ -170,11 +170,11 @@ stuffing_of-is x bits = stuffing_after-is bits [] x 0 (omega arith) (Ends-none x
 
 -- ---- what the counter starts and ends with
 -- a counter of no bits
-pub CountsStuffing-none : (x : Bool) → CountsStuffing x 0 0 []
-CountsStuffing-none x more = ap length (stuffing_of-is x more) ∙ omega arith
+pub CountsStuffing-none : CountsStuffing 0 0 []
+CountsStuffing-none more = ap length (stuffing_of-is false more) ∙ omega arith
 
 -- what the counter has at the end is the length of the stuffing
-pub CountsStuffing-all : (x : Bool) (run count : ℕ) (bits : List Bool) → CountsStuffing x run count bits → count ≡ length (stuffing_of bits)
-CountsStuffing-all x run count bits now =
+pub CountsStuffing-all : (row count : ℕ) (bits : List Bool) → CountsStuffing row count bits → count ≡ length (stuffing_of bits)
+CountsStuffing-all row count bits now =
     let all : length (stuffing_of bits) ≡ count + 0 = ap (λ l. length (stuffing_of l)) (sym (append-nil bits)) ∙ now [] in
     omega (arith, all)

@@ -1,5 +1,5 @@
 -- The stuffing of bits that come one by one.
-use Rattle.std.specs.Prelude.{◌≡◌, ℕ, ◌+◌, ◌*◌, ◌==◌, Bool, not, if◌then◌else◌, List, [], ◌∷◌, ◌++◌, length}
+use Rattle.std.specs.Prelude.{◌≡◌, ℕ, ◌+◌, ◌*◌, ◌/◌, ◌%◌, ◌==◌, Bool, not, if◌then◌else◌, List, [], ◌∷◌, ◌++◌, length}
 use Rattle.std.specs.Bool.{beq}
 use Rattle.frame_bits.specs.Stuffing.{stuffing_of}
 
@@ -15,16 +15,28 @@ stuffing_behind last run (b ∷ bits) =
     then b ∷ not b ∷ stuffing_behind (not b) 1 bits
     else b ∷ stuffing_behind b (run_with last run b) bits
 
--- the stuffing of the bits so far has this length, and ends in so many bits of one value
-abbrev pub CountsStuffing : Bool → ℕ → ℕ → List Bool → Type 0
-CountsStuffing last run count bits =
-    (more : List Bool) → length (stuffing_of (bits ++ more)) ≡ count + length (stuffing_behind last run more)
+-- the row of a run: twice its length, and one more where its bits are recessive
+abbrev pub last_of : ℕ → Bool
+last_of row = row % 2 == 1
 
--- what bits do behind so many bits of one value, as one number below 256: the run in which they end, its
--- value, and how many stuff bits they bring beside those so far
+abbrev pub run_of : ℕ → ℕ
+run_of row = row / 2
+
+-- the stuffing of the bits so far has this length, and ends in the run of this row
+abbrev pub CountsStuffing : ℕ → ℕ → List Bool → Type 0
+CountsStuffing row count bits =
+    (more : List Bool) →
+    length (stuffing_of (bits ++ more)) ≡ count + length (stuffing_behind (last_of row) (run_of row) more)
+
+-- what bits do behind a run, as one number: sixteen times the row behind them, and how many stuff bits they
+-- bring beside those brought so far
 abbrev pub step_of : Bool → ℕ → ℕ → List Bool → ℕ
 step_of last run brought [] = 32 * run + (if last then 16 else 0) + brought
 step_of last run brought (b ∷ bits) =
     if run_with last run b == 5
     then step_of (not b) 1 (brought + 1) bits
     else step_of b (run_with last run b) brought bits
+
+-- the step behind the run of a row
+abbrev pub step_behind : ℕ → List Bool → ℕ
+step_behind row bits = step_of (last_of row) (run_of row) 0 bits

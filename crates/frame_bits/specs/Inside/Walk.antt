@@ -7,7 +7,7 @@ use Rattle.frame_bits.specs.Inside.Stuffing.{CountsStuffing}
 -- the walk has gone over these bits
 pub record HasWalked (walk : Walk) (bits : List Bool) : Type 0 where
   pub register : IsRegister walk.crc.register bits
-  pub stuffing : CountsStuffing walk.stuffing.last walk.stuffing.run walk.stuffing.count bits
+  pub stuffing : CountsStuffing walk.stuffing.row walk.stuffing.count bits
 
 -- where the old walk has gone over some bits, the new one has gone over these and the piece
 abbrev pub GoesOver : Walk → Walk → List Bool → Type 0
