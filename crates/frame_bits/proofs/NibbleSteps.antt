@@ -1,70 +1,19 @@
--- Four bits at a time: fields cut in two, the register and the stuffing over a nibble, and the tables.
-use Rattle.std.proofs.Common.{◌≡◌, ℕ, zero, suc, ◌+◌, ◌-◌, ◌*◌, ◌/◌, ◌%◌, ◌^◌, ◌<◌, ◌≤◌, Bool, true, false, not, cond, eqb, List, [], ◌∷◌, ◌++◌, length, map, get_or, replicate, refl, sym, ap, subst, ◌∙◌, inl, inr, arith, zero-add, length-append, append_assoc, bit_and}
+-- Four bits at a time: the register and the stuffing over a nibble, and their tables.
+use Rattle.std.proofs.Common.{◌≡◌, ℕ, zero, suc, ◌+◌, ◌*◌, ◌/◌, ◌%◌, ◌^◌, ◌<◌, ◌≤◌, Bool, true, false, not, cond, eqb, List, [], ◌∷◌, ◌++◌, length, map, get_or, replicate, refl, sym, ap, subst, ◌∙◌, inl, inr, arith, zero-add, length-append, append_assoc, bit_and}
 use Rattle.std.specs.Int.Bits.{bit_xor}
 use Rattle.std.specs.List.{range_with_len}
 use Rattle.std.proofs.lemmas.Bool.{cases_lt}
-use Rattle.std.proofs.lemmas.List.{append-nil}
 use Rattle.std.proofs.lemmas.List.FromFn.{get_or-map-range_with_len}
-use Rattle.std.proofs.lemmas.Nat.{and_mask, shr-shr, xor_comm, xor_lt}
+use Rattle.std.proofs.lemmas.Nat.{and_mask, xor_comm, xor_lt}
 use Rattle.can_frame.specs.Bits.{field_bits}
-use Rattle.can_frame.proofs.BitLists.{length-field_bits, field_bits-suc, field_bits-zero, field_bits-mod}
+use Rattle.can_frame.proofs.BitLists.{length-field_bits, field_bits-mod}
 use Rattle.frame_bits.specs.Crc.{xor, bit_sum, division_step, division_steps}
 use Rattle.frame_bits.specs.Stuffing.{stuffing_of}
 use Rattle.frame_bits.specs.Inside.Crc.{IsRegister}
 use Rattle.frame_bits.specs.Inside.Stuffing.{run_with, stuffing_behind, CountsStuffing, last_of, run_of, step_of, step_behind}
+use Rattle.frame_bits.proofs.FieldSteps.{field_bits-split}
 use Rattle.frame_bits.proofs.CrcSteps.{length-bit_sum, bit_sum-zero_end, bit_sum-twice, field_bits-xor, register_after, IsRegister-none, IsRegister-after}
 use Rattle.frame_bits.proofs.Runs.{not_five, run_with-le, stuffing_behind-run, stuffing_behind-more}
-
--- ---- fields in two parts
--- a field is the field above a place and the one below it
-pub field_bits-split : (a b n : ℕ) → field_bits (a + b) n ≡ field_bits a (n / 2 ^ b) ++ field_bits b n
-field_bits-split zero b n =
-    ap (λ k. field_bits k n) (zero-add b) ∙ ap (λ l. l ++ field_bits b n) (sym (field_bits-zero (n / 2 ^ b)))
-field_bits-split (suc a) b n =
-    let longer : suc a + b ≡ suc (a + b) = omega arith in
-    let places : b + a ≡ a + b = omega arith in
-    ap (λ k. field_bits k n) longer
-    ∙ field_bits-suc (a + b) n
-    ∙ ap (λ l. eqb (n / 2 ^ (a + b) % 2) 1 ∷ l) (field_bits-split a b n)
-    ∙ ap (λ m. eqb (m % 2) 1 ∷ (field_bits a (n / 2 ^ b) ++ field_bits b n)) (sym (shr-shr n b a ∙ ap (λ k. n / 2 ^ k) places))
-    ∙ ap (λ l. l ++ field_bits b n) (sym (field_bits-suc a (n / 2 ^ b)))
-
--- no nibble stands above the first
-pub nibbles_start : (bits : List Bool) (count n : ℕ) → bits ≡ bits ++ field_bits (4 * (count - count)) n
-nibbles_start bits count n =
-    let none : 0 ≡ 4 * (count - count) = omega arith in
-    sym (append-nil bits) ∙ ap (λ l. bits ++ l) (sym (field_bits-zero n)) ∙ ap (λ k. bits ++ field_bits k n) none
-
--- the nibbles down to the next place, as the code takes the one there
-pub nibbles_grow : (bits : List Bool) (count place n : ℕ) → 0 < place → place ≤ count → (bits ++ field_bits (4 * (count - place)) (n / 2 ^ (4 * place))) ++ field_bits 4 (bit_and (n / 2 ^ (4 * (place - 1))) 15) ≡ bits ++ field_bits (4 * (count - (place - 1))) (n / 2 ^ (4 * (place - 1)))
-nibbles_grow bits count place n low high =
-    let below : ℕ = n / 2 ^ (4 * (place - 1)) in
-    let upper : List Bool = field_bits (4 * (count - place)) (n / 2 ^ (4 * place)) in
-    let above : 4 * (place - 1) + 4 ≡ 4 * place = omega (arith, low) in
-    let longer : 4 * (count - place) + 4 ≡ 4 * (count - (place - 1)) = omega (arith, low, high) in
-    append_assoc bits upper _
-    ∙ ap (λ m. bits ++ (upper ++ field_bits 4 m)) (and_mask below 4)
-    ∙ ap (λ l. bits ++ (upper ++ l)) (field_bits-mod 4 4 below (omega arith))
-    ∙ ap (λ m. bits ++ (field_bits (4 * (count - place)) m ++ field_bits 4 below)) (sym (shr-shr n (4 * (place - 1)) 4 ∙ ap (λ k. n / 2 ^ k) above))
-    ∙ ap (λ l. bits ++ l) (sym (field_bits-split (4 * (count - place)) 4 below))
-    ∙ ap (λ k. bits ++ field_bits k below) longer
-
--- down to place 0 they are all nibbles
-pub nibbles_end : (bits : List Bool) (count place n : ℕ) → place ≡ 0 → bits ++ field_bits (4 * (count - place)) (n / 2 ^ (4 * place)) ≡ bits ++ field_bits (4 * count) n
-nibbles_end bits count place n e =
-    let whole : 4 * (count - 0) ≡ 4 * count = omega arith in
-    let same : n / 2 ^ 0 ≡ n = omega arith in
-    ap (λ q. bits ++ field_bits (4 * (count - q)) (n / 2 ^ (4 * q))) e ∙ ap (λ k. bits ++ field_bits k (n / 2 ^ 0)) whole ∙ ap (λ m. bits ++ field_bits (4 * count) m) same
-
--- a field is its leading bits and then nibbles
-pub field_nibbles : (bits : List Bool) (width n lead_width lead : ℕ) → lead_width ≡ width % 4 → lead ≡ n / 2 ^ (4 * (width / 4)) → (bits ++ field_bits lead_width lead) ++ field_bits (4 * (width / 4)) n ≡ bits ++ field_bits width n
-field_nibbles bits width n lead_width lead w e =
-    let sum : width % 4 + 4 * (width / 4) ≡ width = omega arith in
-    append_assoc bits (field_bits lead_width lead) _
-    ∙ ap (λ k. bits ++ (field_bits k lead ++ field_bits (4 * (width / 4)) n)) w
-    ∙ ap (λ m. bits ++ (field_bits (width % 4) m ++ field_bits (4 * (width / 4)) n)) e
-    ∙ ap (λ l. bits ++ l) (sym (field_bits-split (width % 4) (4 * (width / 4)) n))
-    ∙ ap (λ k. bits ++ field_bits k n) sum
 
 -- ---- the register over a nibble
 division_steps-add : (k m : ℕ) (bits : List Bool) → division_steps (k + m) bits ≡ division_steps k (division_steps m bits)

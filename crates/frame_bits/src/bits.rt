@@ -2,7 +2,7 @@
 
 ghost use Rattle.std.specs.Prelude.{◌≡◌, ◌++◌, OnOk, IfOk};
 ghost use Rattle.frame_bits.specs.Bits.{data_bits, unstuffed_bits};
-ghost use Rattle.frame_bits.specs.Inside.Field.{bits_in, bits_in_all};
+ghost use Rattle.frame_bits.specs.Inside.Field.{bits_in};
 
 use crate::crc::crc15;
 use crate::field::Field;
@@ -22,11 +22,11 @@ pub fn bits_of(alloc: Global, f: &Frame) -> Result<Vec<bool>, NoMemory>
     ensures { IfOk result (λ bits. bits.items ≡ unstuffed_bits f.now) }
 {
     let mut bits = Vec::new(alloc);
-    append_all(&mut bits, &header(f))?;
+    append(&mut bits, header(f))?;
     let payload = f.payload();
     append_bytes(&mut bits, &payload[..f.data_len()])?;
     let crc = crc15(bits.as_slice());
-    append(&mut bits, Field::new(15, u32::from(crc)))?;
+    append(&mut bits, Field::new(15, u64::from(crc)))?;
     Ok(bits)
 }
 
@@ -40,22 +40,12 @@ fn append(bits: &mut Vec<bool>, field: Field) -> Result<(), NoMemory>
     Ok(())
 }
 
-/// Appends the bits of the fields.
-fn append_all(bits: &mut Vec<bool>, fields: &[Field]) -> Result<(), NoMemory>
-    ensures { OnOk result (bits.new.items ≡ bits.old.items ++ bits_in_all fields.now) }
-{
-    for field in fields {
-        append(bits, *field)?;
-    }
-    Ok(())
-}
-
 /// Appends the bits of the bytes.
 fn append_bytes(bits: &mut Vec<bool>, bytes: &[u8]) -> Result<(), NoMemory>
     ensures { OnOk result (bits.new.items ≡ bits.old.items ++ data_bits bytes.now) }
 {
     for byte in bytes {
-        append(bits, Field::new(8, u32::from(*byte)))?;
+        append(bits, Field::new(8, u64::from(*byte)))?;
     }
     Ok(())
 }

@@ -1,45 +1,26 @@
-// The fields of a frame before its CRC.
+// The bits of a frame before its data field.
 
 ghost use Rattle.std.specs.Prelude.{◌≡◌};
 ghost use Rattle.frame_bits.specs.Bits.{header_bits};
-ghost use Rattle.frame_bits.specs.Inside.Field.{bits_in_all};
+ghost use Rattle.frame_bits.specs.Inside.Field.{bits_in};
 
 use crate::field::Field;
 use can_frame::{Frame, Ident};
 
-/// The fields from SOF to the data length code, in the order of the bus.
-pub fn header(f: &Frame) -> [Field; 9]
-    ensures { bits_in_all result ≡ header_bits f.now.ident f.now.remote f.now.dlc }
+/// The bits from SOF to the data length code, as one field.
+pub fn header(f: &Frame) -> Field
+    ensures { bits_in result ≡ header_bits f.now.ident f.now.remote f.now.dlc }
 {
-    let rtr = Field::new(1, u32::from(f.rtr()));
-    let dlc = Field::new(4, u32::from(f.dlc()));
+    // RTR, two dominant bits, DLC
+    let control = u64::from(f.rtr()) * 64 + u64::from(f.dlc());
     match f.ident() {
-        Ident::Std(number) => [
-            // SOF, identifier
-            Field::DOMINANT,
-            Field::new(11, u32::from(number)),
-            // RTR, IDE, r0
-            rtr,
-            Field::DOMINANT,
-            Field::DOMINANT,
-            dlc,
-            Field::ABSENT,
-            Field::ABSENT,
-            Field::ABSENT,
-        ],
-        Ident::Ext(number) => [
-            // SOF, base identifier
-            Field::DOMINANT,
-            Field::new(11, number >> 18),
-            // SRR, IDE, further identifier
-            Field::RECESSIVE,
-            Field::RECESSIVE,
-            Field::new(18, number),
-            // RTR, r1, r0
-            rtr,
-            Field::DOMINANT,
-            Field::DOMINANT,
-            dlc,
-        ],
+        // SOF and the identifier before them
+        Ident::Std(number) => Field::new(19, u64::from(number) * 128 + control),
+        // SOF and the base identifier, SRR and IDE, the further identifier
+        Ident::Ext(number) => {
+            let base = u64::from(number >> 18) * 4 + 3;
+            let further = u64::from(number & 0x3_FFFF);
+            Field::new(39, (base * 0x4_0000 + further) * 128 + control)
+        }
     }
 }

@@ -19,11 +19,11 @@ pub fn stuffed_len(f: &Frame) -> u32
     ensures at_most { result ≤ 157 }
 {
     let mut walk = Walk::new();
-    walk.push_all(&header(f));
+    walk.push(header(f));
     let payload = f.payload();
     walk.push_bytes(&payload[..f.data_len()]);
     let crc = walk.crc.value();
-    walk.push(Field::new(15, u32::from(crc)));
+    walk.push(Field::new(15, u64::from(crc)));
     walk.stuffing.count() + BITS_AFTER_CRC
 }
 

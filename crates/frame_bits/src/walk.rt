@@ -3,7 +3,7 @@
 ghost use Rattle.std.specs.Prelude.{◌≡◌, ◌+◌, ◌*◌, ◌≤◌, ◌<◌, ◌^◌, [], ◌∷◌, length};
 ghost use Rattle.can_frame.specs.Bits.{field_bits};
 ghost use Rattle.frame_bits.specs.Bits.{data_bits};
-ghost use Rattle.frame_bits.specs.Inside.Field.{bits_in, bits_in_all};
+ghost use Rattle.frame_bits.specs.Inside.Field.{bits_in};
 ghost use Rattle.frame_bits.specs.Inside.Walk.{HasWalked, GoesOver};
 
 use crate::crc::Crc;
@@ -61,8 +61,8 @@ impl Walk {
     }
 
     /// Goes over so many nibbles, the lowest of the number.
-    fn push_nibbles(&mut self, number: u32, nibbles: u8)
-        requires few { nibbles ≤ 4 }
+    fn push_nibbles(&mut self, number: u64, nibbles: u8)
+        requires few { nibbles ≤ 9 }
         requires room { self.old.stuffing.count + 8 * nibbles < 2 ^ 32 }
         ensures walked { GoesOver self.old self.new (field_bits (4 * nibbles) number) }
         ensures at_most { self.new.stuffing.count ≤ self.old.stuffing.count + 8 * nibbles }
@@ -83,17 +83,6 @@ impl Walk {
         }
     }
 
-    /// Goes over the bits of the fields.
-    pub fn push_all(&mut self, fields: &[Field])
-        requires { self.old.stuffing.count + 36 * length fields.now < 2 ^ 32 }
-        ensures walked { GoesOver self.old self.new (bits_in_all fields.now) }
-        ensures at_most { self.new.stuffing.count ≤ self.old.stuffing.count + 36 * length fields.now }
-    {
-        for field in fields {
-            self.push(*field);
-        }
-    }
-
     /// Goes over the bits of the bytes.
     pub fn push_bytes(&mut self, bytes: &[u8])
         requires { self.old.stuffing.count + 16 * length bytes.now < 2 ^ 32 }
@@ -101,7 +90,7 @@ impl Walk {
         ensures at_most { self.new.stuffing.count ≤ self.old.stuffing.count + 16 * length bytes.now }
     {
         for byte in bytes {
-            self.push(Field::new(8, u32::from(*byte)));
+            self.push(Field::new(8, u64::from(*byte)));
         }
     }
 }

@@ -15,10 +15,11 @@ stuffing_behind last run (b ∷ bits) =
     then b ∷ not b ∷ stuffing_behind (not b) 1 bits
     else b ∷ stuffing_behind b (run_with last run b) bits
 
--- the row of a run: twice its length, and one more where its bits are recessive
+-- a row stands for a run: it is twice the run's length, and one more where its bits are recessive
 abbrev pub last_of : ℕ → Bool
 last_of row = row % 2 == 1
 
+-- the length of the run of a row
 abbrev pub run_of : ℕ → ℕ
 run_of row = row / 2
 

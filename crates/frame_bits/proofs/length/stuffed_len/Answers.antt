@@ -11,10 +11,10 @@ pub returns-clause-value : goal.returns-clause-value
 returns-clause-value c =
     let f = c.args.f.now in
     let covered : HasWalked c.push_bytes.new.self (covered_bits f) =
-    subst (HasWalked c.push_bytes.new.self) (covered-is f _ _ _ c.header.ensures c.data_len.ensures.value c.payload-payload.ensures.value) (c.push_bytes.ensures.walked _ (c.push_all.ensures.walked [] c.new-walk.ensures.none)) in
+    subst (HasWalked c.push_bytes.new.self) (covered-is f _ _ _ c.header.ensures c.data_len.ensures.value c.payload-payload.ensures.value) (c.push_bytes.ensures.walked _ (c.push.ensures.walked [] c.new-walk.ensures.none)) in
     let crc = crc_piece (covered_bits f) _ _ c.new.ensures.width (c.new.ensures.number ∙ c.from.ensures ∙ c.value-crc.ensures.value (covered_bits f) covered.register) in
-    let all : HasWalked c.push.new.self (unstuffed_bits f) =
-    subst (λ l. HasWalked c.push.new.self (covered_bits f ++ l)) crc (c.push.ensures.walked _ covered) in
+    let all : HasWalked c.push-2.new.self (unstuffed_bits f) =
+    subst (λ l. HasWalked c.push-2.new.self (covered_bits f ++ l)) crc (c.push-2.ensures.walked _ covered) in
     ap (λ n. n + 10) (c.count.ensures.value (unstuffed_bits f) all.stuffing) ∙ sym (frame_length-is f)
 
 pub returns-clause-length : goal.returns-clause-length

@@ -1,7 +1,7 @@
 -- The leading bits of a field, and then its nibbles.
 use Rattle.std.proofs.Common.{subst}
 use Rattle.frame_bits.specs.Inside.Walk.{HasWalked}
-use Rattle.frame_bits.proofs.NibbleSteps.{field_nibbles}
+use Rattle.frame_bits.proofs.FieldSteps.{field_nibbles}
 use Rattle.frame_bits.proofs.walk.Walk.push.Goals as goal
 
 pub returns-clause-walked : goal.returns-clause-walked

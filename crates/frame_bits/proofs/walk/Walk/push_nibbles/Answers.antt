@@ -1,7 +1,7 @@
 -- One more nibble.
 use Rattle.std.proofs.Common.{subst, arith}
 use Rattle.frame_bits.specs.Inside.Walk.{HasWalked}
-use Rattle.frame_bits.proofs.NibbleSteps.{nibbles_start, nibbles_grow, nibbles_end}
+use Rattle.frame_bits.proofs.FieldSteps.{nibbles_start, nibbles_grow, nibbles_end}
 use Rattle.frame_bits.proofs.walk.Walk.push_nibbles.Goals as goal
 
 pub loop-place-init : goal.loop-place-init
