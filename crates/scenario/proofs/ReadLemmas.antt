@@ -1,7 +1,6 @@
 -- How far a text was read, line by line.
-use Rattle.std.proofs.Common.{◌≡◌, ◌≢◌, ◌<◌, ◌≤◌, ◌+◌, ◌-◌, ℕ, zero, suc, Bool, true, false, not, ◌||◌, ◌==◌, List, [], ◌∷◌, ◌++◌, length, take, drop, get_or, Option, Some, None, refl, sym, ap, subst, ◌∙◌, arith, inl, inr}
-use Rattle.std.specs.Prelude.{is_some, if◌then◌else◌, filter, nat_lt, ◌⊎◌, codes}
-use Rattle.std.specs.List.{list_any, flat_map, slice_split}
+use Rattle.std.proofs.Common.{◌≡◌, ◌<◌, ◌≤◌, ◌+◌, ℕ, zero, suc, Bool, true, false, not, ◌||◌, ◌==◌, List, [], ◌∷◌, ◌++◌, length, take, drop, get_or, Some, None, refl, sym, ap, subst, ◌∙◌, arith, inl, inr}
+use Rattle.std.specs.Prelude.{if◌then◌else◌, filter, nat_lt, ◌⊎◌, codes}
 use Rattle.std.specs.Str.{bytes_eq}
 use Rattle.std.specs.Str.Lines.{lines}
 use Rattle.std.proofs.lemmas.Bool.{false≢true, cases_lt}
@@ -13,8 +12,8 @@ use Rattle.scenario.specs.declared.item.Item.TheVariants as item
 use Rattle.scenario.specs.declared.scenario.Scenario.{Scenario}
 use Rattle.scenario.specs.Item.{is_passed_over, is_blank, fields_of, item_of, items_in, items_of}
 use Rattle.scenario.specs.Rule.{broken_rules, least_of, nodes_of, rule_of_line, rule_at, AreRightBefore, IsFirstBroken, HasNoItem, HasNoNode}
-use Rattle.scenario.specs.Scenario.{first_of, IsSaidBy, IsScenario}
-use Rattle.scenario.specs.Inside.Draft.{Said, said_by, is_scenario, rule_of_next, with_item, with_line, rule_behind, broken_behind, started_with, IsScenarioOf}
+use Rattle.scenario.specs.Scenario.{IsScenario}
+use Rattle.scenario.specs.Inside.Draft.{Said, said_by, is_scenario, rule_of_next, with_item, with_line, IsScenarioOf}
 use Rattle.scenario.proofs.SaidLemmas.{IsSound, none_first, rules_told, said_more, sound_more}
 
 -- the rest of a text is left, after so many lines that break no rule and say this

@@ -1,6 +1,6 @@
 -- What items say, against what is said so far and one more item.
-use Rattle.std.proofs.Common.{◌≡◌, ◌≢◌, ◌<◌, ◌≤◌, ◌+◌, ℕ, zero, suc, Bool, true, false, not, ◌&&◌, ◌||◌, List, [], ◌∷◌, ◌++◌, length, Option, Some, None, refl, sym, ap, subst, ◌∙◌, arith, All}
-use Rattle.std.specs.Prelude.{is_some, if◌then◌else◌}
+use Rattle.std.proofs.Common.{◌≡◌, ℕ, Bool, true, false, not, ◌&&◌, ◌||◌, List, [], ◌∷◌, ◌++◌, Option, Some, None, refl, sym, ap, ◌∙◌, All}
+use Rattle.std.specs.Prelude.{is_some}
 use Rattle.std.specs.Option.{option_to_list}
 use Rattle.std.specs.List.{list_any, flat_map}
 use Rattle.std.proofs.lemmas.Bool.{false≢true}
@@ -11,11 +11,9 @@ use Rattle.std.proofs.lemmas.List.Elements.{All-nil, All-cons, All-head, All-tai
 use Rattle.scenario.specs.declared.item.Item.{Item}
 use Rattle.scenario.specs.declared.item.Item.TheVariants as item
 use Rattle.scenario.specs.declared.scenario.Epoch.{Epoch}
-use Rattle.scenario.specs.declared.scenario.KeyItem.{KeyItem}
-use Rattle.scenario.specs.declared.scenario.NodeItem.{NodeItem}
 use Rattle.scenario.specs.Rule.{breaks_S01, breaks_S02, breaks_S03, breaks_S04, breaks_S05, breaks_S06, breaks_S07, breaks_S08, breaks_S09, breaks_S10, breaks_S11, is_repeated, node_in, nodes_of, broken_rules, least_of}
 use Rattle.scenario.specs.Scenario.{first_of, database_in, bit_in, until_in, turns_in, epoch_in, interface_in, picks_in, key_in, replay_in}
-use Rattle.scenario.specs.Inside.Draft.{Said, said_by, is_scenario, is_start, is_said, broken_behind, with_item, started_with, database_with, nodes_with, bit_with, until_with, turns_with, epoch_with, interface_with, picks_with, keys_with, replay_with}
+use Rattle.scenario.specs.Inside.Draft.{said_by, is_scenario, is_start, is_said, broken_behind, with_item, started_with, database_with, nodes_with, bit_with, until_with, turns_with, epoch_with, interface_with, picks_with, keys_with, replay_with}
 use Rattle.scenario.proofs.ChoiceLemmas.{none_holds}
 
 -- the item has a value, where it may lack one

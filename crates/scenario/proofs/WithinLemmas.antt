@@ -1,6 +1,6 @@
 -- The numbers of a scenario are within their bounds, and its interface is one.
-use Rattle.std.proofs.Common.{◌≡◌, ◌<◌, ◌≤◌, ◌*◌, ◌/◌, ◌==◌, ℕ, zero, suc, Bool, true, false, List, [], ◌∷◌, ◌++◌, length, Option, Some, None, refl, sym, ap, subst, ◌∙◌, arith, inl, inr}
-use Rattle.std.specs.Prelude.{All, cond, if◌then◌else◌, unwrap_or, codes, nat_le, ◌||◌}
+use Rattle.std.proofs.Common.{◌≡◌, ◌≤◌, ◌*◌, ◌/◌, ◌==◌, ℕ, zero, suc, Bool, true, false, List, [], ◌∷◌, length, Option, Some, None, refl, sym, subst, arith}
+use Rattle.std.specs.Prelude.{All, if◌then◌else◌, unwrap_or, codes, nat_le, ◌&&◌, ◌||◌}
 use Rattle.std.specs.List.{flat_map, list_any}
 use Rattle.std.specs.Option.{option_and_then, option_map, option_to_list}
 use Rattle.std.specs.Str.{bytes_eq}
@@ -11,15 +11,13 @@ use Rattle.std.proofs.lemmas.List.Sorted.{All-permutation, IsNonDecreasingBy-fro
 use Rattle.text_parts.proofs.NumberLemmas.{number_up_to-some}
 use Rattle.text_parts.specs.Number.{number_up_to}
 use Rattle.scenario.specs.Item.{fields_of, is_passed_over, item_of, item_of_one, item_of_picks, item_of_two, item_of_values, items_in, items_of}
-use Rattle.scenario.specs.Scenario.{AreByMoment, IsScenario, bit_in, epoch_in, first_of, key_in, turns_in, until_in}
+use Rattle.scenario.specs.Scenario.{IsScenario, bit_in, epoch_in, first_of, key_in, turns_in, until_in}
 use Rattle.scenario.specs.Value.{bit_of, bit_rates, epoch_of, key_byte_of, key_of, moment_of, number_of, turns_of}
 use Rattle.scenario.specs.declared.item.Item.{Item}
 use Rattle.scenario.specs.declared.item.Item.TheVariants as item
-use Rattle.scenario.specs.declared.scenario.Epoch.{Epoch}
 use Rattle.scenario.specs.declared.scenario.Epoch.TheVariants.{At, First}
-use Rattle.scenario.specs.declared.scenario.KeyItem.{KeyItem}
 use Rattle.scenario.specs.declared.scenario.Scenario.{Scenario}
-use Rattle.scenario.specs.Within.{IsEpochWithin, IsWithin, day}
+use Rattle.scenario.specs.Within.{IsEpochWithin, IsKeyWithin, IsWithin, day}
 use Rattle.scenario.proofs.InterfaceLemmas.{scenario_interface}
 
 -- ---- values
@@ -124,16 +122,28 @@ bit_from (Some rate) = rate_chosen rate (list_any (λ one. one == rate) bit_rate
 bit_within : (value : List ℕ) → IfThere IsBit (bit_of value)
 bit_within value = bit_from (number_of 1000000 value)
 
-key_with : (at : ℕ) (byte : Option ℕ) → at ≤ day → IfThere (λ (k : KeyItem). k.at ≤ day) (option_map (λ b. record { at = at; key = b }) byte)
-key_with at None within = tt
-key_with at (Some byte) within = within
+printed : (byte : ℕ) → true ≡ (nat_le 33 byte && nat_le byte 126) → (33 ≤ byte) × (byte ≤ 126)
+printed byte is = (grind (arith, nat_tests), grind (arith, nat_tests))
+
+byte_chosen : (byte : ℕ) (is : Bool) → is ≡ (nat_le 33 byte && nat_le byte 126) → IfThere (λ b. (33 ≤ b) × (b ≤ 126)) (if is then Some byte else None)
+byte_chosen byte true is = printed byte is
+byte_chosen byte false is = tt
+
+byte_within : (key : List ℕ) → IfThere (λ b. (33 ≤ b) × (b ≤ 126)) (key_byte_of key)
+byte_within [] = tt
+byte_within (byte ∷ []) = byte_chosen byte (nat_le 33 byte && nat_le byte 126) refl
+byte_within (byte ∷ next ∷ key) = tt
+
+key_with : (at : ℕ) (byte : Option ℕ) → at ≤ day → IfThere (λ b. (33 ≤ b) × (b ≤ 126)) byte → IfThere IsKeyWithin (option_map (λ b. record { at = at; key = b }) byte)
+key_with at None within is = tt
+key_with at (Some byte) within is = record { at = within; least = is.0; greatest = is.1 }
 
 key_from : (moment : Option ℕ) (key : List ℕ) → IfThere (λ n. n ≤ day) moment →
-    IfThere (λ (k : KeyItem). k.at ≤ day) (option_and_then (λ at. option_map (λ byte. record { at = at; key = byte }) (key_byte_of key)) moment)
+    IfThere IsKeyWithin (option_and_then (λ at. option_map (λ byte. record { at = at; key = byte }) (key_byte_of key)) moment)
 key_from None key within = tt
-key_from (Some at) key within = key_with at (key_byte_of key) within
+key_from (Some at) key within = key_with at (key_byte_of key) within (byte_within key)
 
-key_within : (moment key : List ℕ) → IfThere (λ (k : KeyItem). k.at ≤ day) (key_of moment key)
+key_within : (moment key : List ℕ) → IfThere IsKeyWithin (key_of moment key)
 key_within moment key = key_from (moment_of moment) key (moment_within moment)
 
 -- ---- items
@@ -144,7 +154,7 @@ IsItemWithin (item.Bitrate bit) = IfThere IsBit bit
 IsItemWithin (item.Until moment) = IfThere (λ n. n ≤ day) moment
 IsItemWithin (item.Turns turns) = IfThere (λ t. (1 ≤ t) × (t ≤ 10000000)) turns
 IsItemWithin (item.Epoch epoch) = IfThere IsEpochWithin epoch
-IsItemWithin (item.Key key) = IfThere (λ (k : KeyItem). k.at ≤ day) key
+IsItemWithin (item.Key key) = IfThere IsKeyWithin key
 IsItemWithin _ = Unit {0}
 
 either : (b : Bool) (one other : Item) → IsItemWithin one → IsItemWithin other → IsItemWithin (if b then one else other)
@@ -222,9 +232,9 @@ epochs_in : (i : Item) → IsItemWithin i → All IsEpochWithin (epoch_in i)
 epochs_in (item.Epoch epoch) within = listed IsEpochWithin epoch within
 epochs_in _ within = All-nil IsEpochWithin
 
-keys_in : (i : Item) → IsItemWithin i → All (λ (k : KeyItem). k.at ≤ day) (key_in i)
-keys_in (item.Key key) within = listed (λ (k : KeyItem). k.at ≤ day) key within
-keys_in _ within = All-nil (λ (k : KeyItem). k.at ≤ day)
+keys_in : (i : Item) → IsItemWithin i → All IsKeyWithin (key_in i)
+keys_in (item.Key key) within = listed IsKeyWithin key within
+keys_in _ within = All-nil IsKeyWithin
 
 -- the numbers of a scenario are within their bounds, and its interface is one
 pub scenario_within : (text : List ℕ) (scenario : Scenario) → IsScenario text scenario → IsWithin scenario
@@ -245,7 +255,7 @@ scenario_within text scenario is =
       epoch = subst IsEpochWithin (sym is.said.epoch)
           (first_within IsEpochWithin (flat_map epoch_in items) (At 0) (all_of IsEpochWithin epoch_in epochs_in items within) (omega arith));
       interface = scenario_interface text scenario is;
-      keys = All-permutation (λ (k : KeyItem). k.at ≤ day) (flat_map key_in items) scenario.keys.items is.said.keys.same
-          (all_of (λ (k : KeyItem). k.at ≤ day) key_in keys_in items within);
+      keys = All-permutation IsKeyWithin (flat_map key_in items) scenario.keys.items is.said.keys.same
+          (all_of IsKeyWithin key_in keys_in items within);
       by_moment = IsNonDecreasingBy-from_sort (λ k. k.at) scenario.keys.items is.said.keys.by_moment;
     }

@@ -1,10 +1,9 @@
 -- The items of a scenario, line by line. The form of scenario files is this project's own.
-use Rattle.std.specs.Prelude.{ℕ, ◌-◌, Bool, true, false, not, List, [], ◌∷◌, ◌==◌, ◌||◌, if◌then◌else◌, codes, length, filter, slice_index}
+use Rattle.std.specs.Prelude.{ℕ, ◌-◌, Bool, true, not, List, [], ◌∷◌, ◌==◌, ◌||◌, if◌then◌else◌, codes, length, filter, slice_index}
 use Rattle.std.specs.List.{flat_map, slice_split}
 use Rattle.std.specs.Str.{bytes_eq}
 use Rattle.scenario.specs.declared.item.Item.{Item}
 use Rattle.scenario.specs.declared.item.Item.TheVariants as item
-use Rattle.scenario.specs.declared.scenario.NodeItem.{NodeItem}
 use Rattle.scenario.specs.Value.{bit_of, moment_of, turns_of, epoch_of, picks_of, key_of}
 
 -- whether the line is passed over: it is empty, or begins with `#`

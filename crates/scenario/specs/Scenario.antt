@@ -1,5 +1,5 @@
 -- What a scenario file says, and what is wrong with a text that is none. The form is this project's own.
-use Rattle.std.specs.Prelude.{◌≡◌, ◌<◌, ℕ, Bool, List, [], ◌∷◌, ◌==◌, codes, length, Option, Some, None, unwrap_or, filter}
+use Rattle.std.specs.Prelude.{◌≡◌, ◌<◌, ℕ, List, [], ◌∷◌, codes, length, Option, Some, None, unwrap_or}
 use Rattle.std.specs.Option.{option_to_list}
 use Rattle.std.specs.List.{flat_map}
 use Rattle.std.specs.List.Sorted.{IsPermutation, IsSortedByKey, IsStableByKey}
@@ -8,7 +8,7 @@ use Rattle.std.specs.Str.Lines.{lines}
 use Rattle.scenario.specs.declared.item.Item.{Item}
 use Rattle.scenario.specs.declared.item.Item.TheVariants as item
 use Rattle.scenario.specs.declared.scenario.Epoch.{Epoch}
-use Rattle.scenario.specs.declared.scenario.Epoch.TheVariants.{At, First}
+use Rattle.scenario.specs.declared.scenario.Epoch.TheVariants.{At}
 use Rattle.scenario.specs.declared.scenario.KeyItem.{KeyItem}
 use Rattle.scenario.specs.declared.scenario.Scenario.{Scenario}
 use Rattle.scenario.specs.declared.refusal.ScenarioRefusal.{ScenarioRefusal}

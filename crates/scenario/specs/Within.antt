@@ -4,6 +4,7 @@ use Rattle.std.specs.List.Sorted.{IsNonDecreasingBy}
 use Rattle.scenario.specs.Value.{is_interface}
 use Rattle.scenario.specs.declared.scenario.Epoch.{Epoch}
 use Rattle.scenario.specs.declared.scenario.Epoch.TheVariants.{At, First}
+use Rattle.scenario.specs.declared.scenario.KeyItem.{KeyItem}
 use Rattle.scenario.specs.declared.scenario.Scenario.{Scenario}
 
 -- a day in microseconds
@@ -15,6 +16,12 @@ abbrev pub IsEpochWithin : Epoch → Type 0
 IsEpochWithin (At seconds) = seconds ≤ 4294967295
 IsEpochWithin First = ⊤
 
+-- a key is a byte that can be printed, and is pressed within a day
+pub record IsKeyWithin (key : KeyItem) : Type 0 where
+  pub at : key.at ≤ day
+  pub least : 33 ≤ key.key
+  pub greatest : key.key ≤ 126
+
 -- The numbers of a scenario are within their bounds, its interface is one, and its keys stand by moment.
 pub record IsWithin (scenario : Scenario) : Type 0 where
   pub some_bit : 1 ≤ scenario.bit
@@ -24,5 +31,5 @@ pub record IsWithin (scenario : Scenario) : Type 0 where
   pub turns : scenario.turns ≤ 10000000
   pub epoch : IsEpochWithin scenario.epoch
   pub interface : is_interface scenario.interface ≡ true
-  pub keys : All (λ key. key.at ≤ day) scenario.keys.items
+  pub keys : All IsKeyWithin scenario.keys.items
   pub by_moment : IsNonDecreasingBy (λ key. key.at) scenario.keys.items

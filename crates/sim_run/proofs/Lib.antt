@@ -1,7 +1,6 @@
 -- The lemmas of this crate.
 pub mod CommandLemmas
 pub mod FileLemmas
-pub mod KeyLemmas
 pub mod LoadedLemmas
 pub mod LogLemmas
 pub mod ShownLemmas

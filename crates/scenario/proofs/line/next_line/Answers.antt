@@ -1,5 +1,5 @@
 -- The next line, by whether a line feed ends it.
-use Rattle.std.proofs.Common.{◌≡◌, ◌≢◌, ◌∷◌, ◌++◌, Bool, true, false, [], ap, subst, sym, ◌∙◌}
+use Rattle.std.proofs.Common.{◌≡◌, ◌≢◌, ◌∷◌, ◌++◌, Bool, [], ap, subst, sym, ◌∙◌}
 use Rattle.std.specs.Bool.{OnFalse}
 use Rattle.std.specs.Str.Lines.{lines}
 use Rattle.text_parts.specs.Line.{line_end}

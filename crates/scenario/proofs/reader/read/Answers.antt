@@ -1,9 +1,7 @@
 -- What each line does, and what the end of the text shows.
-use Rattle.std.proofs.Common.{◌≡◌, ◌≤◌, ◌+◌, true, None, Ok, length, refl, sym, ap, subst, ◌∙◌, arith, inl, inr}
-use Rattle.scenario.specs.Rule.{HasNoItem}
-use Rattle.std.specs.Str.Lines.{lines}
+use Rattle.std.proofs.Common.{◌≡◌, ◌+◌, None, Ok, refl, sym, ap, subst, ◌∙◌, arith, inl, inr}
 use Rattle.scenario.specs.Inside.Draft.{Said, with_line, rule_of_next}
-use Rattle.scenario.proofs.ReadLemmas.{Reached, IsRead, reached_more, reached_broken, reached_end, no_item, no_node, scenario_read, started_line}
+use Rattle.scenario.proofs.ReadLemmas.{Reached, IsRead, reached_more, reached_broken, reached_end, no_item, scenario_read, started_line}
 use Rattle.scenario.proofs.WithinLemmas.{scenario_within}
 use Rattle.scenario.proofs.reader.read.Goals as goal
 

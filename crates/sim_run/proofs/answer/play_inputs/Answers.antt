@@ -4,7 +4,6 @@ use Rattle.can_bus.specs.Bus.{BusState}
 use Rattle.sim_core.specs.Core.{CoreState}
 use Rattle.sim_play.specs.Play.{AreLabelsOf, AreNewRows}
 use Rattle.sim_play.specs.declared.labels.Labels.{Labels}
-use Rattle.sim_run.proofs.KeyLemmas.{keys_are_bytes}
 use Rattle.sim_run.proofs.LoadedLemmas.{all_loaded, as_many_nodes, frames_of, labels_fit, new_rows}
 use Rattle.sim_run.proofs.ShownLemmas.{RunsLaw, shown_in_part, shown_whole}
 use Rattle.sim_run.proofs.answer.play_inputs.Goals as goal
@@ -21,7 +20,7 @@ core_of-core-requires-clause-few g c =
     omega (arith, many, one_each, few)
 
 pub core_of-core-requires-clause-bytes : goal.core_of-core-requires-clause-bytes
-core_of-core-requires-clause-bytes g c = keys_are_bytes c.requires.taken.text c.args.inputs.scenario c.requires.taken.is
+core_of-core-requires-clause-bytes g c = λ k d below. let key = c.requires.within.keys k d below in let greatest = key.greatest in omega (arith, greatest)
 
 pub core_of-core-requires-clause-frames : goal.core_of-core-requires-clause-frames
 core_of-core-requires-clause-frames g c = frames_of c.args.inputs.replay c.requires.playable
