@@ -1,5 +1,6 @@
 -- The lemmas of this crate.
 pub mod ProgressLemmas
 pub mod LogLemmas
+pub mod TakenLemmas
 pub mod OneReplay
 pub mod RequestLemmas

@@ -1,4 +1,4 @@
--- How far the reading of a log has come.
+-- How far a log is read, and what its lines then read as.
 use Rattle.std.proofs.Common.{◌≡◌, ◌≢◌, ℕ, ◌+◌, ◌-◌, ◌<◌, ◌≤◌, ◌⊎◌, inl, inr, Bool, true, false, List, [], ◌∷◌, ◌++◌, length, get_or, refl, sym, ap, subst, ◌∙◌, arith, append_assoc, append-nil, length-append}
 use Rattle.std.specs.Prelude.{◌==◌}
 use Rattle.std.specs.Bool.{OnFalse}
@@ -8,12 +8,7 @@ use Rattle.text_parts.specs.Line.{lines_of, line_end}
 use Rattle.log_line.specs.Reading.{Reads}
 use Rattle.log_line.specs.declared.line.Line.{Line}
 use Rattle.log_line.specs.declared.line.Line.TheVariants.{Skip}
-use Rattle.replay_node.specs.Log.{is_ended, HasNoReading, AllRead, EndsUnread, IsBadLine}
-use Rattle.replay_node.specs.Replay.{IsReplayOf, IsReplay}
-use Rattle.replay_node.specs.Inside.Progress.{IsProgress}
-use Rattle.scenario.specs.declared.scenario.Epoch.{Epoch}
-use Rattle.replay_node.specs.declared.progress.Progress.{Progress}
-use Rattle.replay_node.specs.declared.replay.Replay.{Replay}
+use Rattle.replay_node.specs.Log.{is_ended, HasNoReading, AllRead, EndsUnread, IsBadLine, LogReads}
 
 -- one more line that reads
 all_read_more : (lines : List (List ℕ)) (readings : List Line) (line : List ℕ) (reading : Line) → AllRead lines readings → Reads line reading → AllRead (lines ++ line ∷ []) (readings ++ reading ∷ [])
@@ -75,44 +70,29 @@ only_test byte text true is again one = absurd (let e = rw is at one in cc)
 only_test byte text false is again one = only_by byte text is again (one_onto byte text (lines_of text) refl (rw is at one))
 
 -- a text that is its only line is not ended
-pub only_line : (text : List ℕ) → lines_of text ≡ text ∷ [] → is_ended text ≡ false
+only_line : (text : List ℕ) → lines_of text ≡ text ∷ [] → is_ended text ≡ false
 only_line [] one = cc
 only_line (byte ∷ text) one = only_test byte text (byte == 10) refl (only_line text) one
 
--- how far a log is read
-pub record HasRead (log rest interface : List ℕ) (bit : ℕ) (epoch : Epoch) (number : ℕ) (progress : Progress) : Type 0 where
+-- so much of a log is left, after lines that read so
+pub record HasRead (log rest : List ℕ) (number : ℕ) (readings : List Line) : Type 0 where
   pub front : List ℕ
   pub lines : List (List ℕ)
-  pub readings : List Line
   pub text : log ≡ front ++ rest
   pub split : lines_of log ≡ lines ++ lines_of rest
   pub read : AllRead lines readings
   pub count : number ≡ length lines
   pub room : number + length rest ≤ length log
-  pub skipped_room : progress.skipped ≤ number
-  pub progress_is : IsProgress interface bit epoch readings progress
 
 -- nothing is read yet
-pub read_nothing : (log interface : List ℕ) (bit : ℕ) (epoch : Epoch) (progress : Progress) → progress.skipped ≡ 0 → IsProgress interface bit epoch [] progress
-    → HasRead log log interface bit epoch 0 progress
-read_nothing log interface bit epoch progress none is = record {
-  front = [];
-  lines = [];
-  readings = [];
-  text = refl;
-  split = refl;
-  read = tt;
-  count = refl;
-  room = omega arith;
-  skipped_room = omega (arith, none);
-  progress_is = is;
-}
+pub read_nothing : (log : List ℕ) → HasRead log log 0 []
+read_nothing log = record { front = []; lines = []; text = refl; split = refl; read = tt; count = refl; room = omega arith }
 
 -- the first line of what is left
 pub record IsFirst (rest line : List ℕ) (ended : Bool) (after : List ℕ) : Type 0 where
   pub lines : lines_of rest ≡ line ∷ lines_of after
   pub whole : rest ≡ line ++ line_end ended ++ after
-  pub last : ended ≡ false → after ≡ []
+  pub last : OnFalse ended (after ≡ [])
   pub shorter : length after < length rest
 
 -- the lines of the log around it
@@ -120,33 +100,26 @@ lines_around : (log rest line after : List ℕ) (lines : List (List ℕ)) → li
 lines_around log rest line after lines split first = split ∙ ap (λ l. lines ++ l) first
 
 -- one more line that reads
-pub read_more : (log rest line after interface : List ℕ) (ended : Bool) (bit : ℕ) (epoch : Epoch) (number : ℕ) (old new : Progress) (reading : Line)
-    → (has : HasRead log rest interface bit epoch number old) → IsFirst rest line ended after → Reads line reading
-    → ((readings : List Line) → IsProgress interface bit epoch readings old → IsProgress interface bit epoch (readings ++ reading ∷ []) new) → new.skipped ≤ old.skipped + 1
-    → HasRead log after interface bit epoch (number + 1) new
-read_more log rest line after interface ended bit epoch number old new reading has first reads taken room =
+pub read_more : (log rest line after : List ℕ) (ended : Bool) (number : ℕ) (readings : List Line) (reading : Line) → HasRead log rest number readings
+    → IsFirst rest line ended after → Reads line reading → HasRead log after (number + 1) (readings ++ reading ∷ [])
+read_more log rest line after ended number readings reading has first reads =
     let short = first.shorter in
     let count_is = has.count in
-    let log_room = has.room in
-    let old_room = has.skipped_room in
+    let room = has.room in
     record {
       front = has.front ++ line ++ line_end ended;
       lines = has.lines ++ line ∷ [];
-      readings = has.readings ++ reading ∷ [];
       text = has.text ∙ ap (λ l. has.front ++ l) first.whole ∙ sym (append_assoc has.front (line ++ line_end ended) after)
           ∙ ap (λ l. l ++ after) (sym (append_assoc has.front line (line_end ended)));
       split = lines_around log rest line after has.lines has.split first.lines ∙ sym (append_assoc has.lines (line ∷ []) (lines_of after));
-      read = all_read_more has.lines has.readings line reading has.read reads;
+      read = all_read_more has.lines readings line reading has.read reads;
       count = let more = length-append has.lines (line ∷ []) in omega (arith, more, count_is);
-      room = omega (arith, short, log_room);
-      skipped_room = omega (arith, room, old_room);
-      progress_is = taken has.readings has.progress_is;
+      room = omega (arith, short, room);
     }
 
--- a line that has no reading and is ended
-pub bad_line : (log rest line after interface : List ℕ) (bit : ℕ) (epoch : Epoch) (number : ℕ) (old : Progress)
-    → (has : HasRead log rest interface bit epoch number old) → IsFirst rest line true after → HasNoReading line → IsBadLine log (number + 1)
-bad_line log rest line after interface bit epoch number old has first none =
+ended_bad : (log rest line after : List ℕ) (number : ℕ) (readings : List Line) → HasRead log rest number readings → IsFirst rest line true after
+    → HasNoReading line → IsBadLine log (number + 1)
+ended_bad log rest line after number readings has first none =
     let count_is = has.count in
     let short = first.shorter in
     record {
@@ -155,7 +128,7 @@ bad_line log rest line after interface bit epoch number old has first none =
       behind = lines_of after;
       are = lines_around log rest line after has.lines has.split first.lines;
       number_is = omega (arith, count_is);
-      read = (has.readings, has.read);
+      read = (readings, has.read);
       no_reading = none;
       is_no_end = λ no_lines.
           let no_more = no_text after no_lines in
@@ -163,34 +136,36 @@ bad_line log rest line after interface bit epoch number old has first none =
           ap is_ended has.text ∙ ended_behind has.front rest (omega (arith, short)) ∙ ap is_ended ends ∙ ended_by line;
     }
 
--- an unread end
-pub unread_end : (log rest line after interface : List ℕ) (bit : ℕ) (epoch : Epoch) (number : ℕ) (old new : Progress) (replay : Replay)
-    → (has : HasRead log rest interface bit epoch number old) → IsFirst rest line false after → HasNoReading line
-    → ((readings : List Line) → IsProgress interface bit epoch readings old → IsProgress interface bit epoch (readings ++ Skip ∷ []) new)
-    → ((readings : List Line) → IsProgress interface bit epoch readings new → IsReplayOf interface bit epoch readings replay) → IsReplay log interface bit epoch replay
-unread_end log rest line after interface bit epoch number old new replay has first none skipped made =
+-- a line without a reading is bad where a line feed ends it
+pub bad_line : (log rest line after : List ℕ) (ended : Bool) (number : ℕ) (readings : List Line) → HasRead log rest number readings
+    → IsFirst rest line ended after → ended ≡ true → HasNoReading line → IsBadLine log (number + 1)
+bad_line log rest line after true number readings has first is none = ended_bad log rest line after number readings has first none
+bad_line log rest line after false number readings has first is none = absurd (cc)
+
+no_end : (log rest line after : List ℕ) (number : ℕ) (readings : List Line) → HasRead log rest number readings → IsFirst rest line false after
+    → HasNoReading line → EndsUnread log readings
+no_end log rest line after number readings has first none =
     let short = first.shorter in
-    let no_more = first.last refl in
+    let no_more = first.last in
     let whole : rest ≡ line = first.whole ∙ ap (λ l. (line ++ []) ++ l) no_more ∙ append-nil (line ++ []) ∙ append-nil line in
     let one : lines_of rest ≡ rest ∷ [] = first.lines ∙ ap (λ l. line ∷ lines_of l) no_more ∙ ap (λ l. l ∷ []) (sym whole) in
-    let ends : EndsUnread log has.readings = record {
+    record {
       lines = has.lines;
       last = line;
       are = lines_around log rest line after has.lines has.split first.lines ∙ ap (λ l. has.lines ++ line ∷ lines_of l) no_more;
       read = has.read;
       no_reading = none;
       not_ended = ap is_ended has.text ∙ ended_behind has.front rest (omega (arith, short)) ∙ only_line rest one;
-    } in
-    (has.readings ++ Skip ∷ [], inr (has.readings, ends, refl), made (has.readings ++ Skip ∷ []) (skipped has.readings has.progress_is))
+    }
+
+-- and is passed over as the end of the log where none does
+pub unread_end : (log rest line after : List ℕ) (ended : Bool) (number : ℕ) (readings : List Line) → HasRead log rest number readings
+    → IsFirst rest line ended after → ended ≡ false → HasNoReading line → LogReads log (readings ++ Skip ∷ [])
+unread_end log rest line after true number readings has first is none = absurd (cc)
+unread_end log rest line after false number readings has first is none = inr (readings, no_end log rest line after number readings has first none, refl)
 
 -- all lines are read
-pub read_all : (log interface : List ℕ) (bit : ℕ) (epoch : Epoch) (number : ℕ) (progress : Progress) (replay : Replay) → (has : HasRead log [] interface bit epoch number progress)
-    → ((readings : List Line) → IsProgress interface bit epoch readings progress → IsReplayOf interface bit epoch readings replay) → IsReplay log interface bit epoch replay
-read_all log interface bit epoch number progress replay has made =
-    let same : lines_of log ≡ has.lines = has.split ∙ append-nil has.lines in
-    (has.readings, inl (subst (λ l. AllRead l has.readings) (sym same) has.read), made has.readings has.progress_is)
-
--- what holds where a test is false
-pub on_false : (test : Bool) (P : Type 0) → OnFalse test P → test ≡ false → P
-on_false true P is isnt = cc
-on_false false P is isnt = is
+pub read_all : (log rest : List ℕ) (number : ℕ) (readings : List Line) → HasRead log rest number readings → rest ≡ [] → LogReads log readings
+read_all log rest number readings has none =
+    let same : lines_of log ≡ has.lines = has.split ∙ ap (λ l. has.lines ++ lines_of l) none ∙ append-nil has.lines in
+    inl (subst (λ l. AllRead l readings) (sym same) has.read)
