@@ -1,21 +1,22 @@
 -- The next moment of a `HeapBus`, and what arbitration does to it.
-use Rattle.std.proofs.Common.{◌≡◌, ◌≢◌, ℕ, ◌+◌, true, false, cond, List, ◌∷◌, length, eqb, sym, ap, ◌∙◌, arith}
+use Rattle.std.proofs.Common.{◌≡◌, ◌≢◌, ℕ, ◌+◌, ◌*◌, true, false, cond, List, ◌∷◌, length, eqb, refl, sym, ap, ◌∙◌, arith}
 use Rattle.std.specs.Prelude.{Option, None, Some}
-use Rattle.std.specs.List.{All}
+use Rattle.std.specs.Option.{option_map_or}
 use Rattle.std.specs.FinMap as finmap
+use Rattle.std.specs.FinMap.{len}
 use Rattle.std.proofs.lemmas.Bool.Decides.{nat_tests}
-use Rattle.std.proofs.lemmas.List.Elements.{All-tail}
-use Rattle.std.proofs.lemmas.List.Sorted.{All-permutation, Contains-permutation, IsPermutation-sym}
+use Rattle.std.proofs.lemmas.List.Sorted.{Contains-permutation, IsPermutation-sym}
 use Rattle.can_bus.specs.declared.waiting.Waiting.{Waiting}
 use Rattle.can_bus.specs.declared.transmission.Transmission.{Transmission}
 use Rattle.can_bus.specs.Waiting.{name_of, requests_of, winner}
 use Rattle.can_bus.specs.Transmission.{time_on_wire, intermission}
-use Rattle.can_bus.specs.Bus.{BusState, moment_of, is_free, after_arbitration}
+use Rattle.can_bus.specs.Bus.{BusState, moment_of, is_free, winner_at, with_transmission}
 use Rattle.can_bus.proofs.Requests.{Contains-first}
-use Rattle.can_bus.proofs.Arbitration.{after_arbitration-winner}
+use Rattle.can_bus.proofs.Winner.{winner-nil}
+use Rattle.bus_heap.specs.Retransmission.{after_longer_arbitration}
 use Rattle.bus_heap.specs.Inside.Heap.{IsTakenFirst}
 use Rattle.bus_heap.specs.Inside.HeapBus.{AreNamesDistinct}
-use Rattle.bus_heap.proofs.SetLemmas.{distinct-permutation, distinct-tail, len-list, requests_of-less, winner-list}
+use Rattle.bus_heap.proofs.SetLemmas.{len-list, requests_of-less, winner-list}
 
 -- ---- the next moment
 -- nothing is due where the wire is empty and nothing waits
@@ -35,29 +36,39 @@ due-free wire rs free off distinct some =
     ∙ ap (λ b. cond b None (Some free)) apart
 
 -- ---- arbitration
--- the first request begins: the state behind, as the list and the code's times have it
-pub begins : (s : BusState) (rs after : List Waiting) (now : ℕ) (r : Waiting) (time idle : ℕ)
-    → s.waiting ≡ requests_of rs → AreNamesDistinct rs → IsTakenFirst rs after r
-    → is_free s now ≡ true → time ≡ time_on_wire r.frame s.bit → idle ≡ intermission s.bit
-    → ◌≡◌ {A = BusState}
-    (record s { waiting = requests_of after; wire = Some (record { request = r; end = now + time }); free = now + time + idle })
-    (after_arbitration s now)
-begins s rs after now r time idle set distinct taken ready lasts rests =
-    let gone : requests_of after ≡ finmap.remove s.waiting (name_of r) =
-    requests_of-less rs after r taken.others distinct ∙ ap (λ w. finmap.remove w (name_of r)) (sym set) in
-    let stood = Contains-permutation (r ∷ after) rs r (IsPermutation-sym rs (r ∷ after) taken.others) (Contains-first r after) in
-    (λ i. record s {
-      waiting = gone i;
-      wire = Some (record { request = r; end = now + lasts i });
-      free = now + lasts i + rests i;
-    })
-    ∙ sym (after_arbitration-winner s now r ready (ap winner set ∙ winner-list rs r distinct stood taken.first))
+-- where nothing waits, nothing begins
+pub winner_at-nothing : (s : BusState) (now : ℕ) → len s.waiting ≡ 0 → winner_at s now ≡ None
+winner_at-nothing s now none =
+    ap (λ o. cond (is_free s now) o None) (winner-nil s.waiting none)
+    ∙ elim (is_free s now) as (λ b. cond {A = Option Waiting} b None None ≡ None) [ true ↦ refl | false ↦ refl ]
 
--- ---- the fields
--- what holds of each request holds of those that are left
-pub All-left : (P : Waiting → Type 0) (rs after : List Waiting) (r : Waiting) → IsTakenFirst rs after r → All P rs → All P after
-All-left P rs after r taken h = All-tail P r after (All-permutation P rs (r ∷ after) taken.others h)
+-- nor where the bus is not free
+pub winner_at-busy : (s : BusState) (now : ℕ) → is_free s now ≡ false → winner_at s now ≡ None
+winner_at-busy s now busy = ap (λ b. cond b (winner s.waiting) None) busy
 
--- and those have distinct names
-pub distinct-left : (rs after : List Waiting) (r : Waiting) → IsTakenFirst rs after r → AreNamesDistinct rs → AreNamesDistinct after
-distinct-left rs after r taken h = distinct-tail r after (distinct-permutation rs (r ∷ after) taken.others h)
+-- where nothing begins, the bus stays as it is
+pub longer_arbitration-nothing : (s : BusState) (now bits : ℕ) → winner_at s now ≡ None → after_longer_arbitration s now bits ≡ s
+longer_arbitration-nothing s now bits none = ap (λ o. option_map_or (λ r. with_transmission s now (time_on_wire r.frame s.bit + bits * s.bit) r) o s) none
+
+-- the first of the heap wins
+module _ (s : BusState) (rs after : List Waiting) (now : ℕ) (r : Waiting) (set : s.waiting ≡ requests_of rs) (distinct : AreNamesDistinct rs)
+    (taken : IsTakenFirst rs after r) (ready : is_free s now ≡ true) where
+  pub winner_at-first : winner_at s now ≡ Some r
+  winner_at-first =
+      let stood = Contains-permutation (r ∷ after) rs r (IsPermutation-sym rs (r ∷ after) taken.others) (Contains-first r after) in
+      ap (λ b. cond b (winner s.waiting) None) ready ∙ ap winner set ∙ winner-list rs r distinct stood taken.first
+
+  -- and begins: the state behind, as the list and the code's times have it
+  pub begins : (bits time idle : ℕ) → time ≡ time_on_wire r.frame s.bit + bits * s.bit → idle ≡ intermission s.bit
+      → ◌≡◌ {A = BusState}
+      (record s { waiting = requests_of after; wire = Some (record { request = r; end = now + time }); free = now + time + idle })
+      (after_longer_arbitration s now bits)
+  begins bits time idle lasts rests =
+      let gone : requests_of after ≡ finmap.remove s.waiting (name_of r) =
+      requests_of-less rs after r taken.others distinct ∙ ap (λ w. finmap.remove w (name_of r)) (sym set) in
+      (λ i. record s {
+        waiting = gone i;
+        wire = Some (record { request = r; end = now + lasts i });
+        free = now + lasts i + rests i;
+      })
+      ∙ sym (ap (λ o. option_map_or (λ u. with_transmission s now (time_on_wire u.frame s.bit + bits * s.bit) u) o s) winner_at-first)

@@ -9,7 +9,7 @@ use Rattle.std.proofs.lemmas.Bool.Decides.{eqb_tells}
 use Rattle.can_bus.specs.declared.waiting.Waiting.{Waiting}
 use Rattle.can_bus.specs.Order.{goes_before}
 use Rattle.can_bus.proofs.Precedence.{goes_before-precedence, goes_before-self, precedence_total}
-use Rattle.bus_heap.specs.Inside.Heap.{IsBelow, Stays, IsHeapUpTo, IsHeap, IsHeapBehind, IsFirstBelow}
+use Rattle.bus_heap.specs.Inside.Heap.{IsBelow, Stays, IsHeapUpTo, IsHeap, IsHeapFrom, IsHeapBehind, IsFirstBelow}
 
 -- to go before is a test of an order in which any two requests compare
 pub goes_before-order : IsStrictWeakOrder goes_before
@@ -141,23 +141,25 @@ Rises-rests rs place above up stays h top below edge low =
     ]
 
 -- ---- a request that sinks
--- each request but those below the place is in order with the one above it, and those below the place
--- are with the one above it
-pub record Sinks (rs : List Waiting) (place : ℕ) : Type 0 where
+-- from the start on each request but those below the place is in order with the one above it, and those
+-- below the place are with the one above it
+pub record Sinks (rs : List Waiting) (start place : ℕ) : Type 0 where
   pub within : place ≤ length rs
-  pub edges : (above below : ℕ) → IsBelow above below → below < length rs → above ≢ place → Stays rs above below
-  pub over : (above below : ℕ) → IsBelow above place → IsBelow place below → below < length rs → Stays rs above below
+  pub behind : start ≤ place
+  pub edges : (above below : ℕ) → IsBelow above below → start ≤ above → below < length rs → above ≢ place → Stays rs above below
+  pub over : (above below : ℕ) → start ≤ above → IsBelow above place → IsBelow place below → below < length rs → Stays rs above below
 
--- the first request, before others that are in order
-pub Sinks-first : (rs : List Waiting) → IsHeapBehind 0 rs → Sinks rs 0
-Sinks-first rs h = record {
-  within = omega arith;
-  edges = λ above below edge low other. h above below edge (omega arith) low;
-  over = λ above below edge further low. absurd (omega arith);
+-- the request at the start, before others that are in order
+pub Sinks-first : (rs : List Waiting) (start : ℕ) → start ≤ length rs → IsHeapBehind start rs → Sinks rs start start
+Sinks-first rs start low h = record {
+  within = low;
+  behind = omega arith;
+  edges = λ above below edge from low other. h above below edge (omega arith) low;
+  over = λ above below from edge further low. absurd (omega arith);
 }
 
 -- one place down
-module _ (xs ys : List Waiting) (place first : ℕ) (is : ys ≡ swap xs place first) (h : Sinks xs place) (best : IsFirstBelow xs place first)
+module _ (xs ys : List Waiting) (start place first : ℕ) (is : ys ≡ swap xs place first) (h : Sinks xs start place) (best : IsFirstBelow xs place first)
     (before : (d : Waiting) → goes_before (get_or xs first d) (get_or xs place d) ≡ true) where
   first_low : first < length xs
   first_low = best.within
@@ -165,8 +167,8 @@ module _ (xs ys : List Waiting) (place first : ℕ) (is : ys ≡ swap xs place f
   place_low : place < length xs
   place_low = let edge = best.below in omega (arith, first_low)
 
-  edges_behind : (above below : ℕ) → IsBelow above below → below < length ys → above ≢ first → Stays ys above below
-  edges_behind above below edge inside other d =
+  edges_behind : (above below : ℕ) → IsBelow above below → start ≤ above → below < length ys → above ≢ first → Stays ys above below
+  edges_behind above below edge from inside other d =
       let long = as_long xs ys place first place_low first_low is in
       let down = best.below in
       elim (eqb_tells above place) [
@@ -186,42 +188,52 @@ module _ (xs ys : List Waiting) (place first : ℕ) (is : ys ≡ swap xs place f
               | inl e ↦
                   let f : below ≡ place = e.1 in
                   by_same _ _ _ _ (ap (λ k. get_or ys k d) e.1 ∙ at_first xs ys place first place_low first_low is d) kept
-                  (h.over above first (omega arith, omega arith) down first_low d)
+                  (h.over above first from (omega arith, omega arith) down first_low d)
               | inr further ↦
-                  by_same _ _ _ _ (at_other xs ys place first place_low first_low is below d further.1 (omega arith)) kept (h.edges above below edge (omega arith) u d)
+                  by_same _ _ _ _ (at_other xs ys place first place_low first_low is below d further.1 (omega arith)) kept (h.edges above below edge from (omega arith) u d)
             ]
       ]
 
-  over_behind : (above below : ℕ) → IsBelow above first → IsBelow first below → below < length ys → Stays ys above below
-  over_behind above below edge further inside d =
+  over_behind : (above below : ℕ) → start ≤ above → IsBelow above first → IsBelow first below → below < length ys → Stays ys above below
+  over_behind above below from edge further inside d =
       let long = as_long xs ys place first place_low first_low is in
       let down = best.below in
+      let behind = h.behind in
       let e : above ≡ place = omega arith in
       by_same _ _ _ _ (at_other xs ys place first place_low first_low is below d (omega arith) (omega arith))
       (ap (λ k. get_or ys k d) e ∙ at_first xs ys place first place_low first_low is d)
-      (h.edges first below further (omega arith) (omega arith) d)
+      (h.edges first below further (omega arith) (omega arith) (omega arith) d)
 
-  pub Sinks-down : Sinks ys first
+  pub Sinks-down : Sinks ys start first
   Sinks-down = record {
     within = let long = as_long xs ys place first place_low first_low is in omega (arith, first_low);
+    behind = let down = best.below in let behind = h.behind in omega arith;
     edges = edges_behind;
     over = over_behind;
   }
 
 -- where no request is below it, it has sunk
-pub Sinks-end : (rs : List Waiting) (place : ℕ) → length rs ≤ 2 * place + 1 → Sinks rs place → IsHeap rs
-Sinks-end rs place past h above below edge low = h.edges above below edge low (omega arith)
+pub Sinks-end : (rs : List Waiting) (start place : ℕ) → length rs ≤ 2 * place + 1 → Sinks rs start place → IsHeapFrom start rs
+Sinks-end rs start place past h above below edge from low = h.edges above below edge from low (omega arith)
 
 -- and where none goes before it
-pub Sinks-rests : (rs : List Waiting) (place first : ℕ) → IsFirstBelow rs place first → Stays rs place first → Sinks rs place → IsHeap rs
-Sinks-rests rs place first best stays h above below edge low =
+pub Sinks-rests : (rs : List Waiting) (start place first : ℕ) → IsFirstBelow rs place first → Stays rs place first → Sinks rs start place → IsHeapFrom start rs
+Sinks-rests rs start place first best stays h above below edge from low =
     elim (eqb_tells above place) [
       | inl e ↦ λ d.
           let f : above ≡ place = e.1 in
           by_same _ _ _ _ (λ _. get_or rs below d) (ap (λ k. get_or rs k d) e.1)
           (goes_before-order.chain _ _ _ (best.goes_first below (omega arith, omega arith) low d) (stays d))
-      | inr other ↦ h.edges above below edge low other.1
+      | inr other ↦ h.edges above below edge from low other.1
     ]
+
+-- what is a heap from the first place on is one
+pub IsHeap-from_first : (rs : List Waiting) → IsHeapFrom 0 rs → IsHeap rs
+IsHeap-from_first rs h above below edge low = h above below edge (omega arith) low
+
+-- from the middle on nothing is below
+pub IsHeapFrom-middle : (rs : List Waiting) → IsHeapFrom (length rs / 2) rs
+IsHeapFrom-middle rs above below edge from low = absurd (omega arith)
 
 -- ---- the first of the two below
 -- the second of them, where it goes before the first

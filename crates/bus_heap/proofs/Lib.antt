@@ -3,3 +3,5 @@ pub mod HeapLemmas
 pub mod SetLemmas
 pub mod ArbitrationLemmas
 pub mod RequestLemmas
+pub mod OnBus
+pub mod Dropped

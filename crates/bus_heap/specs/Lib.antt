@@ -1,3 +1,4 @@
 -- The definitions of this crate.
 pub mod Heap
+pub mod Retransmission
 pub mod Inside

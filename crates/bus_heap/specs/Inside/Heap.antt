@@ -1,5 +1,5 @@
 -- Lists of requests that are heaps, or lack little of it.
-use Rattle.std.specs.Prelude.{◌≡◌, ℕ, ◌+◌, ◌*◌, ◌<◌, ◌≤◌, ◌∷◌, false, List, length}
+use Rattle.std.specs.Prelude.{◌≡◌, ℕ, ◌+◌, ◌*◌, ◌<◌, ◌≤◌, ◌==◌, ◌∷◌, Bool, false, not, List, length}
 use Rattle.std.specs.List.{All, slice_index_or}
 use Rattle.std.specs.List.Sorted.{IsPermutation}
 use Rattle.can_bus.specs.declared.waiting.Waiting.{Waiting}
@@ -22,10 +22,14 @@ IsHeapUpTo count rs = (above below : ℕ) → IsBelow above below → below < co
 abbrev pub IsHeap : List Waiting → Type 0
 IsHeap rs = IsHeapUpTo (length rs) rs
 
--- no request but those below the place goes before the one above it
+-- no request goes before the one above it, where that stands at the place or behind it
+abbrev pub IsHeapFrom : ℕ → List Waiting → Type 0
+IsHeapFrom place rs =
+    (above below : ℕ) → IsBelow above below → place ≤ above → below < length rs → Stays rs above below
+
+-- no request goes before the one above it, where that stands behind the place
 abbrev pub IsHeapBehind : ℕ → List Waiting → Type 0
-IsHeapBehind place rs =
-    (above below : ℕ) → IsBelow above below → place < above → below < length rs → Stays rs above below
+IsHeapBehind place rs = IsHeapFrom (place + 1) rs
 
 -- the place is one below, and no request below goes before the one there
 pub record IsFirstBelow (rs : List Waiting) (above first : ℕ) : Type 0 where
@@ -38,3 +42,7 @@ pub record IsTakenFirst (old new : List Waiting) (r : Waiting) : Type 0 where
   pub first : All (λ other. goes_before other r ≡ false) old
   pub others : IsPermutation old (r ∷ new)
   pub heap : IsHeap new
+
+-- whether the request is of another node
+abbrev pub is_of_other : ℕ → Waiting → Bool
+is_of_other node r = not (r.node == node)

@@ -12,7 +12,7 @@ returns-then-not-goes_before-clause-order c =
     let first = c.in-Some.ensures.some in
     let edge = first.below in
     let inside = first.within in
-    Sinks-rests rs place below first
+    Sinks-rests rs c.args.start place below first
     (read_test rs below place c.index-heap-below.result c.index-heap-place.result _ inside (omega arith) c.index-heap-below.is c.index-heap-place.is (sym c.goes_before.ensures ∙ c.if-not-goes_before.true))
     c.loop-below.invariant.sinks
 
@@ -27,6 +27,6 @@ loop-below-preserved c =
     record {
       long = omega arith;
       same = IsPermutation-trans c.args.heap.now rs c.swap.new.self c.loop-below.invariant.same c.swap.ensures.permutation;
-      sinks = Sinks-down rs c.swap.new.self place below c.swap.ensures.after c.loop-below.invariant.sinks first
+      sinks = Sinks-down rs c.swap.new.self c.args.start place below c.swap.ensures.after c.loop-below.invariant.sinks first
           (read_test rs below place c.index-heap-below.result c.index-heap-place.result _ inside (omega arith) c.index-heap-below.is c.index-heap-place.is (sym c.goes_before.ensures ∙ c.if-not-goes_before.false));
     }

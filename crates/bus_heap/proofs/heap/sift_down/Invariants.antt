@@ -8,7 +8,7 @@ abbrev pub invariant-loop-below : goal.invariant-loop-below
 invariant-loop-below l = record {
   long : length l.heap ≡ length l.initial.heap;
   same : IsPermutation l.initial.heap l.heap;
-  sinks : Sinks l.heap l.place;
+  sinks : Sinks l.heap l.fn.start l.place;
 }
 
 abbrev pub decreases-loop-below : goal.decreases-loop-below

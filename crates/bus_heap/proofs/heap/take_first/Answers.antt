@@ -6,11 +6,11 @@ use Rattle.std.proofs.lemmas.List.{with_items_is}
 use Rattle.std.proofs.lemmas.List.Sorted.{IsPermutation-trans, IsPermutation-cons, IsPermutation-swap_remove}
 use Rattle.can_bus.specs.declared.waiting.Waiting.{Waiting}
 use Rattle.bus_heap.specs.Inside.Heap.{IsTakenFirst}
-use Rattle.bus_heap.proofs.HeapLemmas.{none_before_first}
+use Rattle.bus_heap.proofs.HeapLemmas.{none_before_first, IsHeap-from_first}
 use Rattle.bus_heap.proofs.heap.take_first.Goals as goal
 
-pub returns : goal.returns
-returns c =
+pub returns-clause-taken : goal.returns-clause-taken
+returns-clause-taken c =
     let rs = c.args.heap.now.items in
     let r = c.swap_remove-first.result in
     let left = c.swap_remove-first.new.self in
@@ -23,5 +23,5 @@ returns c =
     subst (λ (ls : List Waiting). IsTakenFirst rs ls r) (sym e) (record {
       first = none_before_first rs r c.requires.heap c.swap_remove-first.ensures.value;
       others = IsPermutation-trans rs (r ∷ left.items) (r ∷ sunk) moved (IsPermutation-cons r left.items sunk sunk_moves);
-      heap = c.sift_down.ensures.order;
+      heap = IsHeap-from_first sunk c.sift_down.ensures.order;
     })

@@ -9,13 +9,14 @@ use Rattle.can_bus.proofs.Precedence.{goes_before-decides, one_goes_first}
 use Rattle.bus_heap.specs.Heap.{IsInHeapOrder}
 use Rattle.bus_heap.specs.Inside.Heap.{IsHeap}
 use Rattle.bus_heap.specs.Inside.HeapBus.{AreNamesDistinct}
+use Rattle.bus_heap.proofs.OnBus.{distinct-waiting}
 use Rattle.bus_heap.proofs.SetLemmas.{members-permutation, distinct-places}
 use Rattle.bus_heap.proofs.heap_bus.HeapBus.waiting.Goals as goal
 
 pub returns-clause-members : goal.returns-clause-members
 returns-clause-members c =
     let rs = c.self.inside.waiting.items in
-    let moved = IsPermutation-sym rs (members (requests_of rs)) (members-permutation rs c.self.invariant.distinct) in
+    let moved = IsPermutation-sym rs (members (requests_of rs)) (members-permutation rs (distinct-waiting c.self.inside.wire rs c.self.invariant.distinct)) in
     subst (λ (s : BusState). IsPermutation (members s.waiting) c.deref.result.now) c.self.view_is
     (subst (IsPermutation (members (requests_of rs))) (sym c.deref.ensures.value) moved)
 
@@ -29,4 +30,5 @@ in_order rs h distinct place d behind low =
 
 pub returns-clause-order : goal.returns-clause-order
 returns-clause-order c =
-    subst IsInHeapOrder (sym c.deref.ensures.value) (in_order c.self.inside.waiting.items c.self.invariant.heap c.self.invariant.distinct)
+    subst IsInHeapOrder (sym c.deref.ensures.value) (in_order c.self.inside.waiting.items c.self.invariant.heap
+    (distinct-waiting c.self.inside.wire c.self.inside.waiting.items c.self.invariant.distinct))
