@@ -1,9 +1,10 @@
 -- A sound bus stays sound: no call changes the time of a bit, and a node is turned off only where its frames
 -- are dropped. No call changes the number of nodes.
-use Rattle.std.proofs.Common.{◌≡◌, ◌≢◌, ℕ, ◌≤◌, List, Bool, true, false, not, cond, eqb, length, refl, sym, ap, ◌∙◌, inl, inr}
+use Rattle.std.proofs.Common.{◌≡◌, ◌≢◌, ℕ, ◌≤◌, Bool, true, false, not, cond, eqb, length, refl, sym, ap, ◌∙◌, inl, inr}
 use Rattle.std.specs.Prelude.{Option, None, Some}
 use Rattle.std.specs.Option.{option_map_or}
-use Rattle.std.specs.Ordering.{eq_by_cmp}
+use Rattle.std.specs.Ordering.{nat_cmp, eq_by_cmp}
+use Rattle.std.specs.FinSet.{FinSet}
 use Rattle.std.specs.FinMap.{get, get-empty, insert, retain_keys, get-insert, get-remove, get-retain_keys}
 use Rattle.std.proofs.lemmas.Bool.Decides.{eqb_tells}
 use Rattle.std.proofs.lemmas.List.{length-set}
@@ -21,7 +22,7 @@ use Rattle.channel_errors.proofs.Counts.{off_before_sent, is_off_other, off_on_a
 use Rattle.channel_errors.proofs.Waits.{other_name, none-after_request, node_on_wire-after_request}
 
 -- a bus on which nothing was requested is sound, where bits take time
-pub new_bus_is_sound : (bit nodes : ℕ) (planned : List ℕ) → 1 ≤ bit → IsSoundErrors (new_bus bit planned nodes)
+pub new_bus_is_sound : (bit nodes : ℕ) (planned : FinSet nat_cmp) → 1 ≤ bit → IsSoundErrors (new_bus bit planned nodes)
 new_bus_is_sound bit nodes planned timed = record {
   takes_time = timed;
   none_waits = λ node number off. get-empty {X = FrameFields} name_cmp (node, number);

@@ -2,7 +2,8 @@
 -- retransmission and bus-off are those of a transmitter in ISO 11898-1 (fault confinement). That a
 -- disturbance is seen at the frame's end, and an error frame of 14 bits, are this project's own.
 use Rattle.std.specs.Prelude.{◌≡◌, ℕ, ◌+◌, ◌-◌, ◌*◌, ◌==◌, nat_lt, Bool, true, false, not, if◌then◌else◌, List, length, replicate, slice_index, slice_set, Option, None, Some, IfSome}
-use Rattle.std.specs.List.{list_any}
+use Rattle.std.specs.Ordering.{nat_cmp}
+use Rattle.std.specs.FinSet.{FinSet, contains}
 use Rattle.std.specs.Option.{option_map_or}
 use Rattle.std.specs.FinMap.{get, insert, retain_keys}
 use Rattle.can_frame.specs.Frame.{FrameFields}
@@ -15,18 +16,18 @@ use Rattle.can_bus.specs.Waiting.{Requests, name_of}
 use Rattle.can_bus.specs.Bus.{BusState, BitTakesTime}
 use Rattle.can_bus.specs.Bus as channel
 
--- the plain bus, which is the one without errors; the numbers of the transmissions that are disturbed,
--- counted from 1 over the whole run; how many transmissions have begun, retransmissions too; and for each
+-- the plain bus, which is the one without errors; the set of the numbers of the transmissions that are
+-- disturbed, counted from 1 over the whole run; how many transmissions have begun, retransmissions too; and for each
 -- node its count. A node is off where its count is above 255. It never transmits again, so its count stays
 -- above, and no mark besides is needed
 pub record ErrorState : Type 0 where
   pub plain : BusState
-  pub planned : List ℕ
+  pub planned : FinSet nat_cmp
   pub begun : ℕ
   pub counts : List ℕ
 
 -- a bus of so many nodes on which nothing was requested, whose bits take so long
-abbrev pub new_bus : ℕ → List ℕ → ℕ → ErrorState
+abbrev pub new_bus : ℕ → FinSet nat_cmp → ℕ → ErrorState
 new_bus bit planned nodes = record {
   plain = channel.new_bus bit;
   planned = planned;
@@ -72,8 +73,8 @@ after_request s node frame =
 -- ---- the wire
 
 -- whether the transmission of this number is disturbed
-abbrev pub is_planned : List ℕ → ℕ → Bool
-is_planned planned number = list_any (λ k. k == number) planned
+abbrev pub is_planned : FinSet nat_cmp → ℕ → Bool
+is_planned planned number = contains planned number
 
 -- whether the transmission that began last is disturbed, which is the one on the wire if there is one
 abbrev pub is_disturbed : ErrorState → Bool

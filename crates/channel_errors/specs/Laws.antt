@@ -1,5 +1,6 @@
 -- What holds of a bus with planned errors beside what every bus keeps.
-use Rattle.std.specs.Prelude.{◌≡◌, ℕ, ◌+◌, true, false, ◌⊎◌, ◌↔◌, if◌then◌else◌, [], replicate, None, Some, is_some}
+use Rattle.std.specs.Prelude.{◌≡◌, ℕ, ◌+◌, true, false, ◌⊎◌, ◌↔◌, if◌then◌else◌, replicate, None, Some, is_some}
+use Rattle.std.specs.FinSet.{empty}
 use Rattle.can_frame.specs.Frame.{FrameFields}
 use Rattle.can_bus.specs.declared.transmission.Transmission.{Transmission}
 use Rattle.can_bus.specs.Waiting.{Waits}
@@ -33,7 +34,7 @@ pub record OffStays (s : ErrorState) (node : ℕ) : Type 0 where
 
 -- this bus with no planned number, after so many transmissions, whose nodes' counts are 0
 abbrev pub unplanned : BusState → ℕ → ℕ → ErrorState
-unplanned s begun nodes = record { plain = s; planned = []; begun = begun; counts = replicate nodes 0 }
+unplanned s begun nodes = record { plain = s; planned = empty; begun = begun; counts = replicate nodes 0 }
 
 -- each call of such a bus gives what the plain bus gives, and makes of it what it makes of that bus, with
 -- one more transmission where one begins

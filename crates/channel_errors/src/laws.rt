@@ -1,6 +1,8 @@
 //! Laws of the bus with planned errors. Each call does nothing: its contract is the law.
 
-ghost use Rattle.std.specs.Prelude.{◌≡◌, ℕ, ◌≤◌, true, List, []};
+ghost use Rattle.std.specs.Prelude.{◌≡◌, ℕ, ◌≤◌, true};
+ghost use Rattle.std.specs.Ordering.{nat_cmp};
+ghost use Rattle.std.specs.FinSet.{FinSet, empty};
 ghost use Rattle.can_bus.specs.Bus.{BusState};
 ghost use Rattle.can_bus.specs.Bus as channel;
 ghost use Rattle.can_bus.specs.Laws.{FramesCome};
@@ -10,7 +12,7 @@ ghost use Rattle.channel_errors.specs.Laws.{GivesNothing, WaitsAgain, OffStays, 
 /// A bus on which nothing was requested is sound, where bits take time.
 #[tactic(auto, using(crate::proofs::SoundStays::new_bus_is_sound))]
 pub fn new_bus_is_sound()
-    ensures { (bit nodes : ℕ) (planned : List ℕ) → 1 ≤ bit → IsSoundErrors (new_bus bit planned nodes) }
+    ensures { (bit nodes : ℕ) (planned : FinSet nat_cmp) → 1 ≤ bit → IsSoundErrors (new_bus bit planned nodes) }
 {}
 
 /// Frames come to the bus by requests alone, and what ends was on it: a disturbed frame that waits again
@@ -41,6 +43,6 @@ pub fn node_that_is_off_stays_off()
 /// A bus with no planned number is the plain bus, call by call: from the beginning it is that bus beside
 /// counts of 0, it gives what that bus gives, and stays so.
 pub fn without_plan_plain()
-    ensures beginning { (bit nodes : ℕ) → new_bus bit [] nodes ≡ unplanned (channel.new_bus bit) 0 nodes }
+    ensures beginning { (bit nodes : ℕ) → new_bus bit empty nodes ≡ unplanned (channel.new_bus bit) 0 nodes }
     ensures calls { (s : BusState) (begun nodes : ℕ) → ActsAsPlain s begun nodes }
 {}
