@@ -118,9 +118,10 @@ module _ (code : Code) (verified : IsVerified code) (m : Machine) (s : Stands co
   climbed_after closed moment after e =
       let rule = rule_here code verified m s in
       along after (subst (Steps code s.function s.depth m) (sym (step_is_row code closed moment m rule.instr rule.is_instr) ∙ e)
-      (Steps-row code s.function s.depth m closed moment rule.instr m.stack rule.keeps.takes_what_is_there rule.keeps.targets_agree))
+      (Steps-row code s.function s.depth m closed moment rule.instr m.stack rule.is_instr rule.keeps.takes_what_is_there rule.keeps.targets_agree))
 
-continues : {P : Type 0} (next : Next) (further : Machine → Next) (reached : Machine) → continuing next further ≡ Goes reached →
+-- what follows from a step that went on, and then from the rest
+pub continues : {P : Type 0} (next : Next) (further : Machine → Next) (reached : Machine) → continuing next further ≡ Goes reached →
     ((after : Machine) → next ≡ Goes after → further after ≡ Goes reached → P) → P
 continues (Goes after) further reached e f = f after refl e
 continues (Ends outcome after) further reached e f = absurd (cc)

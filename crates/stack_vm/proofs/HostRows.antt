@@ -15,7 +15,7 @@ use Rattle.message_cells.specs.Message.{frame_of, message_at}
 use Rattle.run_effects.specs.Duration.{micros}
 use Rattle.bytecode.specs.Step.{after_effect, after_set, goes_on, needing, row, unless, writes}
 use Rattle.stack_vm.specs.Inside.State.{RunState, machine}
-use Rattle.stack_vm.specs.Inside.Step.{DoesOn, RefusesOn}
+use Rattle.stack_vm.specs.Inside.Step.{DoesOn, GivesLineOrFrame, RefusesOn}
 use Rattle.stack_vm.specs.Runs.{IsRefusal, MayBeRefused}
 use Rattle.stack_vm.proofs.MessageRows.{cells_at}
 use Rattle.stack_vm.proofs.StepLemmas.{one_taken, same_room}
@@ -72,16 +72,18 @@ on_err (Err e) p = p
 
 -- a closed host refuses no such effect, so that an open one refused the effect of the row
 pub refuses_when_open : {S : Type 0} (host : HostMeaning S) (code : Code) (instr : Instr) (before : RunState) (stands : S) (there : RunState) (stands_after : S) (effect : Effect) →
+    GivesLineOrFrame instr →
     ((closed : Bool) (effects : List Effect) → row code closed (host.moment stands) (machine before (host.active_timers stands) effects) instr before.stack
     ≡ Goes (machine there (host.active_timers stands) (if closed then effects else effects ++ effect ∷ []))) →
     (IsTrue (host.is_closed stands) → ⊥) → MayBeRefused effect → IsRefusal host stands effect stands_after → RefusesOn host code instr before stands stands_after
-refuses_when_open host code instr before stands there stands_after effect leads is_open may refusal = either (host.is_closed stands) refl
+refuses_when_open host code instr before stands there stands_after effect gives leads is_open may refusal = either (host.is_closed stands) refl
   where
     either : (closed : Bool) → closed ≡ host.is_closed stands → RefusesOn host code instr before stands stands_after
     either true c = absurd (is_open (sym c))
     either false c = record {
       effect = effect;
       next = there;
+      gives = gives;
       leads = λ effects. (λ i. row code (sym c i) (host.moment stands) (machine before (host.active_timers stands) effects) instr before.stack) ∙ leads false effects;
       may_be = may;
       refusal = refusal;

@@ -13,5 +13,6 @@ pub mod HostRows
 pub mod RowMoves
 pub mod DepthLemmas
 pub mod RoomLemmas
+pub mod QuietRuns
 pub mod RunSteps
 pub mod HandlerRuns

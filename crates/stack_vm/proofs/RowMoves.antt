@@ -29,10 +29,11 @@ pub record Moves (code : Code) (function : Fun) (depth : ℕ) (before after : Ma
   pub place : after.place ≡ target.place
   pub calls : after.calls ≡ before.calls
 
--- the machine enters a function, which is to return to the next place
+-- the machine enters a function that its instruction calls, and which is to return to the next place
 pub record Enters (code : Code) (function : Fun) (depth : ℕ) (before after : Machine) : Type 0 where
   pub entered : ℕ
   pub callee : Fun
+  pub is_call : slice_get code.instrs before.place ≡ Some (Call entered)
   pub is_function : slice_get code.functions entered ≡ Some callee
   pub place : after.place ≡ callee.start
   pub calls : after.calls ≡ (before.place + 1) ∷ before.calls
@@ -129,12 +130,13 @@ module _ (code : Code) (function : Fun) (depth : ℕ) (m : Machine) where
     affected true change stack p c reached rises = on reached rises refl refl
     affected false change stack p c reached rises = on reached rises (ap (λ (n : ℕ). n + 1) p) c
 
-    called : (f : ℕ) (o : Option Fun) → slice_get code.functions f ≡ o → IsReached code function (record { place = m.place + 1; depth = d }) → d ≤ depth + 1 →
+    called : (f : ℕ) (o : Option Fun) → slice_get code.functions f ≡ o → slice_get code.instrs m.place ≡ Some (Call f) → IsReached code function (record { place = m.place + 1; depth = d }) → d ≤ depth + 1 →
         Steps code function depth m (needing o (λ callee. taking_turn m.turns m (λ after. Goes (record after { place = callee.start; calls = (m.place + 1) ∷ m.calls }))))
-    called f None e reached rises = tt
-    called f (Some callee) e reached rises = turned m.turns _ (λ left. enters (record {
+    called f None e is reached rises = tt
+    called f (Some callee) e is reached rises = turned m.turns _ (λ left. enters (record {
       entered = f;
       callee = callee;
+      is_call = is;
       is_function = e;
       place = refl;
       calls = refl;
@@ -148,54 +150,54 @@ module _ (code : Code) (function : Fun) (depth : ℕ) (m : Machine) where
   returned (place ∷ calls) e = leaves e
 
   -- each row goes on in one of these ways
-  pub Steps-row : (closed : Bool) (moment : ℕ) (instr : Instr) (stack : List ℤ) → (shape_of code instr).taken ≤ depth →
+  pub Steps-row : (closed : Bool) (moment : ℕ) (instr : Instr) (stack : List ℤ) → slice_get code.instrs m.place ≡ Some instr → (shape_of code instr).taken ≤ depth →
       AllByRecursion (IsReached code function) (targets (shape_of code instr) m.place depth) → Steps code function depth m (row code closed moment m instr stack)
-  Steps-row closed moment (Push n) stack taken reached = on reached.0 (omega arith) refl refl
-  Steps-row closed moment (Load cell) stack taken reached =
+  Steps-row closed moment (Push n) stack is taken reached = on reached.0 (omega arith) refl refl
+  Steps-row closed moment (Load cell) stack is taken reached =
       needed (slice_get m.cells cell) _ (λ n. on reached.0 (omega arith) refl refl)
-  Steps-row closed moment (Store cell) stack taken reached = one stack _ (λ n below. stored code.cells cell n below reached.0 (omega arith))
-  Steps-row closed moment (Check len) stack taken reached =
+  Steps-row closed moment (Store cell) stack is taken reached = one stack _ (λ n below. stored code.cells cell n below reached.0 (omega arith))
+  Steps-row closed moment (Check len) stack is taken reached =
       one stack _ (λ i below. indexed i len _ (λ k. on reached.0 (omega arith) refl refl))
-  Steps-row closed moment (Elem base len) stack taken reached =
+  Steps-row closed moment (Elem base len) stack is taken reached =
       one stack _ (λ i below. indexed i len _ (λ k. needed (slice_get m.cells (base + k)) _ (λ n. on reached.0 (omega arith) refl refl)))
-  Steps-row closed moment (SetElem base len) stack taken reached =
+  Steps-row closed moment (SetElem base len) stack is taken reached =
       two stack _ (λ i n below. indexed i len _ (λ k. stored code.cells (base + k) n below reached.0 (omega arith)))
-  Steps-row closed moment (Bytes k at) stack taken reached =
+  Steps-row closed moment (Bytes k at) stack is taken reached =
       one stack _ (λ i below. needed (message_at at m.cells) _ (λ message. indexed i (9 - size k) _ (λ byte. on reached.0 (omega arith) refl refl)))
-  Steps-row closed moment (SetBytes k at) stack taken reached =
+  Steps-row closed moment (SetBytes k at) stack is taken reached =
       two stack _ (λ i n below. needed (message_at at m.cells) _ (λ message. indexed i (9 - size k) _ (λ byte. on reached.0 (omega arith) refl refl)))
-  Steps-row closed moment (Sig l at) stack taken reached = needed (message_at at m.cells) _ (λ message. on reached.0 (omega arith) refl refl)
-  Steps-row closed moment (SetSig l at) stack taken reached =
+  Steps-row closed moment (Sig l at) stack is taken reached = needed (message_at at m.cells) _ (λ message. on reached.0 (omega arith) refl refl)
+  Steps-row closed moment (SetSig l at) stack is taken reached =
       one stack _ (λ n below. needed (message_at at m.cells) _ (λ message. on reached.0 (omega arith) refl refl))
-  Steps-row closed moment (SetField f at) stack taken reached =
+  Steps-row closed moment (SetField f at) stack is taken reached =
       one stack _ (λ n below. needed (message_at at m.cells) _ (λ message. needed (slice_get write_rules f) _ (λ rule. on reached.0 (omega arith) refl refl)))
-  Steps-row closed moment (Bin op k) stack taken reached = two stack _ (λ a b below. operated op k a b below reached.0 (omega arith))
-  Steps-row closed moment (Neg k) stack taken reached = one stack _ (λ n below. on reached.0 (omega arith) refl refl)
-  Steps-row closed moment (Inv k) stack taken reached = one stack _ (λ n below. on reached.0 (omega arith) refl refl)
-  Steps-row closed moment (Conv k) stack taken reached = one stack _ (λ n below. on reached.0 (omega arith) refl refl)
-  Steps-row closed moment Not stack taken reached = one stack _ (λ n below. on reached.0 (omega arith) refl refl)
-  Steps-row closed moment Dup stack taken reached = let some : 1 ≤ depth = taken in one stack _ (λ n below. on reached.0 (omega arith) refl refl)
-  Steps-row closed moment Drop stack taken reached = one stack _ (λ n below. on reached.0 (omega arith) refl refl)
-  Steps-row closed moment (Jump target) stack taken reached =
+  Steps-row closed moment (Bin op k) stack is taken reached = two stack _ (λ a b below. operated op k a b below reached.0 (omega arith))
+  Steps-row closed moment (Neg k) stack is taken reached = one stack _ (λ n below. on reached.0 (omega arith) refl refl)
+  Steps-row closed moment (Inv k) stack is taken reached = one stack _ (λ n below. on reached.0 (omega arith) refl refl)
+  Steps-row closed moment (Conv k) stack is taken reached = one stack _ (λ n below. on reached.0 (omega arith) refl refl)
+  Steps-row closed moment Not stack is taken reached = one stack _ (λ n below. on reached.0 (omega arith) refl refl)
+  Steps-row closed moment Dup stack is taken reached = let some : 1 ≤ depth = taken in one stack _ (λ n below. on reached.0 (omega arith) refl refl)
+  Steps-row closed moment Drop stack is taken reached = one stack _ (λ n below. on reached.0 (omega arith) refl refl)
+  Steps-row closed moment (Jump target) stack is taken reached =
       to target reached.0 (omega arith) refl refl
-  Steps-row closed moment (Zero target) stack taken reached =
+  Steps-row closed moment (Zero target) stack is taken reached =
       one stack _ (λ n below. either (int_eq n (pos 0)) _ _ (to target reached.0 (omega arith) refl refl) (on reached.1.0 (omega arith) refl refl))
-  Steps-row closed moment (Case label target) stack taken reached =
+  Steps-row closed moment (Case label target) stack is taken reached =
       one stack _ (λ n below. either (int_eq n label) _ _ (to target reached.0 (omega arith) refl refl) (on reached.1.0 (omega arith) refl refl))
-  Steps-row closed moment (Back target) stack taken reached =
+  Steps-row closed moment (Back target) stack is taken reached =
       one stack _ (λ n below. either (int_eq n (pos 0)) _ _ (on reached.1.0 (omega arith) refl refl)
       (turned m.turns _ (λ left. to target reached.0 (omega arith) refl refl)))
-  Steps-row closed moment Turn stack taken reached =
+  Steps-row closed moment Turn stack is taken reached =
       turned m.turns _ (λ left. on reached.0 (omega arith) refl refl)
-  Steps-row closed moment (Call f) stack taken reached = called f (slice_get code.functions f) refl reached.0 (omega (arith, gives-le (slice_get code.functions f)))
-  Steps-row closed moment Ret stack taken reached = returned m.calls refl
-  Steps-row closed moment (Write f) stack taken reached = needed (slice_get code.formats f) _ (λ format. written format stack reached.0 (omega arith))
-  Steps-row closed moment (Send at) stack taken reached = needed (message_at at m.cells) _ (λ message. affected closed (after_effect (effect.Send (frame_of message))) stack refl refl reached.0 (omega arith))
-  Steps-row closed moment (Copy to_cell from) stack taken reached =
+  Steps-row closed moment (Call f) stack is taken reached = called f (slice_get code.functions f) refl is reached.0 (omega (arith, gives-le (slice_get code.functions f)))
+  Steps-row closed moment Ret stack is taken reached = returned m.calls refl
+  Steps-row closed moment (Write f) stack is taken reached = needed (slice_get code.formats f) _ (λ format. written format stack reached.0 (omega arith))
+  Steps-row closed moment (Send at) stack is taken reached = needed (message_at at m.cells) _ (λ message. affected closed (after_effect (effect.Send (frame_of message))) stack refl refl reached.0 (omega arith))
+  Steps-row closed moment (Copy to_cell from) stack is taken reached =
       needed (message_at to_cell m.cells) _ (λ there. needed (message_at from m.cells) _ (λ message. on reached.0 (omega arith) refl refl))
-  Steps-row closed moment Stop stack taken reached = affected closed (after_effect effect.Stop) stack refl refl reached.0 (omega arith)
-  Steps-row closed moment (Set timer cyclic) stack taken reached =
+  Steps-row closed moment Stop stack is taken reached = affected closed (after_effect effect.Stop) stack refl refl reached.0 (omega arith)
+  Steps-row closed moment (Set timer cyclic) stack is taken reached =
       one stack _ (λ n below. needed (slice_get code.timers timer) _ (λ unit. needed (slice_get m.active timer) _ (λ active. affected closed (after_set timer (micros unit n) cyclic) below refl refl reached.0 (omega arith))))
-  Steps-row closed moment (Cancel timer) stack taken reached = needed (slice_get m.active timer) _ (λ active. affected closed (after_cancel timer) stack refl refl reached.0 (omega arith))
-  Steps-row closed moment (Active timer) stack taken reached = needed (slice_get m.active timer) _ (λ active. on reached.0 (omega arith) refl refl)
-  Steps-row closed moment Now stack taken reached = on reached.0 (omega arith) refl refl
+  Steps-row closed moment (Cancel timer) stack is taken reached = needed (slice_get m.active timer) _ (λ active. affected closed (after_cancel timer) stack refl refl reached.0 (omega arith))
+  Steps-row closed moment (Active timer) stack is taken reached = needed (slice_get m.active timer) _ (λ active. on reached.0 (omega arith) refl refl)
+  Steps-row closed moment Now stack is taken reached = on reached.0 (omega arith) refl refl

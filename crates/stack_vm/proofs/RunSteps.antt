@@ -101,6 +101,9 @@ module _ {S : Type 0} {host : HostMeaning S} {code : Code} (verified : IsVerifie
       between = h;
       effect = refuses.effect;
       next = refuses.next;
+      instr = instr;
+      is_there = there;
+      gives = refuses.gives;
       comes = comes;
       goes_on = (
         suc comes.reached.0,

@@ -1,11 +1,12 @@
 // Runs of verified code.
 
-ghost use Rattle.std.specs.Prelude.{◌≡◌, ◌<◌, ◌≤◌, ℕ, [], length, OnErr, IfOk, IsErrOf};
+ghost use Rattle.std.specs.Prelude.{◌≡◌, ◌<◌, ◌≤◌, ℕ, [], length, OnErr, IfOk, IsErrOf, IsOk};
 ghost use Rattle.bytecode.specs.Runs.{HoldKinds, IsStartOf};
 ghost use Rattle.bytecode.specs.Verified.{IsVerified};
 ghost use Rattle.stack_vm.specs.Inside.Runs.{EndsWith, HasRoomOn, IsRefused, machine_on};
 ghost use Rattle.stack_vm.specs.Inside.State.{HasSameRoom};
 ghost use Rattle.stack_vm.specs.Memory.{IsMemoryOf};
+ghost use Rattle.stack_vm.specs.Quiet.{IsQuietHandler};
 ghost use Rattle.stack_vm.specs.Runs.{IsRunRefused, Runs};
 ghost use Rattle.vm_host.specs.Host.{FaultsRise, HostStays};
 
@@ -24,7 +25,8 @@ use vm_host::{Host, RecordFault};
 /// how many timers it has stay.
 ///
 /// Takes time linear in the steps that the machine takes, and memory only for the line of a `Write`
-/// and in the host.
+/// and in the host: a handler whose function is quiet, since neither it nor a function that it calls
+/// has `Write` or `Send`, runs to its end whatever memory there is.
 ///
 /// # Errors
 ///
@@ -52,6 +54,7 @@ pub fn run<H: Host>(
     ensures refused { OnErr result (
         IsRunRefused H.meaning code.now handler turns memory.old host.old host.new) }
     ensures meter_stays { OnErr result (meter.new ≡ meter.old) }
+    ensures quiet { IsQuietHandler code.now handler → IsOk result }
     ensures sink { IsErrOf result RecordFault.Sink → FaultsRise H.meaning host.old host.new }
     ensures host_stays { HostStays H.meaning host.old host.new }
 {

@@ -33,6 +33,12 @@ AsksHost (Active timer) = ⊤
 AsksHost Now = ⊤
 AsksHost _ = ⊥
 
+-- an instruction that gives the host a line or a frame, which may be refused
+abbrev pub GivesLineOrFrame : Instr → Type 0
+GivesLineOrFrame (Write format) = ⊤
+GivesLineOrFrame (Send at) = ⊤
+GivesLineOrFrame _ = ⊥
+
 -- the row of an instruction that asks nothing of the host leads from a state to another in this code, where
 -- the machine goes on or has ended
 pub record DoesIn (code : Code) (instr : Instr) (before : RunState) (end : Option Outcome)
@@ -57,12 +63,13 @@ pub record DoesOn {S : Type 0} (host : HostMeaning S) (code : Code) (instr : Ins
       instr s.stack ≡ answered end (machine s_after (host.active_timers after) (effects ++ new))
   pub taken : TakesAll host before new after
 
--- the row of an instruction leads from a state and a host to a state with one effect more, a line or a frame,
--- which was refused
+-- the row of an instruction, which gives the host a line or a frame, leads from a state and a host to a state
+-- with one effect more, the one that was refused
 pub record RefusesOn {S : Type 0} (host : HostMeaning S) (code : Code) (instr : Instr) (s : RunState)
     (before after : S) : Type 0 where
   pub effect : Effect
   pub next : RunState
+  pub gives : GivesLineOrFrame instr
   pub leads : (effects : List Effect) →
       row code (host.is_closed before) (host.moment before) (machine s (host.active_timers before) effects)
       instr s.stack ≡ Goes (machine next (host.active_timers before) (effects ++ effect ∷ []))

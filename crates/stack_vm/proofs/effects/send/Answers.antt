@@ -23,7 +23,7 @@ returns-in_err-send-clause-refused g c =
     let timers : List Bool = host.active_timers stands in
     let is = message_there c.requires.0.cells s.cells at c.requires.1.cells_held c.requires.1.named in
     let frame : FrameFields = frame_of (cells_at at s.cells) in
-    on_err c.from_residual.result (λ code. refuses_when_open host code (Send at) s stands (record s { place = s.place + 1 }) c.send.new.self (effect.Send frame)
+    on_err c.from_residual.result (λ code. refuses_when_open host code (Send at) s stands (record s { place = s.place + 1 }) c.send.new.self (effect.Send frame) tt
     (elim [
       | true ↦ λ effects. send_row code true (host.moment stands) (machine s timers effects) at s.stack is
       | false ↦ λ effects. send_row code false (host.moment stands) (machine s timers effects) at s.stack is

@@ -42,6 +42,7 @@ returns-in_err-text-clause-refused g c =
     on_err c.from_residual.result (record {
       effect = line_of format s.stack s.cells;
       next = record s { place = s.place + 1; stack = drop (numbers_taken format) s.stack };
+      gives = tt;
       leads = λ effects. write_row code (host.is_closed stands) (host.moment stands) (machine s timers effects) f format s.stack is enough (arrays_lie code c.requires.verified f format is r.named s.cells r.cells_held);
       may_be = inl (rendered format (reverse (take (numbers_taken format) s.stack)) s.cells, refl);
       refusal = inl refl;
@@ -62,6 +63,7 @@ returns-in_err-line-clause-refused g c =
     on_err c.from_residual-in_err-line.result (record {
       effect = line_of format s.stack s.cells;
       next = record s { place = s.place + 1; stack = drop (numbers_taken format) s.stack };
+      gives = tt;
       leads = λ effects. write_row code (host.is_closed stands) (host.moment stands) (machine s timers effects) f format s.stack is enough (arrays_lie code c.requires.verified f format is r.named s.cells r.cells_held);
       may_be = inl (rendered format (reverse (take (numbers_taken format) s.stack)) s.cells, refl);
       refusal = inr (subst (λ (text : List ℕ). host.refuses stands (effect.Line text) c.line-2.new.self) (c.bytes.ensures ∙ c.in_ok-text.ensures) c.in_err-line.ensures.refused);

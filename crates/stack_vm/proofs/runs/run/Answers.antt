@@ -2,6 +2,7 @@
 use Rattle.std.proofs.Common.{ℕ, ◌-◌, ap, ◌∙◌}
 use Rattle.stack_vm.proofs.HandlerRuns.{memory_left, refused_run, room_there, runs_to, starts}
 use Rattle.stack_vm.proofs.MemoryLemmas.{event_cells_held}
+use Rattle.stack_vm.proofs.QuietRuns.{quiet_goes_on}
 use Rattle.stack_vm.proofs.runs.run.Goals as goal
 
 pub run_on-requires-clause-room : goal.run_on-requires-clause-room
@@ -18,6 +19,12 @@ returns-in_err-outcome-clause-refused g c =
     let b = starts g.H.Host.meaning c.args.host.now c.memory.inside.state c.code-code.ensures.same c.code-code.ensures.verified c.args.handler c.args.turns
     c.requires.handler c.as_slice.ensures c.index-as_slice-handler.result c.as_slice-2.ensures c.memory.view_is c.requires.memory c.requires.timers c.begin.ensures in
     refused_run c.code-code.ensures.same b c.from_residual.result c.in_err-outcome.ensures.refused
+
+pub returns-in_err-outcome-clause-quiet : goal.returns-in_err-outcome-clause-quiet
+returns-in_err-outcome-clause-quiet g c is_quiet =
+    let b = starts g.H.Host.meaning c.args.host.now c.memory.inside.state c.code-code.ensures.same c.code-code.ensures.verified c.args.handler c.args.turns
+    c.requires.handler c.as_slice.ensures c.index-as_slice-handler.result c.as_slice-2.ensures c.memory.view_is c.requires.memory c.requires.timers c.begin.ensures in
+    absurd (quiet_goes_on c.code-code.ensures.same c.code-code.ensures.verified b c.in_err-outcome.ensures.refused is_quiet)
 
 pub returns-in_err-outcome-clause-of_code : goal.returns-in_err-outcome-clause-of_code
 returns-in_err-outcome-clause-of_code g c =
