@@ -8,7 +8,7 @@ use Rattle.node_run.specs.declared.node.TaskEnd.{TaskEnd}
 use Rattle.node_run.specs.declared.node.TaskFault.{TaskFault}
 use Rattle.node_run.specs.declared.node.TaskFault.TheVariants as faults
 use Rattle.node_run.specs.Inside.Fault.{IsTaskFault}
-use Rattle.std.specs.Option.{MatchOption}
+use Rattle.std.specs.Option.{IfSome, MatchOption}
 use Rattle.std.proofs.lemmas.List.{append_assoc}
 use Rattle.can_frame.specs.Frame.{FrameFields}
 use Rattle.run_effects.specs.Effect.{Effect, Line, Send, Stop, Set, Cancel}
@@ -30,6 +30,7 @@ use Rattle.bytecode.proofs.RunLemmas.{one_end}
 use Rattle.stack_vm.specs.declared.meter.MeterRow.{MeterRow}
 use Rattle.stack_vm.specs.Memory.{MemoryState}
 use Rattle.stack_vm.specs.Meter.{AddsRun}
+use Rattle.stack_vm.specs.Quiet.{IsQuietHandler}
 use Rattle.node_rounds.specs.declared.occurrence.Occurrence.{Occurrence}
 use Rattle.node_rounds.specs.declared.occurrence.Trigger.{Trigger}
 use Rattle.std.specs.List.{All}
@@ -44,7 +45,7 @@ use Rattle.node_run.specs.Inside.Agenda.{IsNextTaken, next_in}
 use Rattle.node_run.specs.Inside.Handler.{BeginsHere, RefusesHandler, RunsHandler}
 use Rattle.node_run.specs.Inside.Host.{Parts, PartsRefuse, parts}
 use Rattle.node_run.proofs.SameMachine.{same_machine}
-use Rattle.node_run.specs.Node.{BeginTask, DoesTask, IsMetered, IsTaskRefused, NodeInRound}
+use Rattle.node_run.specs.Node.{BeginTask, DoesTask, HasQuietTask, IsMetered, IsTaskRefused, NodeInRound}
 
 -- ---- lists
 
@@ -156,6 +157,20 @@ lines_of_task node trigger rest handler memory before start outcome last run end
           ∙ ap (λ (es : List Effect). lines_of es ++ halt_lines p.end.outcome) effects ∙ ap (λ (o : Outcome). lines_of last.effects ++ halt_lines o) once.0
           ∙ sym (append-nil (lines_of last.effects ++ halt_lines outcome)),
     )
+
+-- the next task halts the node where the end of its run does
+pub halted_by_task : {B R : Type 0} (node : NodeInRound) (trigger : Trigger) (rest : Rest) (handler : ℕ) (memory : MemoryState) (before : Parts B R) (start : Machine) (outcome : Outcome) (last : Machine)
+    → IsNextRun node trigger rest handler memory before start → EndsIn node.doing.node.memory.code (is_closed trigger.occurrence) node.moment start outcome last
+    → (task : Task) (after : Doing (NodeState CodeMemory)) → DoesNext code_reaction node.moment node.doing task after → after.node.is_halted ≡ halts outcome
+halted_by_task node trigger rest handler memory before start outcome last run ends task after n =
+    let p = procedure_of node trigger rest handler run.next run.runs task after n in
+    let e = subst (λ (t : Timers). EndsByCode node.doing.node.memory handler trigger.occurrence node.moment (active_timers t) p.end) (sym run.fires) p.ends in
+    let same : e.start ≡ start =
+    same_start node.doing.node.memory.code handler node.doing.node.memory.turns memory before start node.doing.node.memory trigger.occurrence node.moment p.end
+    run.begins e refl refl run.this in
+    let once = one_end node.doing.node.memory.code (is_closed trigger.occurrence) node.moment start p.end.outcome outcome e.last last
+    (subst (λ (m : Machine). EndsIn node.doing.node.memory.code (is_closed trigger.occurrence) node.moment m p.end.outcome e.last) same e.ends) ends in
+    ap (λ (s : NodeState CodeMemory). s.is_halted) (n.stands ∙ ap (λ (d : Done (NodeState CodeMemory)). d.after) p.is) ∙ ap halts once.0
 
 -- the lines of effects and then one line more are those of the effects and this line
 line_next : (node : NodeInRound) (effects : List Effect) (text : List ℕ) → BeginTask node (lines_of (effects ++ Line text ∷ [])) → BeginTask node (lines_of effects ++ text ∷ [])
@@ -302,6 +317,12 @@ module _ {B R : Type 0} (after_request : B → ℕ → FrameFields → B) (meani
     next_run : IsNextRun node trigger rest handler memory (parts number node.moment false bus into timers) run.start
     next_run = record { next = took.next; runs = runs.runs; begins = run.begins; this = runs.this; fires = took.fires }
 
+    -- where the run halts the node, its task does
+    pub halts_as_task : (task : Task) (after : Doing (NodeState CodeMemory)) → DoesNext code_reaction node.moment node.doing task after → after.node.is_halted ≡ halts outcome
+    halts_as_task =
+        halted_by_task node trigger rest handler memory (parts number node.moment false bus into timers) run.start outcome run.last next_run
+        (subst (λ b. EndsIn node.doing.node.memory.code b node.moment run.start outcome run.last) runs.closing run.ends)
+
     -- a refused line that tells a halt is the last one of the task
     pub refused_halt : (into_after : R) (text : List ℕ) → halt_lines outcome ≡ text ∷ [] → RefusesEntry meaning between (entry.Line node.moment number text) into_after
         → IsTaskRefused meaning number node into into_after meter meter_after
@@ -323,6 +344,15 @@ module _ {B R : Type 0} (after_request : B → ℕ → FrameFields → B) (meani
       );
       metered = inr (task_of trigger (done_with node trigger memory_after run.last outcome), (stands_after node rest memory_after timers_after (halts outcome)).doing, next_with (halts outcome) refl, metered_with);
     }
+
+-- the procedure of a quiet task is quiet
+pub quiet_procedure : {node : NodeInRound} {trigger : Trigger} {rest : Rest} {timers : Timers} {handler : ℕ} → Took node trigger rest timers → trigger.procedure ≡ Some handler
+    → HasQuietTask node → IsQuietHandler node.doing.node.memory.code handler
+quiet_procedure {node} {trigger} {rest} took runs q =
+    let same : (q.next.trigger, q.after.rest) ≡ (trigger, rest) = some_same (sym q.next.is_next ∙ took.next) in
+    let own : q.next.trigger ≡ trigger = ap (λ z. z.0) same in
+    subst (λ (p : Option ℕ). IfSome p (IsQuietHandler node.doing.node.memory.code))
+    (ap (λ (t : Task). t.trigger.procedure) q.next.is_task ∙ ap (λ (t : Trigger). t.procedure) own ∙ runs) q.quiet
 
 -- ---- refusals
 

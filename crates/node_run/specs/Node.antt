@@ -1,5 +1,5 @@
 -- A node as contracts see it, and what its calls make of it.
-use Rattle.std.specs.Prelude.{◌≡◌, ◌⊎◌, ℕ, ◌+◌, ◌<◌, Bool, false, List, [], ◌∷◌, ◌++◌, length, pos, replicate, MatchOption}
+use Rattle.std.specs.Prelude.{◌≡◌, ◌⊎◌, ℕ, ◌+◌, ◌<◌, Bool, false, List, [], ◌∷◌, ◌++◌, length, pos, replicate, IfSome, MatchOption}
 use Rattle.can_frame.specs.Frame.{FrameFields}
 use Rattle.run_records.specs.declared.record.Noted.TheVariants as entry
 use Rattle.run_records.specs.Record.{RecordMeaning, RefusesEntry}
@@ -9,6 +9,7 @@ use Rattle.bytecode.specs.Laws.{BeginsWith}
 use Rattle.stack_vm.specs.declared.meter.MeterRow.{MeterRow}
 use Rattle.stack_vm.specs.Memory.{with_starts}
 use Rattle.stack_vm.specs.Meter.{AddsRun}
+use Rattle.stack_vm.specs.Quiet.{IsQuietHandler}
 use Rattle.node_rounds.specs.Entries.{TakesEntries, after_requests, line_entries}
 use Rattle.node_rounds.specs.Reaction.{NodeState}
 use Rattle.node_rounds.specs.Round.{Doing, DoesNext, Task, nothing_left}
@@ -88,3 +89,11 @@ pub record IsTaskRefused {R : Type 0} (meaning : RecordMeaning R) (number : ℕ)
       ⊎ ((text : List ℕ) × RefusesEntry meaning between (entry.Line node.moment number text) into_after
       × BeginTask node (lines ++ text ∷ []))
   pub metered : IsMeteredAtMost node meter meter_after
+
+-- the next task of a node is that of a quiet procedure, or of none, and does not halt the node
+pub record HasQuietTask (node : NodeInRound) : Type 0 where
+  pub task : Task
+  pub after : Doing (NodeState CodeMemory)
+  pub next : DoesNext code_reaction node.moment node.doing task after
+  pub quiet : IfSome task.trigger.procedure (IsQuietHandler node.doing.node.memory.code)
+  pub goes_on : after.node.is_halted ≡ false

@@ -1,6 +1,6 @@
 // A node.
 
-ghost use Rattle.std.specs.Prelude.{◌≡◌, ◌<◌, ◌≤◌, ◌^◌, ◌↔◌, ◌⊎◌, [], false, IsTrue, IsSome, IsNone, is_some, IfOk, IfSome, OnOk, OnErr, IsErrOf, length, option_to_list};
+ghost use Rattle.std.specs.Prelude.{◌≡◌, ◌<◌, ◌≤◌, ◌^◌, ◌↔◌, ◌⊎◌, [], false, IsTrue, IsSome, IsNone, is_some, IfOk, IfSome, OnOk, OnErr, IsErrOf, IsOk, length, option_to_list};
 ghost use Rattle.std.specs.Option.{option_copied};
 ghost use Rattle.run_records.specs.Record.{RecordFaultsRise};
 ghost use Rattle.timer_queue.specs.Timers.{IsTimers, first_due};
@@ -93,7 +93,7 @@ impl Model for Node {
 
 impl Node {
     ghost use Rattle.node_run.specs.Code.{code_reaction};
-    ghost use Rattle.node_run.specs.Node.{DoesTask, HasRows, IsTaskRefused, loaded};
+    ghost use Rattle.node_run.specs.Node.{DoesTask, HasQuietTask, HasRows, IsTaskRefused, loaded};
     ghost use Rattle.node_run.specs.Sound.{IsSound};
 
     /// A node that runs this code: not halted, with the initial values in its cells, no active timer, and
@@ -210,7 +210,8 @@ impl Node {
     /// the bus, adds its run to the meter, and answers whether it asked to stop the measurement.
     ///
     /// Beside that of the run it takes time as a timer does that fires, where one does. It takes memory as
-    /// the run does.
+    /// the run does: none for a quiet procedure, which with the functions that it calls has no line to write
+    /// and no frame to send, so that its task is done to its end where it does not halt the node.
     ///
     /// # Errors
     ///
@@ -231,6 +232,7 @@ impl Node {
             self.old bus.old into.old meter.old end.stop self.new bus.new into.new meter.new) }
         ensures refused { OnErr result (IsTaskRefused R.meaning number
             self.old into.old into.new meter.old meter.new) }
+        ensures quiet { HasQuietTask self.old → IsOk result }
         ensures fault { IsErrOf result TaskFault.Record → RecordFaultsRise R.meaning into.old into.new }
         ensures faults_stay { R.meaning.faults into.old ≤ R.meaning.faults into.new }
         ensures code_stays { self.new.doing.node.memory.code ≡ self.old.doing.node.memory.code }

@@ -1,10 +1,11 @@
 // The run of one handler of a node.
 
-ghost use Rattle.std.specs.Prelude.{◌≡◌, ◌<◌, ◌≤◌, ◌^◌, ℕ, Bool, false, length, IfOk, OnErr, IsErrOf};
+ghost use Rattle.std.specs.Prelude.{◌≡◌, ◌<◌, ◌≤◌, ◌^◌, ℕ, Bool, false, length, IfOk, OnErr, IsErrOf, IsOk};
 ghost use Rattle.bytecode.specs.declared.code.Code.{Code};
 ghost use Rattle.run_records.specs.Record.{RecordFaultsRise};
 ghost use Rattle.timer_queue.specs.Timers.{IsTimers};
 ghost use Rattle.stack_vm.specs.Memory.{IsMemoryOf};
+ghost use Rattle.stack_vm.specs.Quiet.{IsQuietHandler};
 ghost use Rattle.node_run.specs.Inside.Handler.{RefusesHandler, RunsHandler};
 ghost use Rattle.node_run.specs.Inside.Host.{parts};
 
@@ -50,6 +51,7 @@ fn run_on<'a, B: Bus, R: Record>(
         (parts host.new.number host.new.moment host.new.stops
         host.new.bus.now host.new.into.now host.new.timers.now)) }
     ensures meter_stays { OnErr result (meter.new ≡ meter.old) }
+    ensures quiet { IsQuietHandler code.now handler → IsOk result }
     ensures sink { IsErrOf result RecordFault.Sink →
         RecordFaultsRise R.meaning host.old.into.now host.new.into.now }
     ensures faults_stay { R.meaning.faults host.old.into.now ≤ R.meaning.faults host.new.into.now }
@@ -91,6 +93,7 @@ pub(crate) fn run_handler<B: Bus, R: Record>(
         code.now closed handler turns memory.old (parts number now false bus.old into.old timers.old)
         (parts n m stops bus.new into.new timers.new)) }
     ensures meter_stays { OnErr result (meter.new ≡ meter.old) }
+    ensures quiet { IsQuietHandler code.now handler → IsOk result }
     ensures sink { IsErrOf result RecordFault.Sink → RecordFaultsRise R.meaning into.old into.new }
     ensures faults_stay { R.meaning.faults into.old ≤ R.meaning.faults into.new }
     ensures as_many { timers.new.count ≡ timers.old.count }
