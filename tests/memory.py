@@ -3,6 +3,7 @@
 
     memory.py PROGRAM [--deep] [--runs N]
     memory.py PROGRAM --stack
+    memory.py PROGRAM --day [MILLISECONDS]
 
 Each input runs under limits of address space that rise page by page, from the least under which the program begins
 with the first input up to where the answer is whole, and with an allocator, compiled by gcc and loaded before that of
@@ -17,6 +18,9 @@ grows while there is no room for it, which no program can answer, so that some r
 A line for each input tells how many runs there were, and over what. The status is 1 where a run ended otherwise.
 
 With --stack it tells instead with how much stack each of the deepest nestings of sources is taken.
+
+With --day it tells instead whether a run with a frame and a line in each of so many milliseconds, those of a day
+without a number, ends within 64 MB of address space beyond that with which the program begins.
 """
 import argparse
 import os
@@ -26,12 +30,15 @@ import shutil
 import subprocess
 import sys
 import tempfile
+import time
 
 ROOT = pathlib.Path(__file__).resolve().parent.parent
 SECONDS = 20
 PAGE = 4096
 MOST = 1 << 30
 CALM = 32
+DAY = 86_400_000
+BEYOND = 64 << 20
 
 # The allocator: `REFUSE` says which request is refused, and a `+` behind it that all later ones are too.
 ALLOCATOR = """\
@@ -226,6 +233,25 @@ def tell_stacks(program, folder):
         print(f"{name}: {least_stack(program, where) / 1024:.0f} KB", flush=True)
 
 
+def run_day(program, folder, milliseconds):
+    """Whether a run with a frame and a line in each of so many milliseconds has room, which it prints."""
+    source = ("variables { msTimer t; message 0x100 m = {dlc = 8}; } on start { setTimerCyclic(t, 1); } "
+              "on timer t { output(m); } on message * { write(\"frame\"); }")
+    files = {"s.scn": scenario(f"until {milliseconds}"), "n.can": source}
+    hello = Input(program, "hello", ROOT / "examples" / "hello", ["window", "hello.scn"])
+    space = first_space(hello) + BEYOND
+    limit = lambda: resource.setrlimit(resource.RLIMIT_AS, (space, space))
+    start = time.monotonic()
+    with subprocess.Popen([program, "run", "s.scn"], cwd=written(folder / "day", files), stdin=subprocess.DEVNULL,
+                          stdout=subprocess.PIPE, preexec_fn=limit) as run:
+        lines = sum(chunk.count(b"\n") for chunk in iter(lambda: run.stdout.read(1 << 20), b""))
+    # The last frame begins at the end moment and has not ended by then.
+    wanted = 2 * (milliseconds - 1)
+    print(f"{milliseconds} ms: status {run.returncode}, {lines} lines of {wanted}, under {space >> 10} KB of address space, "
+          f"in {time.monotonic() - start:.0f} s", flush=True)
+    return run.returncode == 0 and lines == wanted
+
+
 def built(folder):
     """The allocator, compiled, or none where it cannot be."""
     if not shutil.which("gcc"):
@@ -241,6 +267,7 @@ def main():
     parser.add_argument("program", type=lambda it: str(pathlib.Path(it).resolve()))
     parser.add_argument("--deep", action="store_true")
     parser.add_argument("--stack", action="store_true")
+    parser.add_argument("--day", nargs="?", type=int, const=DAY)
     parser.add_argument("--runs", type=int, default=3000)
     words = parser.parse_args()
     bad = 0
@@ -249,6 +276,8 @@ def main():
         if words.stack:
             tell_stacks(words.program, folder)
             return 0
+        if words.day:
+            return 0 if run_day(words.program, folder, words.day) else 1
         allocator = built(folder)
         if not allocator:
             print("no gcc, so only the limits are tried")
