@@ -20,6 +20,7 @@ may stand on standard error. Then examples/body-bus runs under random picks: its
 the lines of each of its nodes and its profile have to be the same under all of them.
 At each bit rate its log is replayed to a node without procedures, which has to give the same log.
 A log of 64 MiB has to be read, and one of a byte more refused; both are of zeros alone, and made for the trial.
+A folder whose name has a line feed has to be shown in one line by a refusal and by a profile.
 Last `capl` is tried: without words and when asked for help,
 in a checkout with the released program and nothing built, where that program is of the
 sources, and in one whose sources are others, where it has to build and cannot.
@@ -219,6 +220,20 @@ def faults_of_log_sizes(program):
                 yield f"of {size} bytes: status {done.returncode}, wrote {done.stdout[:400]!r}, not {want}"
 
 
+def faults_of_names(program):
+    """What is wrong with how a file in a folder is shown whose name has a line feed and a carriage return."""
+    with tempfile.TemporaryDirectory() as keep:
+        work = pathlib.Path(keep) / "a\nb\r"
+        work.mkdir()
+        (work / "n.can").write_text("on start { }")
+        (work / "s.scn").write_text("scenario 1\nnode N n.can\n")
+        for words, want in ((["profile", "a\nb\r/s.scn"], (0, b"p N a\\nb\\r/n.can:1 start 1 0\n")),
+                            (["check", "a\nb\r/none"], (1, b"refused a\\nb\\r/none F01\n"))):
+            done = started(program, words, keep, stdout=subprocess.PIPE)
+            if (done.returncode, done.stdout) != want:
+                yield f"{words[0]}: status {done.returncode}, wrote {done.stdout!r}, not {want}"
+
+
 def called(script, *words, **how):
     """Calls capl with words, and gives status, output and error output."""
     done = subprocess.run([script, *words], stdin=subprocess.DEVNULL, capture_output=True, timeout=SECONDS, **how)
@@ -282,6 +297,7 @@ def main():
     trials += [(f"examples/body-bus replayed at {rate} bits a second", faults_of_replays(program, rate))
                for rate in RATES]
     trials += [("logs of 64 MiB and of a byte more", list(faults_of_log_sizes(program)))]
+    trials += [("a name with a line feed", list(faults_of_names(program)))]
     trials += [(" ".join(["capl", *words]), list(faults_of_help(*words))) for words in ((), ("--help",), ("-h",))]
     trials += [("capl on a fresh clone", list(faults_of_released()))]
     passed = failed = 0

@@ -3,6 +3,7 @@ use Rattle.std.specs.Prelude.{ℕ, List, [], ◌∷◌, ◌++◌, Option, Some, 
 use Rattle.texts.specs.declared.blame.Blame.{Blame}
 use Rattle.texts.specs.declared.blame.Rule.{Rule}
 use Rattle.text_parts.specs.Digits.{zero_filled}
+use Rattle.sim_text.specs.Shown.{shown}
 
 -- `:` and the number of a line or a column, where there is one
 abbrev pub place_text : Option ℕ → List ℕ
@@ -13,8 +14,9 @@ place_text (Some number) = codes ":" ++ decimal number
 abbrev pub rule_text : Rule → List ℕ
 rule_text rule = rule.group ∷ zero_filled 2 (decimal rule.number)
 
--- `refused FILE RULE`, with the line and the column behind FILE where the blame has them
+-- `refused FILE RULE`, with FILE as it is shown, and the line and the column behind it where the blame has
+-- them
 abbrev pub blame_line : Blame → List ℕ
 blame_line blame =
-    codes "refused " ++ blame.file ++ place_text blame.line ++ place_text blame.column ++ codes " "
+    codes "refused " ++ shown blame.file ++ place_text blame.line ++ place_text blame.column ++ codes " "
     ++ rule_text blame.rule ++ codes "\n"

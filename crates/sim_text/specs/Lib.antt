@@ -1,5 +1,6 @@
 -- The definitions of this crate.
 pub mod Blame
 pub mod Profile
+pub mod Shown
 pub mod Summary
 pub mod Window

@@ -4,17 +4,18 @@ ghost use Rattle.std.specs.Prelude.{◌≡◌, ◌++◌, IfOk, OnOk};
 ghost use Rattle.sim_text.specs.Blame.{blame_line, place_text, rule_text};
 
 use crate::number::append_number;
+use crate::shown::append_shown;
 use std::alloc::Global;
 use texts::{Blame, NoMemory, Rule, Text};
 
 /// The line of a blame: `refused FILE RULE` and its line end, with `:` and the number of the line, and
-/// the same of the column, behind FILE where the blame has them. Takes time and memory linear in the
-/// name of the file.
+/// the same of the column, behind FILE where the blame has them. A line feed in FILE is shown as `\n` and
+/// a carriage return as `\r`. Takes time and memory linear in the name of the file.
 pub fn blame_line(alloc: Global, blame: &Blame) -> Result<Text, NoMemory>
     ensures { IfOk result (λ line. line ≡ blame_line blame.now) }
 {
     let mut line = Vec::from_slice(alloc, b"refused ")?;
-    line.extend_from_slice(blame.file.bytes())?;
+    append_shown(&mut line, blame.file.bytes())?;
     append_place(&mut line, blame.line)?;
     append_place(&mut line, blame.column)?;
     line.push(b' ')?;
@@ -52,13 +53,14 @@ mod tests {
     #[test]
     fn lines_of_some_blames(rt: HostRuntime) -> Result<(), Fail> {
         let rows = [
-            (None, None, b'L', 1, "refused d/n.can L01\n"),
-            (Some(3), None, b'E', 7, "refused d/n.can:3 E07\n"),
-            (Some(12), Some(40), b'E', 28, "refused d/n.can:12:40 E28\n"),
+            ("d/n.can", None, None, b'L', 1, "refused d/n.can L01\n"),
+            ("d/n.can", Some(3), None, b'E', 7, "refused d/n.can:3 E07\n"),
+            ("d/n.can", Some(12), Some(40), b'E', 28, "refused d/n.can:12:40 E28\n"),
+            ("d\n/n\r.can", None, None, b'F', 1, "refused d\\n/n\\r.can F01\n"),
         ];
-        for (line, column, group, number, text) in rows {
+        for (file, line, column, group, number, text) in rows {
             let blame = Blame {
-                file: Text::make(rt.alloc(), b"d/n.can")?,
+                file: Text::make(rt.alloc(), file.as_bytes())?,
                 line,
                 column,
                 rule: Rule { group, number },

@@ -2,8 +2,8 @@
 //!
 //! [`window_line`] shows a text that a node writes, [`blame_line`] says which rule an input breaks,
 //! [`profile_line`] what an event procedure took, and [`summary_line`] what the run of a generated
-//! scenario had. Each line ends with a line feed (byte 10) and has none before it, where the names in
-//! it have none. Numbers are decimal digits.
+//! scenario had. Each line ends with a line feed (byte 10) and has none before it: one in a text or in the
+//! name of a file is shown as `\n`, and the name of a node has none. Numbers are decimal digits.
 #![tactic(auto)]
 
 pub use blame::blame_line;
@@ -14,5 +14,6 @@ pub use window::window_line;
 mod blame;
 mod number;
 mod profile;
+mod shown;
 mod summary;
 mod window;

@@ -4,13 +4,15 @@ ghost use Rattle.std.specs.Prelude.{◌≡◌, ◌++◌, IfOk, OnOk, decimal, co
 ghost use Rattle.sim_text.specs.Profile.{event_word, profile_line};
 
 use crate::number::append_number;
+use crate::shown::append_shown;
 use run_effects::Event;
 use stack_vm::MeterRow;
 use std::alloc::Global;
 use texts::{NoMemory, Text};
 
 /// The line of an event procedure: `p NODE FILE:LINE EVENT RUNS TURNS` and its line end. LINE is that of
-/// the word `on`, counted from 1. Takes time and memory linear in both names.
+/// the word `on`, counted from 1. A line feed in FILE is shown as `\n` and a carriage return as `\r`.
+/// Takes time and memory linear in both names.
 pub fn profile_line(
     alloc: Global,
     node: &[u8],
@@ -24,7 +26,7 @@ pub fn profile_line(
     let mut text = Vec::from_slice(alloc, b"p ")?;
     text.extend_from_slice(node)?;
     text.push(b' ')?;
-    text.extend_from_slice(file)?;
+    append_shown(&mut text, file)?;
     text.push(b':')?;
     append_number(&mut text, u64::from(line))?;
     text.push(b' ')?;

@@ -1,10 +1,10 @@
 // The line of a text that a node writes.
 
 ghost use Rattle.std.specs.Prelude.{◌≡◌, ◌++◌, IfOk, OnOk};
-ghost use Rattle.std.specs.List.{flat_map};
-ghost use Rattle.sim_text.specs.Window.{moment_text, shown_byte, window_line};
+ghost use Rattle.sim_text.specs.Window.{moment_text, window_line};
 
 use crate::number::append_number;
+use crate::shown::append_shown;
 use std::alloc::Global;
 use texts::{NoMemory, Text};
 
@@ -33,20 +33,6 @@ fn append_moment(alloc: Global, line: &mut Vec<u8>, now: u64) -> Result<(), NoMe
     let micros = now % MICROS_PER_SECOND;
     append_number(line, now / MICROS_PER_SECOND)?;
     line.extend_from_slice(format!(in alloc; ".{micros:06}")?.as_bytes())?;
-    Ok(())
-}
-
-/// Appends each byte of a text as it is shown.
-fn append_shown(line: &mut Vec<u8>, text: &[u8]) -> Result<(), NoMemory>
-    ensures { OnOk result (line.new.items ≡ line.old.items ++ flat_map shown_byte text.now) }
-{
-    for byte in text {
-        match byte {
-            b'\n' => line.extend_from_slice(b"\\n")?,
-            b'\r' => line.extend_from_slice(b"\\r")?,
-            _ => line.push(*byte)?,
-        }
-    }
     Ok(())
 }
 

@@ -1,0 +1,20 @@
+// Texts as they are shown in a line.
+
+ghost use Rattle.std.specs.Prelude.{◌≡◌, ◌++◌, OnOk};
+ghost use Rattle.sim_text.specs.Shown.{shown};
+
+use texts::NoMemory;
+
+/// Appends each byte of a text as it is shown.
+pub(crate) fn append_shown(line: &mut Vec<u8>, text: &[u8]) -> Result<(), NoMemory>
+    ensures { OnOk result (line.new.items ≡ line.old.items ++ shown text.now) }
+{
+    for byte in text {
+        match byte {
+            b'\n' => line.extend_from_slice(b"\\n")?,
+            b'\r' => line.extend_from_slice(b"\\r")?,
+            _ => line.push(*byte)?,
+        }
+    }
+    Ok(())
+}
