@@ -1,7 +1,7 @@
 #!/usr/bin/env python3
 """Refuses memory to a built program, request by request.
 
-    memory.py PROGRAM [--deep] [--runs N]
+    memory.py PROGRAM [--runs N]
     memory.py PROGRAM --stack
     memory.py PROGRAM --day [MILLISECONDS]
 
@@ -11,13 +11,13 @@ the system, that refuses one request, the first, the second and so on, and then 
 would take more runs than --runs says, 3000 without it, only each second, third or so on is tried.
 
 Each run has to end within 20 seconds, with status 5 and a beginning of the answer, or with the whole answer and its
-status, and with nothing on standard error. The inputs are a hello, five nodes, a database of 1 MiB, and the replay of
-a log where the program takes that. With --deep there is one more, whose `if` nest as deep as a source may: its stack
-grows while there is no room for it, which no program can answer, so that some runs end by SIGSEGV.
+status, and with nothing on standard error. The inputs are a hello, five nodes, a database of 1 MiB, a source whose
+`if` nest as deep as a source may, and the replay of a log where the program takes that.
 
 A line for each input tells how many runs there were, and over what. The status is 1 where a run ended otherwise.
 
-With --stack it tells instead with how much stack each of the deepest nestings of sources is taken.
+With --stack it tells instead with how much stack each of the deepest nestings of sources is taken. Since the program
+touches what the deepest needs before it reads, that is the same for all, but for a nesting that needs more.
 
 With --day it tells instead whether a run with a frame and a line in each of so many milliseconds, those of a day
 without a number, ends within 64 MB of address space beyond that with which the program begins.
@@ -149,7 +149,7 @@ def scenario(*items):
     return "\n".join(["scenario 1", "node N n.can", *items]) + "\n"
 
 
-def inputs(program, folder, deep):
+def inputs(program, folder):
     """The inputs that the program takes."""
     body = ROOT / "examples" / "body-bus"
     yield Input(program, "hello", ROOT / "examples" / "hello", ["window", "hello.scn"])
@@ -163,9 +163,8 @@ def inputs(program, folder, deep):
     replay = written(folder / "replay", files)
     if subprocess.run([program, "check", "s.scn"], cwd=replay, stdout=subprocess.DEVNULL).returncode == 0:
         yield Input(program, "a replay of 500 frames", replay, ["run", "s.scn"])
-    if deep:
-        files = {"s.scn": scenario(), "n.can": "on start { " + "if (1) " * 198 + "write(\"deep\"); }"}
-        yield Input(program, "the deepest nesting", written(folder / "deep", files), ["run", "s.scn"])
+    files = {"s.scn": scenario(), "n.can": "on start { " + "if (1) " * 198 + "write(\"deep\"); }"}
+    yield Input(program, "the deepest nesting", written(folder / "deep", files), ["run", "s.scn"])
 
 
 # ---- the runs
@@ -265,7 +264,6 @@ def built(folder):
 def main():
     parser = argparse.ArgumentParser(description=__doc__, formatter_class=argparse.RawDescriptionHelpFormatter)
     parser.add_argument("program", type=lambda it: str(pathlib.Path(it).resolve()))
-    parser.add_argument("--deep", action="store_true")
     parser.add_argument("--stack", action="store_true")
     parser.add_argument("--day", nargs="?", type=int, const=DAY)
     parser.add_argument("--runs", type=int, default=3000)
@@ -282,7 +280,7 @@ def main():
         if not allocator:
             print("no gcc, so only the limits are tried")
         least = None
-        for one in inputs(words.program, folder, words.deep):
+        for one in inputs(words.program, folder):
             least = least or first_space(one)
             trials = [under_limits(one, least, words.runs)]
             trials += [under_refusals(one, allocator, words.runs)] if allocator else []

@@ -1,10 +1,13 @@
-//! The command line: takes the words, the files and the standard output of the system, runs the
-//! simulation over them, and ends with its status.
+//! The command line: touches the stack that the deepest nesting of a source needs, takes the words, the
+//! files and the standard output of the system, runs the simulation over them, and ends with its status.
 #![tactic(auto)]
+
+mod stack;
 
 use sim_outside::{RealFiles, RealSink};
 use sim_play::Out;
 use sim_run::simulate;
+use stack::{LEVEL, LEVELS, lowest};
 use stack_vm::Meter;
 use std::process::ExitCode;
 use std::rt::Env;
@@ -17,7 +20,14 @@ const NO_MEMORY: u8 = 5;
 const NOT_TEXT: u8 = 6;
 
 /// Runs the words of the command line, and ends with the status.
+///
+/// Where there is less stack than a source may need, the system ends the program at once, before
+/// anything is read.
 fn main(rt: HostRuntime) -> ExitCode {
+    // Bytes of 0 give 0, which is looked at so that the copies are made.
+    if lowest(LEVELS, &[0; LEVEL]) > 0 {
+        return ExitCode::from(NO_MEMORY);
+    }
     match words(&rt) {
         Ok(words) => {
             let mut files = RealFiles::new(&rt);
