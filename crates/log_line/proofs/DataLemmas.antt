@@ -1,6 +1,6 @@
 -- What stands behind the `#` of a frame.
 use Rattle.std.proofs.Common.{◌≡◌, ◌≢◌, ℕ, ◌<◌, ◌⊎◌, inl, inr, true, false, List, [], ◌∷◌, ◌++◌, length, refl, sym, subst, ◌∙◌, arith}
-use Rattle.std.specs.Prelude.{All, codes, Option, Some, None, IfNone, is_some}
+use Rattle.std.specs.Prelude.{All, codes}
 use Rattle.std.proofs.lemmas.List.Elements.{All-nil, All-cons, All-append}
 use Rattle.text_parts.specs.Number.{IsHexDigit}
 use Rattle.log_line.specs.FrameText.{IsBetween, SpellsBytes, SpellsCode}
@@ -47,18 +47,3 @@ pairs_in (byte ∷ bytes) text spells =
     (All-cons IsPairByte pair.high (pair.low ∷ spells.0 ++ spells.1) (inl pair.high_is)
     (All-cons IsPairByte pair.low (spells.0 ++ spells.1) (inl pair.low_is)
     (All-append IsPairByte spells.0 spells.1 (between_in spells.0 bytes spells.3) (pairs_in bytes spells.1 spells.4))))
-
--- a byte of pairs that is no dot
-digit_of : (byte : ℕ) → IsPairByte byte → byte ≢ 46 → IsHexDigit byte
-digit_of byte (inl digit) other = digit
-digit_of byte (inr dot) other = absurd (other dot)
-
--- without a dot each byte has to be a digit
-pub no_plain_data : (text : List ℕ) → ((code : List ℕ) → text ≢ codes "R" ++ code) → All (λ byte. byte ≢ 46) text → (All IsHexDigit text → ⊥) → SpellsNoData text
-no_plain_data text no_r plain none false dlc payload spells = none (λ k d within. digit_of _ (pairs_in spells.0 text spells.1 k d within) (plain k d within))
-no_plain_data text no_r plain none true dlc payload spells = no_r spells.0 spells.1
-
--- what holds where there is nothing
-pub none_told : {T : Type 0} (found : Option T) (P : Type 0) → IfNone found P → is_some found ≡ false → P
-none_told None P told is = told
-none_told (Some x) P told is = cc

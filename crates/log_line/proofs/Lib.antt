@@ -1,4 +1,5 @@
 -- The lemmas of this crate.
+mod ByteTables
 pub mod BytesLemmas
 pub mod DataLemmas
 pub mod FieldLemmas

@@ -3,7 +3,7 @@
 ghost use Rattle.std.specs.Prelude.{◌≡◌, ◌≢◌, ◌∷◌, ◌++◌, [], not, All, IfSome, IfNone, MatchOption, position};
 ghost use Rattle.log_line.specs.Fields.{is_blank, without_return, fields_of};
 
-use memchr::memchr;
+use memchr::{memchr, memchr2};
 
 /// Whether the byte is a space or a tab.
 fn is_blank(byte: u8) -> bool
@@ -16,7 +16,7 @@ fn is_blank(byte: u8) -> bool
 fn first_blank(text: &[u8]) -> Option<usize>
     ensures { result ≡ position is_blank text.now }
 {
-    text.iter().position(|byte| is_blank(*byte))
+    memchr2(b' ', b'\t', text)
 }
 
 /// The place of the first byte that is no blank.

@@ -7,7 +7,7 @@ ghost use Rattle.log_line.specs.FrameText.{SpellsBytes, SpellsCode};
 ghost use Rattle.log_line.specs.Inside.FrameField.{IsFrameField, IsIdentOf, IsFrameWith, SpellsNoData, IsData, AreBytes, SpellsNoByte, IsFirstByte, IsWithoutDot, HasParts, HasNoParts, IsUnread, HasCode, HasNoCode};
 
 use crate::fields::split_at_byte;
-use crate::numbers::{are_hex_digits, digit_value, hex_number, is_hex_digit};
+use crate::numbers::{digit_value, hex_number, is_hex_digit};
 use can_frame::{Frame, Ident};
 
 /// What the frame of a line is.
@@ -141,10 +141,6 @@ fn data_of(text: &[u8]) -> Option<Data>
             dlc: code_of(code)?,
             payload: [0; 8],
         });
-    }
-    // Most payloads have no dots, and their digits are tested at once.
-    if split_at_byte(text, b'.').is_none() && !are_hex_digits(text) {
-        return None;
     }
     let bytes = bytes_of(text)?;
     Some(Data {
