@@ -2,7 +2,7 @@
 
 use arbitration::PlainBus;
 use bus_heap::HeapBus;
-use can_bus::{Bus, Ended, Waiting};
+use can_bus::{Bus, Ended, Transmission, Waiting};
 use can_frame::{Frame, Ident};
 use std::process::Abort;
 use std::test::Fail;
@@ -59,6 +59,34 @@ fn three_requests_go_in_order(rt: HostRuntime) -> Result<(), Fail> {
     request_all(&mut bus, &[(1, later), (0, first), (0, later)])?;
     check_waiting(&rt, &bus, first);
     check_turns(&rt, &mut bus, first, later);
+    Ok(())
+}
+
+/// The frame of identifier 0 and 14 bits more, so 64, begins at 0. It waits again, and is dropped.
+fn check_waits_again(rt: &impl Abort, bus: &mut HeapBus, first: Frame) {
+    let request = Waiting {
+        node: 0,
+        number: 0,
+        frame: first,
+    };
+    assert!(rt; bus.arbitrate_longer(0, 14));
+    assert_eq!(rt; bus.on_wire(), Some(Transmission { request, end: 128 }));
+    assert!(rt; !bus.arbitrate_longer(134, 14));
+    bus.wait_again();
+    assert_eq!(rt; bus.on_wire(), None);
+    assert_eq!(rt; bus.next_time(), Some(134));
+    assert!(rt; bus.waiting().first().is_some_and(|head| *head == request));
+    bus.drop_waiting(0);
+    assert_eq!(rt; bus.waiting().len(), 1);
+}
+
+#[test]
+fn a_frame_waits_again(rt: HostRuntime) -> Result<(), Fail> {
+    let first = frame_of(0)?;
+    let later = frame_of(1)?;
+    let mut bus = HeapBus::make(rt.alloc(), 2);
+    request_all(&mut bus, &[(1, later), (0, first)])?;
+    check_waits_again(&rt, &mut bus, first);
     Ok(())
 }
 

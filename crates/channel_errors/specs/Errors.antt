@@ -17,9 +17,9 @@ use Rattle.can_bus.specs.Bus.{BusState, BitTakesTime}
 use Rattle.can_bus.specs.Bus as channel
 
 -- the plain bus, which is the one without errors; the set of the numbers of the transmissions that are
--- disturbed, counted from 1 over the whole run; how many transmissions have begun, retransmissions too; and for each
--- node its count. A node is off where its count is above 255. It never transmits again, so its count stays
--- above, and no mark besides is needed
+-- disturbed, counted from 1 over the whole run; how many transmissions have begun, retransmissions too; and
+-- for each node its count. A node is off where its count is above 255. It never transmits again, so its
+-- count stays above, and no mark besides is needed
 pub record ErrorState : Type 0 where
   pub plain : BusState
   pub planned : FinSet nat_cmp

@@ -12,7 +12,8 @@ ghost use Rattle.channel_errors.specs.Laws.{GivesNothing, WaitsAgain, OffStays, 
 /// A bus on which nothing was requested is sound, where bits take time.
 #[tactic(auto, using(crate::proofs::SoundStays::new_bus_is_sound))]
 pub fn new_bus_is_sound()
-    ensures { (bit nodes : ℕ) (planned : FinSet nat_cmp) → 1 ≤ bit → IsSoundErrors (new_bus bit planned nodes) }
+    ensures { (bit nodes : ℕ) (planned : FinSet nat_cmp) → 1 ≤ bit
+        → IsSoundErrors (new_bus bit planned nodes) }
 {}
 
 /// Frames come to the bus by requests alone, and what ends was on it: a disturbed frame that waits again

@@ -9,7 +9,8 @@
 //! frame, are this project's own.
 //!
 //! `specs/Errors.antt` has the states and what each call makes of them. That they keep the laws of
-//! `can_bus::Bus` is proved in `proofs/`, and [`laws`] has what holds of them besides.
+//! `can_bus::Bus` is proved in `proofs/`, and [`laws`] has what holds of them besides. The code that does
+//! it is that of the crate bus_errors.
 #![tactic(auto)]
 
 pub mod laws;
