@@ -1,8 +1,9 @@
 #!/usr/bin/env python3
 """Times runs of many nodes on one bus.
 
-    many.py PROGRAM [--nodes N ..] [--until MS] [--command NAME] [--picks N] [--rounds N] [--core N]
-    many.py --write FOLDER [--nodes N] [--until MS] [--picks N]
+    many.py PROGRAM [--nodes N ..] [--until MS] [--active N] [--timers N] [--command NAME] [--picks N] [--rounds N]
+            [--core N]
+    many.py --write FOLDER [--nodes N] [--until MS] [--active N] [--timers N] [--picks N]
 
 What it measures is what nodes cost beside the instructions of their procedures: the rounds, in which each
 node is asked for its next task, the choice by picks, the timers of all nodes, the choice of a message
@@ -12,6 +13,10 @@ Each node sends a frame of 8 bytes by a cyclic timer, of 20 to 100 milliseconds 
 more, of 10 milliseconds, that goes over an array. It has message procedures for one other node's
 identifier, for those of the half in which it is not, and for all others, its own among them, so a frame is
 a task of every node. With 64 nodes that is some 115,000 tasks in a simulated second, and two fifths of the bus.
+
+With --active so many nodes alone have procedures, and the others have none; with --timers each of these has so
+many more timers of 10 milliseconds, all due at one moment, so that it has as many tasks in one round. So
+`--nodes 64 --active 1 --timers 40` tells what a task costs beside 63 nodes that have none.
 
 For 1, 2, 4 and so on up to 64 nodes, or the numbers given, the program runs the command (`profile`, which
 writes least) so many rounds, 5 if not given, pinned to one core. A row tells the frames, tasks and turns of
@@ -117,12 +122,20 @@ def stop(why):
 # ---- the scenario
 
 
-def source(number, count):
-    """The source of a node, of so many."""
+MORE_TIMER = """\
+variables {{ msTimer tMore{timer}; }}
+on start {{ setTimerCyclic(tMore{timer}, 10); }}
+on timer tMore{timer} {{ gMost++; }}
+"""
+
+
+def source(number, count, timers):
+    """The source of a node, of so many, with so many more timers."""
     half = (count + 1) // 2
     low, high = (half, max(half, count - 1)) if number < half else (0, half - 1)
-    return SOURCE.format(number=number, count=count, period=PERIODS[number % len(PERIODS)],
-                         own=FIRST + number, next=FIRST + (number + 1) % count, low=FIRST + low, high=FIRST + high)
+    own = SOURCE.format(number=number, count=count, period=PERIODS[number % len(PERIODS)],
+                        own=FIRST + number, next=FIRST + (number + 1) % count, low=FIRST + low, high=FIRST + high)
+    return own + "".join(MORE_TIMER.format(timer=timer) for timer in range(timers))
 
 
 def scenario(count, until, picks):
@@ -134,13 +147,14 @@ def scenario(count, until, picks):
     return "\n".join(lines) + "\n"
 
 
-def write(folder, count, until, picks):
+def write(words, folder, count):
     """Writes the scenario of so many nodes, with its sources, and gives its name."""
     folder.mkdir(parents=True, exist_ok=True)
     for number in range(count):
-        (folder / f"n{number}.can").write_text(source(number, count), encoding="utf-8")
+        own = source(number, count, words.timers) if number < words.active else ""
+        (folder / f"n{number}.can").write_text(own, encoding="utf-8")
     name = folder / f"many{count}.scn"
-    name.write_text(scenario(count, until, picks), encoding="utf-8")
+    name.write_text(scenario(count, words.until, words.picks), encoding="utf-8")
     return name
 
 
@@ -155,13 +169,13 @@ def said(program, command, name):
     return done.stdout.splitlines()
 
 
-def figures(program, name, count):
-    """The frames, the tasks and the turns of a run, which have to fit each other."""
+def figures(program, name, active):
+    """The frames, the tasks and the turns of a run with so many nodes that see frames, which have to fit each other."""
     frames = len(said(program, "log", name))
     rows = [line.split() for line in said(program, "profile", name)]
     seen = sum(int(row[4]) for row in rows if row[3] == "message")
-    if seen != frames * count:
-        stop(f"{frames} frames are seen {seen} times by {count} nodes")
+    if seen != frames * active:
+        stop(f"{frames} frames are seen {seen} times by {active} nodes")
     return frames, sum(int(row[4]) for row in rows), sum(int(row[5]) for row in rows)
 
 
@@ -179,8 +193,8 @@ def timed(program, command, name, core):
 
 def report(words, folder, count):
     """Prints the row of so many nodes."""
-    name = write(folder, count, words.until, words.picks)
-    frames, tasks, turns = figures(words.program, name, count)
+    name = write(words, folder, count)
+    frames, tasks, turns = figures(words.program, name, min(count, words.active))
     runs = [timed(words.program, words.command, name, words.core) for _ in range(words.rounds)]
     seconds = [it[0] for it in runs]
     middle = statistics.median(seconds)
@@ -195,6 +209,8 @@ def main():
     parser.add_argument("program", nargs="?", type=lambda it: pathlib.Path(it).resolve())
     parser.add_argument("--nodes", type=int, nargs="+", choices=range(1, MOST + 1), metavar="N")
     parser.add_argument("--until", type=int, default=UNTIL)
+    parser.add_argument("--active", type=int, default=MOST)
+    parser.add_argument("--timers", type=int, default=0)
     parser.add_argument("--command", default="profile", choices=["check", "window", "log", "run", "profile"])
     parser.add_argument("--picks", type=int, default=0)
     parser.add_argument("--rounds", type=int, default=5)
@@ -203,7 +219,7 @@ def main():
     words = parser.parse_args()
     if words.write:
         for count in words.nodes or [MOST]:
-            print(write(words.write, count, words.until, words.picks))
+            print(write(words, words.write, count))
         return
     if not words.program:
         parser.error("a program is needed")

@@ -16,7 +16,7 @@ A folder that is run more than once has such files for each run, whose names go 
 the same `-` and word: `words-log`, `stdout-log`, `status-log`.
 
 Each scenario runs in a copy of its folder, for at most 60 seconds, and nothing
-may stand on standard error. Then examples/body-bus runs under random picks: its frames,
+may stand on standard error. Then examples/body-bus runs under random picks: its log,
 the lines of each of its nodes and its profile have to be the same under all of them.
 At each bit rate its log is replayed to a node without procedures, which has to give the same log.
 A log of 64 MiB has to be read, and one of a byte more refused; both are of zeros alone, and made for the trial.
@@ -48,7 +48,7 @@ FEW = 7
 
 # The random picks over BUS: how many lists, how many picks in each (a pick for each task), and the seed.
 BUS = ROOT / "examples" / "body-bus"
-LISTS = 20
+LISTS = 100
 PICKS = 1000
 SEED = 20
 
@@ -153,7 +153,7 @@ def faults_of(program, folder, which):
 
 
 def told_apart(out):
-    """The lines of each node, and under an empty name all others, which are frames or those of a profile."""
+    """The lines of each node, and under an empty name all others, which are those of a log or of a profile."""
     lines = {}
     for line in out.splitlines():
         name = line.split(b" ", 3)[2] if line.startswith(b"w ") else b""
@@ -177,14 +177,14 @@ def outs_of_picks(program, command):
 def faults_of_picks(program):
     """What is wrong with BUS under random picks, beside its run without any."""
     try:
-        outs = {command: list(outs_of_picks(program, command)) for command in ("run", "profile")}
+        outs = {command: list(outs_of_picks(program, command)) for command in ("log", "window", "profile")}
     except subprocess.TimeoutExpired:
         return [f"no end within {SECONDS} seconds"]
-    faults = [f"{command}: list {number} of picks changes the frames, a node's lines or the profile"
+    faults = [f"{command}: list {number} of picks changes the log, a node's lines or the profile"
               for command, several in outs.items() for number, out in enumerate(several)
               if told_apart(out) != told_apart(several[0])]
-    if len(set(outs["run"])) == 1:
-        faults.append("run: no list of picks changes in which order lines come")
+    if len(set(outs["window"])) == 1:
+        faults.append("window: no list of picks changes in which order lines come")
     return faults
 
 

@@ -1,8 +1,7 @@
 -- Nodes that run their code do each task that they have left.
-use Rattle.std.proofs.Common.{◌≡◌, ℕ, ◌<◌, Bool, List, [], ◌∷◌, All, refl, ap, ◌∙◌}
+use Rattle.std.proofs.Common.{◌≡◌, ℕ, ◌<◌, List, [], ◌∷◌, All, refl, ap, ◌∙◌}
 use Rattle.std.proofs.lemmas.List.Elements.{All-cons, All-head, All-nil, All-tail}
 use Rattle.can_frame.specs.Frame.{FrameFields, IsFrame}
-use Rattle.run_effects.specs.declared.event.Event.{Event}
 use Rattle.node_rounds.specs.Reaction.{NodeState}
 use Rattle.node_rounds.specs.Round.{DoesNext, Task}
 use Rattle.node_run.specs.Code.{CodeMemory, by_code, code_reaction, events_of}

@@ -1,17 +1,17 @@
 -- The tasks that nodes have left in a round, and those of the node whose task is done next.
 use Rattle.std.proofs.Common.{◌≡◌, ℕ, zero, suc, ◌+◌, ◌<◌, Bool, true, false, List, [], ◌∷◌, ◌++◌, length, Option, Some, None, arith, refl, ap, sym, subst, ◌∙◌}
-use Rattle.std.specs.Prelude.{⊤, if◌then◌else◌, is_some, IsSome, IfSome, slice_get, slice_set, ◌%◌}
+use Rattle.std.specs.Prelude.{⊤, if◌then◌else◌, is_some, IsSome, slice_get, slice_set, ◌%◌}
 use Rattle.std.specs.Option.{unwrap_or}
 use Rattle.node_rounds.specs.Reaction.{NodeState}
 use Rattle.node_rounds.specs.declared.occurrence.Trigger.{Trigger}
-use Rattle.node_rounds.specs.Round.{Doing, DoesNext, IsDone, PartOf, Rest, Task, next_of}
+use Rattle.node_rounds.specs.Round.{Doing, DoesNext, Rest, Task, next_of}
 use Rattle.node_run.specs.Code.{CodeMemory, code_reaction}
 use Rattle.node_run.specs.Node.{NodeInRound}
 use Rattle.run_meaning.specs.Order.{nodes_with_tasks, picked}
 use Rattle.run_meaning.proofs.Once.{some_same}
 use Rattle.run_meaning.proofs.OrderLemmas.{put_task}
 use Rattle.sim_core.specs.Core.{states_of}
-use Rattle.sim_core.specs.Inside.Tasks.{AreLeft, IsLeft, IsOpen, doings_of, has_next, open_nodes}
+use Rattle.sim_core.specs.Inside.Tasks.{AreLeft, IsLeft, doings_of, has_next, open_nodes}
 
 -- ---- which nodes have a task
 
@@ -171,16 +171,6 @@ none_left now number (node ∷ nodes) at is =
       },
       none_left now (number + 1) nodes at.1 both.1,
     )
-
--- where no place among them can be named there is no open node
-pub none_open : (list : List ℕ) (pick : ℕ) → slice_get list (pick % length list) ≡ None → list ≡ []
-none_open [] pick is = refl
-none_open (number ∷ list) pick is = absurd (within_some (number ∷ list) (pick % length (number ∷ list)) (omega arith) is)
-  where
-    within_some : (xs : List ℕ) (place : ℕ) → place < length xs → slice_get xs place ≡ None → ⊥
-    within_some [] place within is = absurd (omega (arith, within))
-    within_some (x ∷ xs) zero within is = absurd (let f : Some x ≡ None = is in cc)
-    within_some (x ∷ xs) (suc place) within is = within_some xs place (omega (arith, within)) is
 
 -- the node that a pick names
 pub picked_is : (list : List ℕ) (pick number : ℕ) → slice_get list (pick % length list) ≡ Some number → picked list pick ≡ number

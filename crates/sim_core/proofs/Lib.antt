@@ -6,6 +6,7 @@ pub mod NodeLists
 pub mod Lefts
 pub mod TaskSteps
 pub mod CodeLives
+pub mod OpenList
 pub mod TaskLoop
 pub mod BegunNodes
 pub mod RoundLemmas
@@ -13,3 +14,4 @@ pub mod RoundSteps
 pub mod InstantLemmas
 pub mod RunLemmas
 pub mod RunThere
+pub mod RunOrders

@@ -1,6 +1,6 @@
 -- The tasks of a round, one after another, in the order of the picks.
-use Rattle.std.proofs.Common.{◌≡◌, ℕ, zero, suc, ◌+◌, ◌<◌, ◌≤◌, inl, inr, Bool, true, false, List, [], ◌∷◌, ◌++◌, length, Option, Some, None, All, arith, refl, ap, sym, subst, ◌∙◌}
-use Rattle.std.specs.Prelude.{◌||◌, ◌%◌, ⊤, IfSome, IsSome, drop, map, slice_get, slice_set}
+use Rattle.std.proofs.Common.{◌≡◌, ℕ, zero, suc, ◌+◌, ◌<◌, ◌≤◌, inl, inr, Bool, true, false, List, [], ◌∷◌, ◌++◌, length, Option, Some, None, arith, refl, ap, sym, subst, ◌∙◌}
+use Rattle.std.specs.Prelude.{◌||◌, ◌%◌, IfSome, IsSome, drop, map, slice_get, slice_set}
 use Rattle.std.specs.List.{AllByRecursion, sum_by}
 use Rattle.std.proofs.lemmas.List.{append-nil, append_assoc}
 use Rattle.std.proofs.lemmas.List.Sums.{sum_by-cons}
@@ -12,9 +12,9 @@ use Rattle.run_records.specs.Record.{RecordMeaning}
 use Rattle.stack_vm.specs.declared.meter.MeterRow.{MeterRow}
 use Rattle.node_rounds.specs.Entries.{after_requests}
 use Rattle.node_rounds.specs.Reaction.{NodeState}
-use Rattle.node_rounds.specs.Round.{Doing, DoesNext, Task, next_of}
+use Rattle.node_rounds.specs.Round.{DoesNext, Task, next_of}
 use Rattle.node_run.specs.Code.{CodeMemory, code_reaction}
-use Rattle.node_run.specs.Node.{DoesTask, HasRows, IsTaskRefused, NodeInRound}
+use Rattle.node_run.specs.Node.{NodeInRound}
 use Rattle.run_meaning.specs.Bus.{after_all_tasks}
 use Rattle.run_meaning.specs.Done.{AreCut, AreDone}
 use Rattle.run_meaning.specs.Order.{first_tasks, next_pick, nodes_with_tasks, picked, picks_after, task_count}
@@ -24,11 +24,11 @@ use Rattle.run_meaning.proofs.DoneLemmas.{cut_more, done_more, done_none}
 use Rattle.run_meaning.proofs.EachPart.{to_do}
 use Rattle.run_meaning.proofs.Once.{some_same}
 use Rattle.run_meaning.proofs.OrderLemmas.{bus_put, picks_put, put_task, steps_put, stop_put}
-use Rattle.sim_core.specs.Core.{HaveRows, KeepsNodes, rows_of, states_of}
+use Rattle.sim_core.specs.Core.{KeepsNodes, rows_of, states_of}
 use Rattle.sim_core.specs.Inside.Kept.{IsIdle}
-use Rattle.sim_core.specs.Inside.Tasks.{AreLeft, AreTasksCut, DoTasks, DoesOne, IsLeft, IsOneCut, IsOpen, IsOwn, doings_of, has_next, open_nodes}
+use Rattle.sim_core.specs.Inside.Tasks.{AreLeft, AreTasksCut, DoTasks, DoesOne, IsOneCut, IsOpen, IsOwn, doings_of, has_next, open_nodes}
 use Rattle.sim_core.proofs.CodeLives.{code_left, code_less, code_next}
-use Rattle.sim_core.proofs.Lefts.{AreAt, InFront, OpenAt, closed_by, in_front, is_none, left_put, no_tasks, none_left, none_open, open_at, open_left, picked_is}
+use Rattle.sim_core.proofs.Lefts.{AreAt, closed_by, in_front, is_none, left_put, no_tasks, none_left, open_at, open_left, picked_is}
 use Rattle.sim_core.proofs.TaskSteps.{cut_task, done_task}
 
 -- ---- nodes in a list
@@ -217,10 +217,9 @@ module _ {B R : Type 0} (bus_is : BusMeaning B) (commute : RequestsCommute bus_i
   -- at the end all are done
   pub gone_all : (stops : Bool) (nodes : List NodeInRound) (bus : B) (picks : List ℕ) (into : R) (meter : List MeterRow)
       → HasGone bus_is meaning now nodes₀ bus₀ picks₀ into₀ meter₀ stops nodes bus picks into meter
-      → slice_get (open_nodes 0 nodes) (next_pick picks % length (open_nodes 0 nodes)) ≡ None
-      → DoTasks bus_is.after_request meaning now nodes₀ bus₀ picks₀ into₀ meter₀ stops nodes bus picks into meter
+      → open_nodes 0 nodes ≡ [] → DoTasks bus_is.after_request meaning now nodes₀ bus₀ picks₀ into₀ meter₀ stops nodes bus picks into meter
   gone_all stops nodes bus picks into meter gone none =
-      let left = none_left now 0 nodes (are_at now nodes gone.own) (none_open (open_nodes 0 nodes) (next_pick picks) none) in
+      let left = none_left now 0 nodes (are_at now nodes gone.own) none in
       let whole = gone.completes (no_tasks nodes) (states_of nodes) left in
       record {
         tasks = whole.all;
@@ -267,20 +266,14 @@ module _ {B R : Type 0} (bus_is : BusMeaning B) (commute : RequestsCommute bus_i
 
 -- ---- what the choice of the next node tells
 
--- the choice by the next pick
-pub chosen_is : (nodes : List NodeInRound) (picks seen : List ℕ) (pick : ℕ) (found : Option ℕ) → seen ≡ picks → pick ≡ next_pick seen
-    → slice_get (open_nodes 0 nodes) (pick % length (open_nodes 0 nodes)) ≡ found → slice_get (open_nodes 0 nodes) (next_pick picks % length (open_nodes 0 nodes)) ≡ found
-chosen_is nodes picks seen pick found same is chosen =
-    ap (λ p. slice_get (open_nodes 0 nodes) (p % length (open_nodes 0 nodes))) (sym (is ∙ ap next_pick same)) ∙ chosen
-
 if_some : {X : Type 0} (P : X → Type 0) (o : Option X) (x : X) → o ≡ Some x → P x → IfSome o P
 if_some P o x is p = subst (λ o. IfSome o P) (sym is) p
 
 -- the chosen node stands in the list and has a further task
-pub is_open : (nodes : List NodeInRound) (picks seen : List ℕ) (pick number : ℕ) → seen ≡ picks → pick ≡ next_pick seen
-    → slice_get (open_nodes 0 nodes) (pick % length (open_nodes 0 nodes)) ≡ Some number → (number < length nodes) × IsOpen nodes number
-is_open nodes picks seen pick number same is chosen =
-    let open_ = open_at 0 (pick % length (open_nodes 0 nodes)) number nodes chosen in
+pub is_open : (nodes : List NodeInRound) (picks : List ℕ) (number : ℕ) → slice_get (open_nodes 0 nodes) (next_pick picks % length (open_nodes 0 nodes)) ≡ Some number
+    → (number < length nodes) × IsOpen nodes number
+is_open nodes picks number chosen =
+    let open_ = open_at 0 (next_pick picks % length (open_nodes 0 nodes)) number nodes chosen in
     let place : open_.place ≡ number = let e = open_.is in omega (arith, e) in
     let at : slice_get nodes number ≡ Some open_.node = ap (λ k. slice_get nodes k) (sym place) ∙ open_.at in
     (at_within nodes number open_.node at, if_some (λ node. IsSome (next_of code_reaction node.moment node.doing)) (slice_get nodes number) open_.node at open_.next)

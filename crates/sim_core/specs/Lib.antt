@@ -1,3 +1,4 @@
 -- The definitions of this crate.
 pub mod Core
+pub mod Orders
 pub mod Inside

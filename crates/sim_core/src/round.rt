@@ -17,7 +17,7 @@ ghost use Rattle.sim_core.specs.Inside.Rounds.{AreRoundsCut, DoesRound, DoesRoun
 
 use crate::keys::keys_at;
 use crate::simulation::Core;
-use crate::tasks::{begin_all, do_tasks};
+use crate::tasks::{begin_all, do_tasks, list_open};
 use can_bus::{Bus, Ended};
 use node_run::{Round, TaskFault};
 use run_records::Record;
@@ -67,8 +67,12 @@ impl<B: Bus> Core<B> {
         let Ok(()) = begin_all(&mut self.nodes, round, self.moment, ended, keys) else {
             return Err(TaskFault::NoMemory);
         };
+        let Ok(()) = list_open(&self.nodes, &mut self.open_ones) else {
+            return Err(TaskFault::NoMemory);
+        };
         let stops = do_tasks(
             &mut self.nodes,
+            &mut self.open_ones,
             self.moment,
             &mut self.bus,
             &mut self.picks,

@@ -43,6 +43,9 @@ pub enum Step {
 pub struct Core<B: Bus> {
     pub(crate) alloc: Global,
     pub(crate) nodes: Vec<Node>,
+    /// The numbers of the nodes that have a further task in the round, in order. It keeps its room, so no
+    /// later round takes memory for it.
+    pub(crate) open_ones: Vec<usize>,
     pub(crate) bus: B,
     pub(crate) keys: Upcoming<KeyItem>,
     pub(crate) requests: Upcoming<Request>,
@@ -111,6 +114,7 @@ impl<B: Bus> Core<B> {
         Core {
             alloc,
             nodes,
+            open_ones: Vec::new(alloc),
             bus,
             keys: Upcoming::all_of(keys),
             requests: Upcoming::all_of(replay),

@@ -1,13 +1,13 @@
 // The tasks of the nodes in a round.
 
-ghost use Rattle.std.specs.Prelude.{◌≡◌, ◌<◌, ◌≤◌, ◌^◌, ◌%◌, length, slice_get, All, IfOk, OnOk, OnErr, IsErrOf};
-ghost use Rattle.std.specs.List.{AllByRecursion};
+ghost use Rattle.std.specs.Prelude.{◌≡◌, ◌<◌, ◌≤◌, ◌^◌, ◌%◌, if◌then◌else◌, [], length, None, All, IfOk, IfSome, OnOk, OnErr, IsErrOf};
+ghost use Rattle.std.specs.List.{AllByRecursion, remove};
 ghost use Rattle.run_records.specs.Record.{RecordFaultsRise};
 ghost use Rattle.run_meaning.specs.Order.{next_pick};
 ghost use Rattle.run_meaning.specs.Run.{seen_by};
 ghost use Rattle.sim_core.specs.Core.{HaveRows, KeepsNodes};
 ghost use Rattle.sim_core.specs.Inside.Kept.{IsIdle};
-ghost use Rattle.sim_core.specs.Inside.Tasks.{AreTasksCut, DoTasks, DoesOne, IsOneCut, IsOpen, IsOwn, begun_nodes, open_nodes};
+ghost use Rattle.sim_core.specs.Inside.Tasks.{AreTasksCut, DoTasks, DoesOne, IsOneCut, IsOpen, IsOwn, begun_nodes, has_next, open_nodes};
 
 use crate::upcoming::Upcoming;
 use can_bus::{Bus, Ended};
@@ -50,45 +50,43 @@ pub(crate) fn begin_all(
     Ok(())
 }
 
-/// How many nodes have a further task.
-fn open_count(nodes: &[Node]) -> usize
-    ensures { result ≡ length (open_nodes 0 nodes.now) }
+/// Lists the numbers of the nodes that have a further task, in order, in place of what the list had: each
+/// node is asked once. Takes memory only where the list has no room for them.
+pub(crate) fn list_open(nodes: &[Node], open_ones: &mut Vec<usize>) -> Result<(), NoMemory>
+    ensures { OnOk result (open_ones.new.items ≡ open_nodes 0 nodes.now) }
 {
-    let mut count = 0;
-    for node in nodes {
-        if node.has_task() {
-            count += 1;
-        }
-    }
-    count
-}
-
-/// The number of the node at a place among those that have a further task.
-fn open_at(nodes: &[Node], place: usize) -> Option<usize>
-    ensures { result ≡ slice_get (open_nodes 0 nodes.now) place }
-{
-    let mut left = place;
+    open_ones.clear();
     for (number, node) in nodes.iter().enumerate() {
         if node.has_task() {
-            if left == 0 {
-                return Some(number);
-            }
-            left -= 1;
+            open_ones.push(number)?;
         }
     }
-    None
+    Ok(())
 }
 
-/// The number of the node whose task a pick names: its place among those that have a further task is the pick
-/// modulo their number. None where no node has one.
-fn next_node(nodes: &[Node], pick: u32) -> Option<usize>
-    ensures { result ≡ slice_get (open_nodes 0 nodes.now) (pick % length (open_nodes 0 nodes.now)) }
+/// The place of the node whose task a pick names, in the list of those that have a further task: the pick
+/// modulo their number. None where there is none.
+fn next_place(open_ones: &[usize], pick: u32) -> Option<usize>
+    ensures some { IfSome result (λ place. place ≡ pick % length open_ones.now) }
+    ensures within { IfSome result (λ place. place < length open_ones.now) }
+    ensures none { result ≡ None → open_ones.now ≡ [] }
 {
-    let count = open_count(nodes);
-    if count == 0 {
+    if open_ones.is_empty() {
         return None;
     }
-    open_at(nodes, pick as usize % count)
+    Some(pick as usize % open_ones.len())
+}
+
+/// Takes the node at a place out of the list where it has no further task. The others keep their order. Takes
+/// time linear in the list.
+fn leave_if_done(open_ones: &mut Vec<usize>, place: usize, node: &Node)
+    requires within { place < length open_ones.old.items }
+    ensures { open_ones.new.items ≡
+        (if has_next node.now then open_ones.old.items else remove open_ones.old.items place) }
+{
+    if !node.has_task() {
+        open_ones.remove(place);
+    }
 }
 
 /// The pick that comes next: 0 where none is left.
@@ -128,11 +126,15 @@ fn do_task_of<B: Bus, R: Record>(
 }
 
 /// Does all tasks of the round that the nodes began, in the order of the picks, and answers whether one asked
-/// to stop. Beside what the tasks take, each takes time linear in the nodes.
+/// to stop. The list has the nodes that have a further task, and is empty at the end.
+///
+/// A node leaves the list after the task that was its last, so beside what it takes itself a task takes time
+/// linear in the nodes that have a further one: at most all, 64 in a scenario. The others are not looked at.
 ///
 /// Each task takes a known trigger or a due timer away, and sets timers for later moments alone.
 pub(crate) fn do_tasks<B: Bus, R: Record>(
     nodes: &mut [Node],
+    open_ones: &mut Vec<usize>,
     now: u64,
     bus: &mut B,
     picks: &mut Upcoming<u32>,
@@ -140,6 +142,7 @@ pub(crate) fn do_tasks<B: Bus, R: Record>(
     meter: &mut Meter,
 ) -> Result<bool, TaskFault>
     requires own { AllByRecursion (IsOwn now) nodes.old }
+    requires listed { open_ones.old.items ≡ open_nodes 0 nodes.old }
     requires rows { HaveRows meter.old nodes.old }
     requires serves { length nodes.old < B.meaning.nodes bus.old }
     requires few { length nodes.old < 2 ^ 32 }
@@ -155,8 +158,10 @@ pub(crate) fn do_tasks<B: Bus, R: Record>(
     ensures as_many_rows { length meter.new ≡ length meter.old }
 {
     let mut stops = false;
-    while let Some(number) = next_node(nodes, next_pick(picks.as_slice())) {
+    while let Some(place) = next_place(open_ones, next_pick(picks.as_slice())) {
+        let number = open_ones[place];
         let asks = do_task_of(nodes, number, bus, into, meter)?;
+        leave_if_done(open_ones, place, &nodes[number]);
         picks.pass();
         stops |= asks;
     }

@@ -16,6 +16,10 @@ pub returns-in_default-clause-cut : goal.returns-in_default-clause-cut
 returns-in_default-clause-cut g c =
     no_round g.B.Bus.meaning g.R.Record.meaning c.args.round c.args.ended.now c.args.keys.now c.args.self.now g.met.B.Bus.frames_come c.requires.seen c.requires.keys c.requires.rest
 
+pub returns-in_default-list_open-clause-cut : goal.returns-in_default-list_open-clause-cut
+returns-in_default-list_open-clause-cut g c =
+    no_round g.B.Bus.meaning g.R.Record.meaning c.args.round c.args.ended.now c.args.keys.now c.args.self.now g.met.B.Bus.frames_come c.requires.seen c.requires.keys c.requires.rest
+
 pub do_tasks-requires-clause-own : goal.do_tasks-requires-clause-own
 do_tasks-requires-clause-own g c =
     let now = c.self.inside.moment in

@@ -1,0 +1,26 @@
+//! Laws of simulations that were run. Each call does nothing: its contract is the law.
+
+ghost use Rattle.std.specs.Prelude.{List, ℕ};
+ghost use Rattle.stack_vm.specs.declared.meter.MeterRow.{MeterRow};
+ghost use Rattle.sim_core.specs.Core.{CoreState, HasRun};
+ghost use Rattle.sim_core.specs.Orders.{AreRunAlike, IsInterleaved};
+
+use can_bus::Bus;
+use run_records::Record;
+
+/// The picks of a simulation choose an interleaving of its run.
+pub fn picks_choose_an_interleaving<B: Bus, R: Record>()
+    ensures { (before after : CoreState B) (into into_after : R) (meter meter_after : List MeterRow) →
+        HasRun B.meaning R.meaning before into meter after into_after meter_after →
+        IsInterleaved B.meaning R.meaning before into meter after into_after meter_after }
+{}
+
+/// Under other picks a simulation comes to the same, but for the order of the lines of different nodes. What
+/// its records had taken before may be different.
+pub fn picks_change_order_alone<B: Bus, R: Record>()
+    ensures { (before after end : CoreState B) (picks : List ℕ) (into into_after others others_after : R)
+        (meter meter_after meter_end : List MeterRow) →
+        HasRun B.meaning R.meaning before into meter after into_after meter_after →
+        HasRun B.meaning R.meaning (record before { picks = picks }) others meter end others_after meter_end →
+        AreRunAlike R.meaning after end into into_after others others_after meter_after meter_end }
+{}
