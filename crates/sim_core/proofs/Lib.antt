@@ -15,3 +15,4 @@ pub mod InstantLemmas
 pub mod RunLemmas
 pub mod RunThere
 pub mod RunOrders
+pub mod OneResult

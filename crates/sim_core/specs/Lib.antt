@@ -2,3 +2,4 @@
 pub mod Core
 pub mod Orders
 pub mod Inside
+pub mod Result

@@ -4,6 +4,7 @@ ghost use Rattle.std.specs.Prelude.{List, ℕ};
 ghost use Rattle.stack_vm.specs.declared.meter.MeterRow.{MeterRow};
 ghost use Rattle.sim_core.specs.Core.{CoreState, HasRun};
 ghost use Rattle.sim_core.specs.Orders.{AreRunAlike, IsInterleaved};
+ghost use Rattle.sim_core.specs.Result.{IsSameResult};
 
 use can_bus::Bus;
 use run_records::Record;
@@ -23,4 +24,15 @@ pub fn picks_change_order_alone<B: Bus, R: Record>()
         HasRun B.meaning R.meaning before into meter after into_after meter_after →
         HasRun B.meaning R.meaning (record before { picks = picks }) others meter end others_after meter_end →
         AreRunAlike R.meaning after end into into_after others others_after meter_after meter_end }
+{}
+
+/// A simulation has one result, whichever of the buses that mean the same it runs on: where two of equal
+/// nodes, keys, requests, picks and end moments were run, they left the same entries and rows, and their
+/// nodes stand alike. The bus over a list and the one over a heap mean the same: a bus of one channel.
+pub fn one_result<B: Bus, R: Record>()
+    ensures { (before after other : CoreState B) (into into_after into_other : R)
+        (meter meter_after meter_other : List MeterRow) →
+        HasRun B.meaning R.meaning before into meter after into_after meter_after →
+        HasRun B.meaning R.meaning before into meter other into_other meter_other →
+        IsSameResult R.meaning into after other into_after into_other meter_after meter_other }
 {}
