@@ -12,6 +12,8 @@ mod bare;
 #[cfg(test)]
 mod bench;
 #[cfg(test)]
+mod buses;
+#[cfg(test)]
 mod entries;
 #[cfg(test)]
 mod forms;
