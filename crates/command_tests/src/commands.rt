@@ -454,6 +454,7 @@ fn long_sources_are_refused(rt: HostRuntime) -> Result<(), Fail> {
     laws::one_answer();
     laws::accepted_inputs_have_an_answer();
     laws::numbers_are_numerals();
+    laws::picks_change_order_alone();
     Ok(())
 }
 

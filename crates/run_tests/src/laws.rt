@@ -1,7 +1,9 @@
-// Calls of the laws on the choice of procedures, on the code of sources and their runs, and on logs.
+// Calls of the laws on the choice of procedures, on the code of sources and their runs, on orders of tasks,
+// and on logs.
 
 use arbitration::PlainBus;
 use run_laws::{CodeAndSource, Sources};
+use run_records::MemRecord;
 use source_logs::SourceReaction;
 
 #[test]
@@ -23,6 +25,18 @@ fn sources_run_as_their_code() {
     run_meaning::laws::each_run::<Sources, PlainBus>();
     run_meaning::laws::one_run::<Sources, PlainBus>();
     run_meaning::laws::picks_change_no_row();
+}
+
+#[test]
+fn each_order_of_tasks_comes_to_the_same() {
+    task_orders::laws::neighbours_change_places::<Sources, PlainBus>();
+    task_orders::laws::picks_give_an_interleaving::<Sources, PlainBus>();
+    task_orders::laws::picks_are_found::<Sources, PlainBus>();
+    task_orders::laws::interleavings_end_alike::<Sources, PlainBus>();
+    task_orders::laws::picks_change_order_alone();
+    task_orders::laws::picks_change_no_meter();
+    sim_core::laws::picks_choose_an_interleaving::<PlainBus, MemRecord>();
+    sim_core::laws::picks_change_order_alone::<PlainBus, MemRecord>();
 }
 
 #[test]

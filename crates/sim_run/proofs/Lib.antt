@@ -3,6 +3,7 @@ pub mod CommandLemmas
 pub mod FileLemmas
 pub mod LoadedLemmas
 pub mod LogLemmas
+pub mod OrderLemmas
 pub mod ShownLemmas
 pub mod AnswerLemmas
 pub mod WrittenLemmas

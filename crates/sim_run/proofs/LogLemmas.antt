@@ -1,5 +1,5 @@
 -- The logs of scenarios: what is recorded is well spaced, and what is replayed to silent nodes is reproduced.
-use Rattle.std.proofs.Common.{◌≡◌, ℕ, ◌+◌, ◌/◌, ◌%◌, ◌<◌, ◌≤◌, ◌^◌, List, [], ◌∷◌, ◌++◌, All, Option, None, Some, inl, inr, map, refl, sym, ap, subst, ◌∙◌, arith, append-nil}
+use Rattle.std.proofs.Common.{◌≡◌, ℕ, ◌+◌, ◌/◌, ◌%◌, ◌<◌, ◌≤◌, ◌^◌, List, [], ◌∷◌, ◌++◌, All, inl, inr, map, refl, sym, ap, subst, ◌∙◌, arith, append-nil}
 use Rattle.std.proofs.lemmas.List.Elements.{All-cons, All-head, All-nil, All-tail}
 use Rattle.can_bus.specs.Bus.{BusState, new_bus, one_channel}
 use Rattle.capl_include.specs.Expansion.{Contents}
@@ -23,7 +23,6 @@ use Rattle.scenario.specs.declared.scenario.Epoch.{Epoch}
 use Rattle.scenario.specs.declared.scenario.KeyItem.{KeyItem}
 use Rattle.scenario.specs.declared.scenario.Scenario.{Scenario}
 use Rattle.sim_inputs.proofs.ReplayLemmas.{one_log}
-use Rattle.sim_inputs.specs.Accepted.{AreAccepted}
 use Rattle.sim_inputs.specs.Nodes.{NodeSource}
 use Rattle.sim_play.specs.Show.{interface_of, shown}
 use Rattle.sim_play.specs.declared.labels.Labels.{Labels}
@@ -34,9 +33,10 @@ use Rattle.stack_vm.specs.declared.meter.MeterRow.{MeterRow}
 use Rattle.sim_run.proofs.AnswerLemmas.{AcceptedLaw, moved_answer, moved_shown}
 use Rattle.sim_run.proofs.CommandLemmas.{one_asked}
 use Rattle.sim_run.specs.Answer.{IsAnswer, IsDone, IsShown}
-use Rattle.sim_run.specs.Command.{IsCommand}
+use Rattle.sim_run.specs.Command.{IsCommand, show_of}
 use Rattle.sim_run.specs.Logs.{IsRecorded, IsReplayedBySilent}
 use Rattle.sim_run.specs.Shown.{labels_of, shown_of}
+use Rattle.sim_run.specs.declared.command.Command.{Command}
 use Rattle.sim_run.specs.declared.command.Command.TheVariants.{Log}
 use Rattle.sim_run.specs.declared.status.Status.TheVariants.{Done}
 
@@ -55,12 +55,13 @@ log_shown scenario base sources replay list =
 
 -- ---- the answer of `log`
 
--- what `log` answers on accepted inputs
-pub log_done : (contents : Contents) (words : List (List ℕ)) (name bytes : List ℕ) (rows : List MeterRow) → IsCommand words Log name → IsAnswer contents words Done bytes rows → IsDone (Some show.Log) contents name bytes rows
-log_done contents words name bytes rows is (inl answered) =
-    moved_answer contents words answered.what (Some show.Log) answered.held contents answered.name name Done bytes rows
-    (one_asked contents words answered.what (Some show.Log) answered.held contents answered.name name answered.asked (inl (Log, is, refl, refl))) answered.answer
-log_done contents words name bytes rows is (inr (none, usage, empty, no_rows)) = absurd (none.no_command Log name is)
+-- what a command answers on accepted inputs
+pub command_done : (command : Command) (contents : Contents) (words : List (List ℕ)) (name bytes : List ℕ) (rows : List MeterRow) → IsCommand words command name → IsAnswer contents words Done bytes rows
+    → IsDone (show_of command) contents name bytes rows
+command_done command contents words name bytes rows is (inl answered) =
+    moved_answer contents words answered.what (show_of command) answered.held contents answered.name name Done bytes rows
+    (one_asked contents words answered.what (show_of command) answered.held contents answered.name name answered.asked (inl (command, is, refl, refl))) answered.answer
+command_done command contents words name bytes rows is (inr (none, usage, empty, no_rows)) = absurd (none.no_command command name is)
 
 -- ---- recorded logs
 
@@ -78,7 +79,7 @@ LoggableLaw = (log interface : List ℕ) (bit : ℕ) (item : Epoch) (replay : Re
 pub recorded_log : RecordsLaw → LoggableLaw → (contents : Contents) (words : List (List ℕ)) (name bytes : List ℕ) (rows : List MeterRow) → IsCommand words Log name → IsAnswer contents words Done bytes rows →
     IsRecorded contents name bytes
 recorded_log law loggable contents words name bytes rows is answer =
-    let done = log_done contents words name bytes rows is answer in
+    let done = command_done Log contents words name bytes rows is answer in
     let scenario : Scenario = done.scenario in
     let labels : Labels = labels_of scenario done.sources done.replay in
     let seen = done.answers in
@@ -146,7 +147,7 @@ shown_again law named epoch contents name log bytes rows is seen =
 pub reproduced_log : AcceptedLaw → ReproducesLaw → InterfaceLaw → EpochLaw → (contents : Contents) (words : List (List ℕ)) (name log bytes : List ℕ) (rows : List MeterRow) → IsCommand words Log name →
     IsReplayedBySilent contents name log → IsAnswer contents words Done bytes rows → bytes ≡ log
 reproduced_log accepted law named epoch contents words name log bytes rows command is answer =
-    let done = log_done contents words name bytes rows command answer in
+    let done = command_done Log contents words name bytes rows command answer in
     let same = accepted contents name done.scenario is.scenario done.base is.base done.sources is.sources done.replay is.replay done.accepted is.accepted in
     let here = moved_shown show.Log done.scenario is.scenario done.base done.sources done.replay bytes rows same.0 done.answers in
     let by_base = subst (λ (b : List DbcMessage). IsShown show.Log is.scenario b done.sources done.replay bytes rows) same.1 here in

@@ -3,6 +3,7 @@ pub mod Answer
 pub mod Command
 pub mod Inside
 pub mod Logs
+pub mod Orders
 pub mod Run
 pub mod Shown
 pub mod Status

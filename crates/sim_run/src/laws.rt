@@ -4,6 +4,7 @@ ghost use Rattle.std.specs.Prelude.{◌≡◌, ◌<◌, ◌≤◌, ◌^◌, List
 ghost use Rattle.sim_run.specs.Answer.{IsAnswer};
 ghost use Rattle.sim_run.specs.Command.{IsAsked, IsCommand};
 ghost use Rattle.sim_run.specs.Logs.{IsRecorded, IsReplayedBySilent};
+ghost use Rattle.sim_run.specs.Orders.{AreAnswered, AreReordered};
 ghost use Rattle.sim_run.specs.declared.command.Command.{Command};
 ghost use Rattle.sim_play.specs.declared.labels.Show.{Show};
 ghost use Rattle.replay_node.specs.declared.replay.Replay.{Replay};
@@ -64,6 +65,25 @@ pub fn logs_are_reproduced()
     one_reading();
     scenarios_can_be_replayed();
     silent_sources_reproduce_a_log();
+}
+
+/// Of two scenarios that are the same but for their picks the log is the same, byte for byte, and the
+/// profile; each event procedure runs as often and takes as many turns; and in the window, and in a run,
+/// nothing but the order of lines of different nodes is different.
+pub fn picks_change_order_alone()
+    ensures log { (bytes more : List ℕ) (rows counts : List MeterRow) →
+        AreAnswered Command.Log bytes more rows counts → more ≡ bytes }
+    ensures profile { (bytes more : List ℕ) (rows counts : List MeterRow) →
+        AreAnswered Command.Profile bytes more rows counts → more ≡ bytes }
+    ensures counts { (command : Command) (bytes more : List ℕ) (rows counts : List MeterRow) →
+        AreAnswered command bytes more rows counts → counts ≡ rows }
+    ensures window { (bytes more : List ℕ) (rows counts : List MeterRow) →
+        AreAnswered Command.Window bytes more rows counts → AreReordered Show.Window bytes more }
+    ensures run { (bytes more : List ℕ) (rows counts : List MeterRow) →
+        AreAnswered Command.Run bytes more rows counts → AreReordered Show.Both bytes more }
+{
+    one_reading();
+    sources_have_one_run::<HeapBus>();
 }
 
 /// What the lines have of a number in decimal digits is a numeral that stands for it.
