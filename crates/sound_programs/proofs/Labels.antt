@@ -1,0 +1,149 @@
+-- The labels of a `switch` that breaks no rule differ, and each is a number of its kind.
+use mathlib.Core.Former.{Count}
+use Rattle.std.proofs.Common.{◌≡◌, ◌≢◌, ℕ, suc, ◌+◌, ◌≤◌, ◌<◌, ◌^◌, Bool, true, false, List, [], ◌∷◌, ◌++◌, length, map, Option, Some, None, refl, sym, ap, ◌∙◌, subst, arith}
+use Rattle.std.specs.Prelude.{⊤, ℤ, All, AllPairs, IfSome, filter_map, flat_map}
+use Rattle.std.specs.List.{AllByRecursion, cons_option}
+use Rattle.std.specs.Option.{option_map}
+use Rattle.std.specs.Ordering.{int_eq}
+use Rattle.std.proofs.lemmas.Bool.Decides.{Decides-int_eq}
+use Rattle.std.proofs.lemmas.List.Elements.{All-from_recursion, filter_map-append}
+use Rattle.int_kinds.specs.declared.kinds.Kind.{Kind}
+use Rattle.int_kinds.specs.Kind.{IsNumber, join, wrap}
+use Rattle.int_kinds.proofs.Values.{IsNumber-wrap}
+use Rattle.capl_tree.specs.declared.expr.Expr.{Expr}
+use Rattle.capl_tree.specs.declared.statement.Stmt.TheBlock.{Row_of-Group, end_of-Group, more_of-Group, items-the_row-Group}
+use Rattle.capl_tree.specs.declared.statement.Label.{Label}
+use Rattle.typed_tree.specs.SoundStatement.{all_labels}
+use Rattle.typed_tree.specs.Statement as typed
+use Rattle.capl_meaning.specs.declared.sort.Sort.{Sort}
+use Rattle.capl_meaning.specs.declared.sort.Sort.TheVariants as sort
+use Rattle.capl_meaning.specs.Names.{Scope}
+use Rattle.capl_meaning.specs.Constant.{constant_at}
+use Rattle.capl_meaning.specs.Statement.{label_of}
+use Rattle.capl_meaning.specs.StatementRules.{Said, Saying, Default, Case, Unclear, labels_of, labels_rule, repeated, said_by, same_saying, saying_of_number, saying_of_value}
+use Rattle.typed_source.specs.Statement.{formats_of_row, groups_of}
+use Rattle.sound_programs.specs.Small.{AreSmallGroups}
+use Rattle.sound_programs.proofs.Empty.{unmapped}
+use Rattle.sound_programs.proofs.Repeated.{Apart, not_repeated, pairs}
+
+-- ---- labels by what they say
+
+-- the label that says something, if it says something
+abbrev label_by : Saying → Option (Option ℤ)
+label_by Default = Some None
+label_by (Case n) = Some (Some n)
+label_by Unclear = None
+
+-- the labels of what is said
+abbrev labels_by : List Said → List (Option ℤ)
+labels_by all = filter_map (λ (said : Said). label_by said.saying) all
+
+-- two labels that do not say the same differ
+differ : (a b : Saying) (m n : Option ℤ) → same_saying b a ≡ false → label_by a ≡ Some m → label_by b ≡ Some n → m ≢ n
+differ Default Default m n apart one other same = let f : true ≡ false = apart in cc
+differ Default (Case q) m n apart one other same = let f : Some None ≡ Some m = one in let g : Some (Some q) ≡ Some n = other in cc
+differ (Case p) Default m n apart one other same = let f : Some (Some p) ≡ Some m = one in let g : Some None ≡ Some n = other in cc
+differ (Case p) (Case q) m n apart one other same =
+    let f : Some (Some p) ≡ Some m = one in
+    let g : Some (Some q) ≡ Some n = other in
+    let equal : q ≡ p = cc in
+    let h : int_eq q p ≡ true = (Decides-int_eq q p).1 equal in
+    let e : true ≡ false = sym h ∙ apart in cc
+differ Unclear b m n apart one other same = let f : None ≡ Some m = one in cc
+differ Default Unclear m n apart one other same = let g : None ≡ Some n = other in cc
+differ (Case p) Unclear m n apart one other same = let g : None ≡ Some n = other in cc
+
+-- a label differs from those of what says nothing that is the same
+all_differ : (x : Said) (m : Option ℤ) (all : List Said) → label_by x.saying ≡ Some m → AllByRecursion (λ (y : Said). same_saying y.saying x.saying ≡ false) all → AllByRecursion (λ n. m ≢ n) (labels_by all)
+all_differ x m [] is apart = tt
+all_differ x m (y ∷ ys) is apart = go (label_by y.saying) refl (all_differ x m ys is apart.1)
+  where
+    go : (o : Option (Option ℤ)) → label_by y.saying ≡ o → AllByRecursion (λ n. m ≢ n) (labels_by ys) → AllByRecursion (λ n. m ≢ n) (cons_option o (labels_by ys))
+    go None e rest = rest
+    go (Some n) e rest = (differ x.saying y.saying m n apart.0 is e, rest)
+
+labels_apart : (all : List Said) → Apart (λ (x y : Said). same_saying y.saying x.saying ≡ false) all → Apart (λ m n. m ≢ n) (labels_by all)
+labels_apart [] h = tt
+labels_apart (x ∷ xs) h = go (label_by x.saying) refl (labels_apart xs h.1)
+  where
+    go : (o : Option (Option ℤ)) → label_by x.saying ≡ o → Apart (λ m n. m ≢ n) (labels_by xs) → Apart (λ m n. m ≢ n) (cons_option o (labels_by xs))
+    go None e rest = rest
+    go (Some m) e rest = (all_differ x m xs e h.0, rest)
+
+module _ (s : Scope) where
+  -- a label is what it says
+  says : (k : Kind) (label : Label) → label_of s (join k k) label.at label.value ≡ label_by (said_by s (sort.Number k) label).saying
+  says k label = go label.value
+    where
+      by : (o : Option ℤ) → option_map (λ n. Some (wrap (join k k) n)) o ≡ label_by (saying_of_number (join k k) o)
+      by None = refl
+      by (Some n) = refl
+
+      go : (value : Option Expr) → label_of s (join k k) label.at value ≡ label_by (saying_of_value s label.at (sort.Number k) value)
+      go None = refl
+      go (Some e) = by (constant_at s label.at e)
+
+  all_say : (k : Kind) (labels : List Label) → filter_map (λ (label : Label). label_of s (join k k) label.at label.value) labels ≡ labels_by (map (said_by s (sort.Number k)) labels)
+  all_say k [] = refl
+  all_say k (label ∷ rest) =
+      ap (λ o. cons_option o (filter_map (λ (label : Label). label_of s (join k k) label.at label.value) rest)) (says k label)
+      ∙ ap (λ l. cons_option (label_by (said_by s (sort.Number k) label).saying) l) (all_say k rest)
+
+  -- the labels of all groups in a kind
+  abbrev labels_in : Kind → List Label → List (Option ℤ)
+  labels_in k labels = filter_map (λ (label : Label). label_of s k label.at label.value) labels
+
+  -- they are the labels of the groups' trees
+  gathered : (order : List ℕ) (k : Kind) (before : ℕ) {m : Count} (groups : Row_of-Group m) → all_labels (groups_of s order k before groups) ≡ labels_in k (labels_of groups)
+  gathered order k before end_of-Group = refl
+  gathered order k before (more_of-Group labels shape body rest) =
+      ap (λ l. labels_in k labels ++ l) (gathered order k (before + length (formats_of_row s body)) rest) ∙ sym (filter_map-append (λ (label : Label). label_of s k label.at label.value) labels (labels_of rest))
+
+  -- the labels of a `switch` over a number differ
+  pub labels_differ : (order : List ℕ) (k : Kind) (before : ℕ) {m : Count} (groups : Row_of-Group m) → labels_rule s (sort.Number k) (labels_of groups) ≡ [] →
+      AllPairs (λ a b. a ≢ b) (all_labels (groups_of s order (join k k) before groups))
+  labels_differ order k before groups none =
+      let apart = not_repeated (λ (a b : Said). same_saying a.saying b.saying) (map (said_by s (sort.Number k)) (labels_of groups)) (unmapped _ _ none) in
+      subst (λ l. AllPairs (λ a b. a ≢ b) l) (sym (gathered order (join k k) before groups ∙ all_say k (labels_of groups)))
+      (pairs (λ a b. a ≢ b) (labels_by (map (said_by s (sort.Number k)) (labels_of groups))) (labels_apart (map (said_by s (sort.Number k)) (labels_of groups)) apart))
+
+  -- and each is a number
+  pub labels_in_range : (order : List ℕ) (k : Kind) (before : ℕ) {m : Count} (groups : Row_of-Group m) → All (λ label. IfSome label IsNumber) (all_labels (groups_of s order k before groups))
+  labels_in_range order k before groups =
+      subst (λ l. All (λ label. IfSome label IsNumber) l) (sym (gathered order k before groups)) (All-from_recursion (λ label. IfSome label IsNumber) _ (each (labels_of groups)))
+    where
+      one : (at : ℕ) (value : Option Expr) (rest : List (Option ℤ)) → AllByRecursion (λ label. IfSome label IsNumber) rest → AllByRecursion (λ label. IfSome label IsNumber) (cons_option (label_of s k at value) rest)
+      one at None rest h = (tt, h)
+      one at (Some e) rest h = go (constant_at s at e)
+        where
+          go : (o : Option ℤ) → AllByRecursion (λ label. IfSome label IsNumber) (cons_option (option_map (λ n. Some (wrap k n)) o) rest)
+          go None = h
+          go (Some n) = (IsNumber-wrap k n, h)
+
+      each : (labels : List Label) → AllByRecursion (λ label. IfSome label IsNumber) (labels_in k labels)
+      each [] = tt
+      each (label ∷ rest) = one label.at label.value (labels_in k rest) (each rest)
+
+  -- ---- how many
+
+  few_in : (k : Kind) (labels : List Label) → length (labels_in k labels) ≤ length labels
+  few_in k [] = omega arith
+  few_in k (label ∷ rest) = go (label_of s k label.at label.value) (few_in k rest)
+    where
+      go : (o : Option (Option ℤ)) → length (labels_in k rest) ≤ length rest → length (cons_option o (labels_in k rest)) ≤ suc (length rest)
+      go None h = omega (arith, h)
+      go (Some m) h = omega (arith, h)
+
+  -- as many groups as in the source
+  pub as_many_groups : (order : List ℕ) (k : Kind) (before : ℕ) {m : Count} (groups : Row_of-Group m) → length (typed.labels_of (groups_of s order k before groups)) ≡ length (items-the_row-Group m groups)
+  as_many_groups order k before end_of-Group = refl
+  as_many_groups order k before (more_of-Group labels shape body rest) = ap suc (as_many_groups order k (before + length (formats_of_row s body)) rest)
+
+  -- and no more labels
+  pub few_labels : (order : List ℕ) (k : Kind) (before : ℕ) {m : Count} (groups : Row_of-Group m) → AreSmallGroups groups → All (λ labels. length labels < 2 ^ 32) (typed.labels_of (groups_of s order k before groups))
+  few_labels order k before groups few = All-from_recursion (λ labels. length labels < 2 ^ 32) _ (each before groups few)
+    where
+      each : (before : ℕ) {m : Count} (groups : Row_of-Group m) → AreSmallGroups groups → AllByRecursion (λ labels. length labels < 2 ^ 32) (typed.labels_of (groups_of s order k before groups))
+      each before end_of-Group few = tt
+      each before (more_of-Group labels shape body rest) few =
+          (let most : length (labels_in k labels) ≤ length labels = few_in k labels in let short : length labels < 2 ^ 32 = few.0 in omega (arith, most, short), each (before + length (formats_of_row s body)) rest few.3)

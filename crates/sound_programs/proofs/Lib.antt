@@ -1,0 +1,13 @@
+-- Lemmas on the programs that break no rule.
+pub mod Empty
+pub mod Sorts
+pub mod Fine
+pub mod Made
+pub mod Written
+pub mod Named
+pub mod Alone
+pub mod Repeated
+pub mod Labels
+pub mod Statements
+pub mod Constants
+pub mod Declarations

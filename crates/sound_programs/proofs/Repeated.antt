@@ -1,0 +1,52 @@
+-- Things of which none is the same as an earlier one.
+use Rattle.std.proofs.Common.{◌≡◌, ◌≢◌, ℕ, zero, suc, ◌<◌, Bool, true, false, List, [], ◌∷◌, ◌++◌, length, refl, sym, ap, ◌∙◌, arith}
+use Rattle.std.specs.Prelude.{⊤, AllPairs, if◌then◌else◌}
+use Rattle.std.specs.List.{AllByRecursion, list_any}
+use Rattle.std.proofs.lemmas.List.Elements.{All-from_recursion}
+use Rattle.capl_meaning.specs.StatementRules.{repeated}
+use Rattle.sound_programs.proofs.Empty.{back, front, full}
+
+-- each thing is so to each later one
+abbrev pub Apart : {A : Type 0} → (A → A → Type 0) → List A → Type 0
+Apart R [] = ⊤
+Apart R (x ∷ xs) = AllByRecursion (λ y. R x y) xs × Apart R xs
+
+-- then any two of them are
+pub pairs : {A : Type 0} (R : A → A → Type 0) (xs : List A) → Apart R xs → AllPairs R xs
+pairs R [] h i j d less inside = absurd (omega (arith, inside))
+pairs R (x ∷ xs) h zero zero d less inside = absurd (omega (arith, less))
+pairs R (x ∷ xs) h zero (suc j) d less inside = All-from_recursion (λ y. R x y) xs h.0 j d (omega (arith, inside))
+pairs R (x ∷ xs) h (suc i) zero d less inside = absurd (omega (arith, less))
+pairs R (x ∷ xs) h (suc i) (suc j) d less inside = pairs R xs h.1 i j d (omega (arith, less)) (omega (arith, inside))
+
+module _ {A : Type 0} (same : A → A → Bool) where
+  -- none is the same as one that is known before it
+  abbrev NoneEarlier : List A → List A → Type 0
+  NoneEarlier earlier xs = AllByRecursion (λ x. list_any (same x) earlier ≡ false) xs
+
+  -- no later one is the same as an earlier one
+  abbrev Differs : A → A → Type 0
+  Differs earlier later = same later earlier ≡ false
+
+  none_split : (x : A) (earlier xs : List A) → NoneEarlier (x ∷ earlier) xs → NoneEarlier earlier xs × AllByRecursion (λ y. Differs x y) xs
+  none_split x earlier [] h = (tt, tt)
+  none_split x earlier (y ∷ ys) h = go (same y x) refl h.0 (none_split x earlier ys h.1)
+    where
+      go : (b : Bool) → same y x ≡ b → list_any (same y) (x ∷ earlier) ≡ false → NoneEarlier earlier ys × AllByRecursion (λ y. Differs x y) ys →
+          NoneEarlier earlier (y ∷ ys) × AllByRecursion (λ y. Differs x y) (y ∷ ys)
+      go true is e rest = absurd (let f : true ≡ false = sym (rw is refl) ∙ e in cc)
+      go false is e rest = ((sym (rw is refl) ∙ e, rest.0), (is, rest.1))
+
+  repeated_none : (earlier xs : List A) → repeated same earlier xs ≡ [] → NoneEarlier earlier xs × Apart Differs xs
+  repeated_none earlier [] e = (tt, tt)
+  repeated_none earlier (x ∷ xs) e =
+      go (list_any (same x) earlier) refl (front (if list_any (same x) earlier then x ∷ [] else []) _ e)
+      (repeated_none (x ∷ earlier) xs (back (if list_any (same x) earlier then x ∷ [] else []) _ e))
+    where
+      go : (b : Bool) → list_any (same x) earlier ≡ b → (if b then x ∷ [] else []) ≡ [] → NoneEarlier (x ∷ earlier) xs × Apart Differs xs → NoneEarlier earlier (x ∷ xs) × Apart Differs (x ∷ xs)
+      go true is e rest = absurd (full x [] e)
+      go false is e rest = let split = none_split x earlier xs rest.0 in ((is, split.0), (split.1, rest.1))
+
+  -- where none is repeated, each differs from each before it
+  pub not_repeated : (xs : List A) → repeated same [] xs ≡ [] → Apart (λ earlier later. same later earlier ≡ false) xs
+  not_repeated xs e = (repeated_none [] xs e).1

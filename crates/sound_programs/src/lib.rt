@@ -1,0 +1,4 @@
+//! A program without offences has a sound typed program, point by point.
+#![tactic(auto)]
+
+pub mod laws;
