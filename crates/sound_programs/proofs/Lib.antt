@@ -11,3 +11,5 @@ pub mod Labels
 pub mod Statements
 pub mod Constants
 pub mod Declarations
+pub mod Formats
+pub mod Texts

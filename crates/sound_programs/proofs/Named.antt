@@ -1,4 +1,5 @@
--- Which expressions are of the sort of a message or a timer: names and `this`, in parentheses.
+-- Which expressions are of the sort of a text, an array, a message or a timer: texts, names and `this`, in
+-- parentheses.
 use Rattle.std.proofs.Common.{◌≡◌, ℕ, Bool, true, false, List, [], ◌∷◌, Option, Some, None, refl, ap, ◌∙◌}
 use Rattle.std.specs.Prelude.{⊤, if◌then◌else◌, nat_le}
 use Rattle.std.specs.Option.{option_and_then, option_map_or}
@@ -19,19 +20,32 @@ use Rattle.capl_meaning.specs.declared.sort.Sort.{Sort}
 use Rattle.capl_meaning.specs.declared.sort.Sort.TheVariants as sort
 use Rattle.capl_meaning.specs.Variable.{Form, Number, Array, Message, Timer, Misfit, Variable}
 use Rattle.capl_meaning.specs.Names.{Callee, OfLanguage, OfProgram, Unknown, Scope, ThisForm, NoThis, ThisFrame, ThisKey, callee, direction, means}
-use Rattle.capl_meaning.specs.Format.{first_text, format_codes, show_all}
-use Rattle.capl_meaning.specs.Message.{Held, Member, IsField, IsSignal, IsUnusable, IsUnknown, held_by, held_this, is_number_place, is_open_number, member_named, message_in, signals_of}
+use Rattle.capl_meaning.specs.Format.{first_text, format_codes, show_all, text_in}
+use Rattle.capl_meaning.specs.Message.{Held, Member, IsField, IsSignal, IsUnusable, IsUnknown, array_by, array_in, held_by, held_this, is_number_place, is_open_number, member_named, message_in, signals_of}
 use Rattle.capl_meaning.specs.Sort.{number_from, sort_given, sort_of, sort_of_assignment, sort_of_binary, sort_of_builtin, sort_of_call, sort_of_choice, sort_of_direction, sort_of_element, sort_of_form, sort_of_member, sort_of_name, sort_of_number, sort_of_part, sort_of_prefix, sort_of_step, sort_of_this, sorts_of}
 use Rattle.capl_meaning.specs.Expression.{timer_by, timer_in}
+use Rattle.typed_laws.specs.Laid.{HasForm}
+use Rattle.typed_laws.proofs.Places.{means_among}
 
--- an expression of a sort names what the sort says: a message, or a timer
+-- an array of a kind that is named, and no text
+pub record IsArrayOf (s : Scope) (e : Expr) (k : Kind) : Type 0 where
+  pub variable : Variable
+  pub fixed : Bool
+  pub size : Expr
+  pub is : array_in s e ≡ Some variable
+  pub form : HasForm s.names variable (Array k fixed size)
+  pub no_text : text_in e ≡ None
+
+-- an expression of a sort names what the sort says: a text, an array, a message, or a timer
 abbrev pub Names : Scope → Expr → Sort → Type 0
+Names s e sort.Text = (text : List ℕ) × (text_in e ≡ Some text)
+Names s e (sort.Array k) = IsArrayOf s e k
 Names s e sort.Message = (held : Held) × (message_in s e ≡ Some held)
 Names s e sort.Timer = (v : Variable) × (timer_in s e ≡ Some v)
 Names s e _ = ⊤
 
 module _ (s : Scope) where
-  -- a form that is neither
+  -- a form that is none of these
   if_neither : (e : Expr) (b : Bool) (one other : Sort) → Names s e one → Names s e other → Names s e (if b then one else other)
   if_neither e true one other f g = f
   if_neither e false one other f g = g
@@ -109,7 +123,14 @@ module _ (s : Scope) where
 
   by_form : (name : Text) (at : ℕ) (v : Variable) → means s name at ≡ Some v → (form : Form) → v.form ≡ form → Names s (expr.Name name at) (sort_of_form form)
   by_form name at v is (Number k fixed) e = tt
-  by_form name at v is (Array k fixed size) e = tt
+  by_form name at v is (Array k fixed size) e = record {
+    variable = v;
+    fixed = fixed;
+    size = size;
+    is = ap (λ o. option_and_then (λ v. array_by v.form v) o) is ∙ ap (λ form. array_by form v) e;
+    form = record { among = means_among s name at v is; form_is = e };
+    no_text = refl;
+  }
   by_form name at v is (Message type_) e = (_, ap (λ o. option_and_then (λ v. held_by v v.form) o) is ∙ ap (held_by v) e)
   by_form name at v is (Timer unit) e = (v, ap (λ o. option_and_then (λ v. timer_by v.form v) o) is ∙ ap (λ form. timer_by form v) e)
   by_form name at v is Misfit e = tt
@@ -126,16 +147,18 @@ module _ (s : Scope) where
   by_paren : (inner : Expr) (at : ℕ) (given : Sort) → Names s inner given → Names s (tree.Paren inner at) given
   by_paren inner at sort.Message h = h
   by_paren inner at sort.Timer h = h
+  by_paren inner at sort.Text h = h
+  by_paren inner at (sort.Array k) h = record { variable = h.variable; fixed = h.fixed; size = h.size; is = h.is; form = h.form; no_text = h.no_text }
   by_paren inner at given h = tt
 
-  -- a place of a number is neither
+  -- a place of a number is none of these
   by_place : (e place : Expr) → is_number_place s place ≡ true → Names s e (sort_of s place)
   by_place e (tree.Paren inner at) is = by_place e inner is
   by_place e (expr.Name name at) is = go (means s name at) is
     where
       by : (form : Form) → is_open_number form ≡ true → Names s e (sort_of_form form)
       by (Number k fixed) h = tt
-      by (Array k fixed size) h = tt
+      by (Array k fixed size) h = absurd (let f : false ≡ true = h in cc)
       by (Message type_) h = absurd (let f : false ≡ true = h in cc)
       by (Timer unit) h = absurd (let f : false ≡ true = h in cc)
       by Misfit h = tt
@@ -163,7 +186,7 @@ module _ (s : Scope) where
   pub names : (e : Expr) → Names s e (sort_of s e)
   names (expr.Num value extended at) = by_number (expr.Num value extended at) value extended
   names (expr.Char value at) = tt
-  names (expr.Str text at) = tt
+  names (expr.Str text at) = (text, refl)
   names (expr.This at) = by_this at s.this refl
   names (expr.Name name at) = by_name name at (means s name at) refl
   names (tree.Paren inner at) = by_paren inner at (sort_of s inner) (names inner)
