@@ -24,7 +24,7 @@ use Rattle.capl_meaning.specs.StatementRules.{Said, Saying, Default, Case, Uncle
 use Rattle.typed_source.specs.Statement.{formats_of_row, groups_of}
 use Rattle.sound_programs.specs.Small.{AreSmallGroups}
 use Rattle.sound_programs.proofs.Empty.{unmapped}
-use Rattle.sound_programs.proofs.Repeated.{Apart, not_repeated, pairs}
+use Rattle.sound_programs.proofs.Repeated.{Apart, kept_apart, not_repeated, pairs}
 
 -- ---- labels by what they say
 
@@ -53,22 +53,9 @@ differ Unclear b m n apart one other same = let f : None ≡ Some m = one in cc
 differ Default Unclear m n apart one other same = let g : None ≡ Some n = other in cc
 differ (Case p) Unclear m n apart one other same = let g : None ≡ Some n = other in cc
 
--- a label differs from those of what says nothing that is the same
-all_differ : (x : Said) (m : Option ℤ) (all : List Said) → label_by x.saying ≡ Some m → AllByRecursion (λ (y : Said). same_saying y.saying x.saying ≡ false) all → AllByRecursion (λ n. m ≢ n) (labels_by all)
-all_differ x m [] is apart = tt
-all_differ x m (y ∷ ys) is apart = go (label_by y.saying) refl (all_differ x m ys is apart.1)
-  where
-    go : (o : Option (Option ℤ)) → label_by y.saying ≡ o → AllByRecursion (λ n. m ≢ n) (labels_by ys) → AllByRecursion (λ n. m ≢ n) (cons_option o (labels_by ys))
-    go None e rest = rest
-    go (Some n) e rest = (differ x.saying y.saying m n apart.0 is e, rest)
-
 labels_apart : (all : List Said) → Apart (λ (x y : Said). same_saying y.saying x.saying ≡ false) all → Apart (λ m n. m ≢ n) (labels_by all)
-labels_apart [] h = tt
-labels_apart (x ∷ xs) h = go (label_by x.saying) refl (labels_apart xs h.1)
-  where
-    go : (o : Option (Option ℤ)) → label_by x.saying ≡ o → Apart (λ m n. m ≢ n) (labels_by xs) → Apart (λ m n. m ≢ n) (cons_option o (labels_by xs))
-    go None e rest = rest
-    go (Some m) e rest = (all_differ x m xs e h.0, rest)
+labels_apart all apart =
+    kept_apart (λ (said : Said). label_by said.saying) (λ (x y : Said). same_saying y.saying x.saying ≡ false) (λ m n. m ≢ n) (λ x y m n far one other. differ x.saying y.saying m n far one other) all apart
 
 module _ (s : Scope) where
   -- a label is what it says

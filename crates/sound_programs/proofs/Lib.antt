@@ -13,3 +13,6 @@ pub mod Constants
 pub mod Declarations
 pub mod Formats
 pub mod Texts
+pub mod Parts
+pub mod Events
+pub mod EventLists

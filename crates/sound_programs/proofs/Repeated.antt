@@ -1,7 +1,7 @@
 -- Things of which none is the same as an earlier one.
-use Rattle.std.proofs.Common.{◌≡◌, ◌≢◌, ℕ, zero, suc, ◌<◌, Bool, true, false, List, [], ◌∷◌, ◌++◌, length, refl, sym, ap, ◌∙◌, arith}
-use Rattle.std.specs.Prelude.{⊤, AllPairs, if◌then◌else◌}
-use Rattle.std.specs.List.{AllByRecursion, list_any}
+use Rattle.std.proofs.Common.{◌≡◌, ◌≢◌, ℕ, zero, suc, ◌<◌, Bool, true, false, List, [], ◌∷◌, ◌++◌, length, Option, Some, None, refl, sym, ap, ◌∙◌, arith}
+use Rattle.std.specs.Prelude.{⊤, AllPairs, filter_map, if◌then◌else◌}
+use Rattle.std.specs.List.{AllByRecursion, cons_option, list_any}
 use Rattle.std.proofs.lemmas.List.Elements.{All-from_recursion}
 use Rattle.capl_meaning.specs.StatementRules.{repeated}
 use Rattle.sound_programs.proofs.Empty.{back, front, full}
@@ -50,3 +50,34 @@ module _ {A : Type 0} (same : A → A → Bool) where
   -- where none is repeated, each differs from each before it
   pub not_repeated : (xs : List A) → repeated same [] xs ≡ [] → Apart (λ earlier later. same later earlier ≡ false) xs
   not_repeated xs e = (repeated_none [] xs e).1
+
+-- ---- what is made of things
+
+module _ {A X : Type 0} (p : A → Option X) where
+  -- where later things are apart from one, what is made of them is apart from what is made of it
+  kept_behind : (S : A → A → Type 0) (R : X → X → Type 0) → ((a b : A) (x y : X) → S a b → p a ≡ Some x → p b ≡ Some y → R x y) →
+      (a : A) (x : X) → p a ≡ Some x → (bs : List A) → AllByRecursion (λ b. S a b) bs → AllByRecursion (λ y. R x y) (filter_map p bs)
+  kept_behind S R far a x is [] apart = tt
+  kept_behind S R far a x is (b ∷ bs) apart = go (p b) refl (kept_behind S R far a x is bs apart.1)
+    where
+      go : (o : Option X) → p b ≡ o → AllByRecursion (λ y. R x y) (filter_map p bs) → AllByRecursion (λ y. R x y) (cons_option o (filter_map p bs))
+      go None e rest = rest
+      go (Some y) e rest = (far a b x y apart.0 is e, rest)
+
+  -- things that are apart make things that are
+  pub kept_apart : (S : A → A → Type 0) (R : X → X → Type 0) → ((a b : A) (x y : X) → S a b → p a ≡ Some x → p b ≡ Some y → R x y) → (xs : List A) → Apart S xs → Apart R (filter_map p xs)
+  kept_apart S R far [] h = tt
+  kept_apart S R far (a ∷ rest) h = go (p a) refl (kept_apart S R far rest h.1)
+    where
+      go : (o : Option X) → p a ≡ o → Apart R (filter_map p rest) → Apart R (cons_option o (filter_map p rest))
+      go None e others = others
+      go (Some x) e others = (kept_behind S R far a x e rest h.0, others)
+
+  -- what holds of all that is made
+  pub kept_all : (P : X → Type 0) → ((a : A) (x : X) → p a ≡ Some x → P x) → (xs : List A) → AllByRecursion P (filter_map p xs)
+  kept_all P each [] = tt
+  kept_all P each (a ∷ rest) = go (p a) refl (kept_all P each rest)
+    where
+      go : (o : Option X) → p a ≡ o → AllByRecursion P (filter_map p rest) → AllByRecursion P (cons_option o (filter_map p rest))
+      go None e others = others
+      go (Some x) e others = (each a x e, others)

@@ -1,8 +1,9 @@
 -- What the parts of a source are asked for, so that their typed trees are sound.
-use Rattle.std.specs.Prelude.{◌≡◌, ℕ, false, List, [], is_some}
+use Rattle.std.specs.Prelude.{◌≡◌, ℕ, false, List, [], is_some, All}
 use Rattle.std.specs.List.{AllByRecursion}
 use Rattle.capl_tree.specs.declared.statement.Stmt.{Stmt}
-use Rattle.capl_tree.specs.Grammar.{IsBodyPart}
+use Rattle.capl_tree.specs.declared.file.Program.{Program}
+use Rattle.capl_tree.specs.Grammar.{IsBodyPart, IsFile}
 use Rattle.typed_tree.specs.declared.program.Typed.{Typed}
 use Rattle.typed_tree.specs.SoundStatement.{Around}
 use Rattle.capl_meaning.specs.Variable.{Misfit, Variable}
@@ -12,7 +13,7 @@ use Rattle.capl_meaning.specs.StatementRules.{in_body, statement_offences}
 use Rattle.typed_laws.specs.Laid.{HasForm}
 use Rattle.typed_source.specs.Sound.{HasTables, IsCallable}
 use Rattle.typed_source.specs.Statement.{StandFrom, formats_of}
-use Rattle.sound_programs.specs.Small.{IsSmallStmt}
+use Rattle.sound_programs.specs.Small.{IsSmallProgram, IsSmallStmt}
 
 -- no variable is an array of messages or timers
 abbrev pub HaveForms : Names → Type 0
@@ -38,3 +39,8 @@ pub record StandsIn (s : Scope) (order : List ℕ) (typed : Typed) (number befor
   pub callable : AreCallable s.names order typed number (calls_of statement)
   pub formats : StandFrom before (formats_of s statement) typed.formats
   pub no_offence : statement_offences s in_body statement ≡ []
+
+-- the trees of a program are well formed and small
+pub record IsReadable (program : Program) : Type 0 where
+  pub well_formed : All IsFile program.files
+  pub small : IsSmallProgram program

@@ -2,7 +2,6 @@
 -- or more.
 use Rattle.std.specs.Prelude.{ℕ, ◌<◌, ◌^◌, List, length, IfSome, ⊤}
 use Rattle.std.specs.List.{AllByRecursion}
-use Rattle.std.specs.Option.{option_to_list}
 use Rattle.capl_tree.specs.declared.expr.Expr.{Expr, Row_of-Expr, end_of-Expr, more_of-Expr, items-the_row-Expr}
 use Rattle.capl_tree.specs.declared.expr.Expr.TheVariants as expr
 use Rattle.capl_tree.specs.declared.expr.Field.{Field}
@@ -10,6 +9,12 @@ use Rattle.capl_tree.specs.declared.expr.Field.TheVariants.{Named}
 use Rattle.capl_tree.specs.declared.statement.Stmt.{Stmt, Row_of-Stmt, end_of-Stmt, more_of-Stmt, items-the_row-Stmt}
 use Rattle.capl_tree.specs.declared.statement.Stmt.TheBlock.{Row_of-Arm, end_of-Arm, more_of-Arm, Row_of-Group, end_of-Group, more_of-Group, Held-Stmt-If-1, items-the_row-Arm, items-the_row-Group}
 use Rattle.capl_tree.specs.declared.statement.Stmt.TheVariants as stmt
+use Rattle.capl_tree.specs.declared.procedure.Proc.{Proc}
+use Rattle.capl_tree.specs.declared.procedure.Head.{Head}
+use Rattle.capl_tree.specs.declared.procedure.Head.TheVariants as head
+use Rattle.capl_tree.specs.declared.file.TopItem.{TopItem}
+use Rattle.capl_tree.specs.declared.file.TopItem.TheVariants as top
+use Rattle.capl_tree.specs.declared.file.Program.{Program}
 use Rattle.capl_tree.specs.Forms as tree
 
 -- a list has fewer than 2^32 items
@@ -84,3 +89,25 @@ abbrev mutual
   AreSmallGroups end_of-Group = ⊤
   AreSmallGroups (more_of-Group labels shape body rest) =
       IsShortList labels × IsShortList (items-the_row-Stmt _ body) × AreSmallStmts body × AreSmallGroups rest
+
+-- the head of a procedure
+abbrev pub IsSmallHead : Head → Type 0
+IsSmallHead (head.Message selectors) = IsShortList selectors
+IsSmallHead (head.Function kind name parameters at) = IsShortList parameters
+IsSmallHead _ = ⊤
+
+-- a procedure
+pub record IsSmallProcedure (procedure : Proc) : Type 0 where
+  pub head : IsSmallHead procedure.head
+  pub few_statements : IsShortList procedure.body
+  pub statements : AllByRecursion IsSmallStmt procedure.body
+
+-- a part of a file
+abbrev pub IsSmallItem : TopItem → Type 0
+IsSmallItem (top.Includes names) = ⊤
+IsSmallItem (top.Variables declarations) = ⊤
+IsSmallItem (top.Proc procedure) = IsSmallProcedure procedure
+
+-- a program
+abbrev pub IsSmallProgram : Program → Type 0
+IsSmallProgram program = AllByRecursion (λ file. AllByRecursion IsSmallItem file.items) program.files

@@ -1,0 +1,290 @@
+-- The event procedures of a program that breaks no rule are for different events.
+use Rattle.std.proofs.Common.{◌≡◌, ◌≢◌, ℕ, zero, suc, ◌+◌, ◌≤◌, ◌<◌, inl, inr, Bool, true, false, not, ◌&&◌, ◌⊎◌, cond, List, [], ◌∷◌, ◌++◌, length, map, Option, Some, None, get_or, refl, sym, ap, ◌∙◌, subst, arith}
+use Rattle.std.specs.Prelude.{⊤, ◌==◌, All, AllPairs, filter, filter_map, find, flat_map, if◌then◌else◌, nat_le, nat_lt, position, unwrap_or}
+use Rattle.std.specs.List.{AllByRecursion, cons_option, position_or_len}
+use Rattle.std.specs.Option.{option_and_then, option_map, option_map_or}
+use Rattle.std.specs.Str.{bytes_eq}
+use Rattle.std.proofs.lemmas.Bool.{eqb-true, ltb-false, ltb-true}
+use Rattle.std.proofs.lemmas.Bool.Decides.{leb_tells}
+use Rattle.std.proofs.lemmas.Cmp.{nat_eq_equiv}
+use Rattle.std.proofs.lemmas.Grind.{flat_map-append}
+use Rattle.std.proofs.lemmas.List.{append-nil}
+use Rattle.std.proofs.lemmas.List.Elements.{All-from_recursion, filter_map-append}
+use Rattle.std.proofs.lemmas.List.Quantifiers.{position-Some}
+use Rattle.std.proofs.lemmas.Slice.Eq.{bytes_eq-Decides}
+use Rattle.run_effects.specs.declared.event.Event.{Event}
+use Rattle.run_effects.specs.declared.event.Selector.{Selector}
+use Rattle.run_effects.specs.Event.{AreApart, IsWithin, KeepsSelectors, KeepsTimers, key_of, selectors_of, timer_of}
+use Rattle.dbc_reader.specs.declared.message.DbcMessage.{DbcMessage}
+use Rattle.capl_tree.specs.declared.expr.Expr.{Expr}
+use Rattle.capl_tree.specs.declared.procedure.Head.{Head}
+use Rattle.capl_tree.specs.declared.procedure.Head.TheVariants as head
+use Rattle.capl_tree.specs.declared.procedure.Sel.{Sel}
+use Rattle.capl_tree.specs.declared.procedure.Sel.TheVariants as sel
+use Rattle.capl_tree.specs.declared.statement.Stmt.{Stmt}
+use Rattle.typed_tree.specs.declared.program.THandler.{THandler}
+use Rattle.typed_tree.specs.declared.program.Typed.{Typed}
+use Rattle.typed_tree.specs.Sound.{all_keys, all_selectors, all_timers}
+use Rattle.capl_meaning.specs.Rule.{E09}
+use Rattle.capl_meaning.specs.Variable.{Form, Number, Array, Message, Timer, Misfit, Part, Globals, Procedure, Variable, is_timer, message_named}
+use Rattle.capl_meaning.specs.Names.{Names, Scope, global, inside, is_global}
+use Rattle.capl_meaning.specs.DeclarationRules.{is_in_range}
+use Rattle.capl_meaning.specs.ExpressionRules.{offence}
+use Rattle.capl_meaning.specs.Offences.{part_offences}
+use Rattle.capl_meaning.specs.Procedure.{Handler, event_of, handlers_of_part, timer_named}
+use Rattle.capl_meaning.specs.ProcedureRules as rules
+use Rattle.capl_meaning.specs.ProcedureRules.{ForFrames, ForKey, ForTimer, Purpose, Told, collide, head_offences, keys_between, names_timer, overlap, selector_of, selector_of_message, selector_of_numbers, selector_place, told_by_head, told_by_part, told_by_selector}
+use Rattle.capl_meaning.specs.Store.{same_key, timer_number}
+use Rattle.capl_meaning.specs.Store as store
+use Rattle.typed_laws.specs.Laid.{HasForm, IsAmong}
+use Rattle.typed_laws.proofs.Declared.{all_append}
+use Rattle.typed_laws.proofs.Parts.{key_self}
+use Rattle.typed_laws.proofs.Places.{found_among}
+use Rattle.typed_source.specs.Program.{typed_handlers}
+use Rattle.typed_source.specs.Sound.{HasTables}
+use Rattle.sound_programs.specs.Given.{HaveForms}
+use Rattle.sound_programs.proofs.Empty.{back, front, full}
+use Rattle.sound_programs.proofs.Repeated.{Apart, kept_all, kept_apart, pairs}
+use Rattle.sound_programs.proofs.Written.{and_both}
+
+-- ---- what is told
+
+-- the frames, the timer and the key that a purpose is for
+abbrev pub frames_in : Purpose → Option Selector
+frames_in (ForFrames selector) = Some selector
+frames_in _ = None
+
+abbrev pub key_in : Purpose → Option (Option ℕ)
+key_in (ForKey key) = Some key
+key_in _ = None
+
+abbrev pub timer_in : Names → Purpose → Option ℕ
+timer_in names (ForTimer name) = if names_timer names name then Some (timer_named names name) else None
+timer_in names _ = None
+
+-- what is made of all that is told
+abbrev pub told_as : {X : Type 0} → (Purpose → Option X) → List Told → List X
+told_as p all = filter_map (λ (told : Told). p told.purpose) all
+
+-- selectors tell what they select, and nothing else
+module _ (base : List DbcMessage) (file : ℕ) where
+  pub frames_told : (selectors : List Sel) → filter_map (selector_of base) selectors ≡ told_as frames_in (filter_map (told_by_selector base file) selectors)
+  frames_told [] = refl
+  frames_told (selector ∷ rest) = go (selector_of base selector) (frames_told rest)
+    where
+      go : (o : Option Selector) → filter_map (selector_of base) rest ≡ told_as frames_in (filter_map (told_by_selector base file) rest) → cons_option o (filter_map (selector_of base) rest) ≡
+          told_as frames_in (cons_option (option_map (λ keys. record { file = file; token = selector_place selector; purpose = ForFrames keys }) o) (filter_map (told_by_selector base file) rest))
+      go None e = e
+      go (Some keys) e = ap (λ l. keys ∷ l) e
+
+  pub others_untold : {X : Type 0} (p : Purpose → Option X) → ((keys : Selector) → p (ForFrames keys) ≡ None) → (selectors : List Sel) → told_as p (filter_map (told_by_selector base file) selectors) ≡ []
+  others_untold p none [] = refl
+  others_untold p none (selector ∷ rest) = go (selector_of base selector) (others_untold p none rest)
+    where
+      go : (o : Option Selector) → told_as p (filter_map (told_by_selector base file) rest) ≡ [] →
+          told_as p (cons_option (option_map (λ keys. record { file = file; token = selector_place selector; purpose = ForFrames keys }) o) (filter_map (told_by_selector base file) rest)) ≡ []
+      go None e = e
+      go (Some keys) e = ap (λ o. cons_option o (told_as p (filter_map (told_by_selector base file) rest))) (none keys) ∙ e
+
+-- ---- ranks
+
+between : (rank : ℕ) (low high : Option ℕ) (keys : Selector) → keys_between rank low high ≡ Some keys → keys.rank ≡ rank
+between rank None high keys is = absurd (let f : None ≡ Some keys = is in cc)
+between rank (Some least) None keys is = absurd (let f : None ≡ Some keys = is in cc)
+between rank (Some least) (Some most) keys is = ap (λ (o : Option Selector). option_map_or (λ (k : Selector). k.rank) o rank) (sym is)
+
+pub ranked : (base : List DbcMessage) (selector : Sel) (keys : Selector) → selector_of base selector ≡ Some keys → keys.rank ≤ 2
+ranked base (sel.Any at) keys is = let e : keys.rank ≡ 2 = between 2 (Some 0) (Some 0xFFFFFFFF) keys is in omega (arith, e)
+ranked base (sel.Name name at) keys is = go (message_named base name) is
+  where
+    by : (m : DbcMessage) (b : Bool) → (if b then keys_between 0 (Some m.id) (Some m.id) else None) ≡ Some keys → keys.rank ≤ 2
+    by m true e = let f : keys.rank ≡ 0 = between 0 (Some m.id) (Some m.id) keys e in omega (arith, f)
+    by m false e = absurd (let f : None ≡ Some keys = e in cc)
+
+    go : (o : Option DbcMessage) → option_and_then selector_of_message o ≡ Some keys → keys.rank ≤ 2
+    go None e = absurd (let f : None ≡ Some keys = e in cc)
+    go (Some m) e = by m (is_in_range m.id) e
+ranked base (sel.Ids low None at) keys is = let e : keys.rank ≡ 0 = between 0 (rules.key_of (rules.number_in low)) (rules.key_of (rules.number_in low)) keys is in omega (arith, e)
+ranked base (sel.Ids low (Some high) at) keys is = go (rules.is_range (rules.number_in low) (rules.number_in high)) is
+  where
+    go : (b : Bool) → (if b then keys_between 1 (rules.key_of (rules.number_in low)) (rules.key_of (rules.number_in high)) else None) ≡ Some keys → keys.rank ≤ 2
+    go true e = let f : keys.rank ≡ 1 = between 1 (rules.key_of (rules.number_in low)) (rules.key_of (rules.number_in high)) keys e in omega (arith, f)
+    go false e = absurd (let f : None ≡ Some keys = e in cc)
+
+-- ---- positions
+
+-- a thing that passes stands at some place
+some_place : {A : Type 0} (p : A → Bool) (xs : List A) (x : A) → IsAmong x xs → p x ≡ true → (i : ℕ) × (position p xs ≡ Some i)
+some_place p xs x among passes =
+    (position_or_len p xs, ap (λ b. cond b (Some (position_or_len p xs)) None) (before (nat_lt (position_or_len p xs) (length xs)) refl (inside xs among)))
+  where
+    inside : (ys : List _) → IsAmong x ys → position_or_len p ys < length ys
+    inside [] h = elim h [ ]
+    inside (y ∷ ys) (inl e) = by (p y) (ap p e ∙ passes)
+      where
+        by : (b : Bool) → b ≡ true → cond (not b) (1 + position_or_len p ys) 0 < suc (length ys)
+        by true is = omega arith
+        by false is = absurd (let f : false ≡ true = is in cc)
+    inside (y ∷ ys) (inr s) = by (p y) (inside ys s)
+      where
+        by : (b : Bool) → position_or_len p ys < length ys → cond (not b) (1 + position_or_len p ys) 0 < suc (length ys)
+        by true less = omega (arith, less)
+        by false less = omega (arith, less)
+
+    before : (b : Bool) → nat_lt (position_or_len p xs) (length xs) ≡ b → position_or_len p xs < length xs → nat_lt (position_or_len p xs) (length xs) ≡ true
+    before true is less = is
+    before false is less = absurd (let h : length xs ≤ position_or_len p xs = ltb-false (position_or_len p xs) (length xs) is in omega (arith, h, less))
+
+-- a thing that passes is among those that do
+among_filter : {A : Type 0} (p : A → Bool) (xs : List A) (x : A) → IsAmong x xs → p x ≡ true → IsAmong x (filter p xs)
+among_filter p [] x h passes = elim h [ ]
+among_filter p (y ∷ ys) x (inl e) passes = subst (λ b. IsAmong x (cond b (y ∷ filter p ys) (filter p ys))) (sym (ap p e ∙ passes)) (inl e)
+among_filter p (y ∷ ys) x (inr s) passes = by (p y) (among_filter p ys x s passes)
+  where
+    by : (b : Bool) → IsAmong x (filter p ys) → IsAmong x (cond b (y ∷ filter p ys) (filter p ys))
+    by true h = inr h
+    by false h = h
+
+-- ---- timers
+
+-- the variable that a name names as a timer
+record TimerNamed (names : Names) (name : List ℕ) : Type 0 where
+  variable : Variable
+  unit : ℕ
+  is : global names name ≡ Some variable
+  form : HasForm names variable (Timer unit)
+  same : name ≡ variable.name
+
+timer_there : (names : Names) (name : List ℕ) → names_timer names name ≡ true → TimerNamed names name
+timer_there names name h = go (global names name) refl h
+  where
+    by : (v : Variable) → global names name ≡ Some v → (form : Form) → v.form ≡ form → is_timer form ≡ true → TimerNamed names name
+    by v is (Timer unit) e h =
+        let found = found_is (is_global name) names.variables v is in
+        record {
+          variable = v;
+          unit = unit;
+          is = is;
+          form = record { among = found_among (is_global name) names.variables v is; form_is = e };
+          same = (bytes_eq-Decides name v.name).0 (and_both (v.owner == 0) (bytes_eq name v.name) found).1;
+        }
+      where
+        found_is : (test : Variable → Bool) (vs : List Variable) (v : Variable) → find test vs ≡ Some v → test v ≡ true
+        found_is test [] v e = absurd (let f : None ≡ Some v = e in cc)
+        found_is test (u ∷ us) v e = test_of (test u) refl e (λ e. found_is test us v e)
+          where
+            test_of : (b : Bool) → test u ≡ b → cond b (Some u) (find test us) ≡ Some v → (find test us ≡ Some v → test v ≡ true) → test v ≡ true
+            test_of true is e further = let f : Some u ≡ Some v = e in let same : u ≡ v = cc in subst (λ x. test x ≡ true) same is
+            test_of false is e further = further e
+    by v is (Number k fixed) e h = absurd (let f : false ≡ true = h in cc)
+    by v is (Array k fixed size) e h = absurd (let f : false ≡ true = h in cc)
+    by v is (Message type_) e h = absurd (let f : false ≡ true = h in cc)
+    by v is Misfit e h = absurd (let f : false ≡ true = h in cc)
+
+    go : (o : Option Variable) → global names name ≡ o → option_map_or (λ v. is_timer v.form) o false ≡ true → TimerNamed names name
+    go None is h = absurd (let f : false ≡ true = h in cc)
+    go (Some v) is h = by v is v.form refl h
+
+-- two timers of one number have one name
+one_timer : (names : Names) (u v : Variable) (j k : ℕ) → HasForm names u (Timer j) → HasForm names v (Timer k) → timer_number names u ≡ timer_number names v → u.name ≡ v.name
+one_timer names u v j k one other same =
+    let first = at u j one in
+    let second = at v k other in
+    let place : first.0 ≡ second.0 = sym (ap (λ o. unwrap_or o 0) first.1) ∙ same ∙ ap (λ o. unwrap_or o 0) second.1 in
+    let here = (position-Some (λ w. same_key (store.key_of u) (store.key_of w)) timers first.0 u first.1).1 in
+    let there = (position-Some (λ w. same_key (store.key_of v) (store.key_of w)) timers second.0 u second.1).1 in
+    let a = name_of u (get_or timers first.0 u) here in
+    let b = name_of v (get_or timers second.0 u) there in
+    a ∙ ap (λ i. (get_or timers i u).name) place ∙ sym b
+  where
+    timers : List Variable
+    timers = filter (λ w. is_timer w.form) names.variables
+
+    at : (x : Variable) (unit : ℕ) → HasForm names x (Timer unit) → (i : ℕ) × (position (λ w. same_key (store.key_of x) (store.key_of w)) (filter (λ w. is_timer w.form) names.variables) ≡ Some i)
+    at x unit form = some_place (λ w. same_key (store.key_of x) (store.key_of w)) (filter (λ w. is_timer w.form) names.variables) x (among_filter (λ w. is_timer w.form) names.variables x form.among (ap is_timer form.form_is)) (key_self (store.key_of x))
+
+    name_of : (x w : Variable) → same_key (store.key_of x) (store.key_of w) ≡ true → x.name ≡ w.name
+    name_of x w is = (bytes_eq-Decides x.name w.name).0 (and_both (x.owner == w.owner) (bytes_eq x.name w.name) is).1
+
+module _ (names : Names) where
+  timer_of_purpose : (name : List ℕ) (n : ℕ) → timer_in names (ForTimer name) ≡ Some n → (names_timer names name ≡ true) × (timer_named names name ≡ n)
+  timer_of_purpose name n is = go (names_timer names name) refl is
+    where
+      go : (b : Bool) → names_timer names name ≡ b → (if b then Some (timer_named names name) else None) ≡ Some n → (names_timer names name ≡ true) × (timer_named names name ≡ n)
+      go true is e = (is, let f : Some (timer_named names name) ≡ Some n = e in cc)
+      go false is e = absurd (let f : None ≡ Some n = e in cc)
+
+  -- the timers of two procedures differ
+  pub timers_differ : (a b : Purpose) (m n : ℕ) → collide b a ≡ false → timer_in names a ≡ Some m → timer_in names b ≡ Some n → m ≢ n
+  timers_differ (ForTimer x) (ForTimer y) m n apart one other same =
+      let first = timer_of_purpose x m one in
+      let second = timer_of_purpose y n other in
+      let u = timer_there names x first.0 in
+      let v = timer_there names y second.0 in
+      let number : timer_number names u.variable ≡ m = sym (ap (λ o. option_map_or (timer_number names) o 0) u.is) ∙ first.1 in
+      let others : timer_number names v.variable ≡ n = sym (ap (λ o. option_map_or (timer_number names) o 0) v.is) ∙ second.1 in
+      let name : y ≡ x = v.same ∙ sym (one_timer names u.variable v.variable u.unit v.unit u.form v.form (number ∙ same ∙ sym others)) ∙ sym u.same in
+      let e : true ≡ false = sym ((bytes_eq-Decides y x).1 name) ∙ apart in cc
+  timers_differ (ForTimer x) (ForFrames keys) m n apart one other same = let f : None ≡ Some n = other in cc
+  timers_differ (ForTimer x) (ForKey key) m n apart one other same = let f : None ≡ Some n = other in cc
+  timers_differ (ForFrames keys) b m n apart one other same = let f : None ≡ Some m = one in cc
+  timers_differ (ForKey key) b m n apart one other same = let f : None ≡ Some m = one in cc
+
+  -- the timer of a procedure exists
+  pub timer_exists : (typed : Typed) → HasTables names typed → (a : Purpose) (n : ℕ) → timer_in names a ≡ Some n → n < length typed.timers
+  timer_exists typed tables (ForTimer x) n is =
+      let given = timer_of_purpose x n is in
+      let u = timer_there names x given.0 in
+      let number : timer_number names u.variable ≡ n = sym (ap (λ o. option_map_or (timer_number names) o 0) u.is) ∙ given.1 in
+      subst (λ n. n < length typed.timers) number (tables.timers u.variable u.unit u.form)
+  timer_exists typed tables (ForFrames keys) n is = absurd (let f : None ≡ Some n = is in cc)
+  timer_exists typed tables (ForKey key) n is = absurd (let f : None ≡ Some n = is in cc)
+
+-- ---- frames and keys
+
+is_no_more : (m n : ℕ) → m ≤ n → nat_le m n ≡ true
+is_no_more m n h = go (leb_tells m n)
+  where
+    go : ((nat_le m n ≡ true) × (m ≤ n)) ⊎ ((nat_le m n ≡ false) × (n < m)) → nat_le m n ≡ true
+    go (inl is) = is.0
+    go (inr is) = absurd (omega (arith, h, is.1))
+
+-- the selectors of two procedures are apart
+pub frames_apart : (a b : Purpose) (x y : Selector) → collide b a ≡ false → frames_in a ≡ Some x → frames_in b ≡ Some y → AreApart x y
+frames_apart (ForFrames u) (ForFrames v) x y apart one other rank key here there =
+    let is : u ≡ x = let f : Some u ≡ Some x = one in cc in
+    let same : v ≡ y = let f : Some v ≡ Some y = other in cc in
+    let ranks : v.rank == u.rank ≡ true = subst (λ n. v.rank == n ≡ true) (ap (λ (k : Selector). k.rank) same ∙ sym rank ∙ sym (ap (λ (k : Selector). k.rank) is)) (nat_eq_equiv.refl v.rank) in
+    let low : v.low ≡ y.low = ap (λ (k : Selector). k.low) same in
+    let high : v.high ≡ y.high = ap (λ (k : Selector). k.high) same in
+    let first : u.low ≡ x.low = ap (λ (k : Selector). k.low) is in
+    let last : u.high ≡ x.high = ap (λ (k : Selector). k.high) is in
+    let a = here.from in
+    let b = here.to in
+    let c = there.from in
+    let d = there.to in
+    let left : nat_le v.low u.high ≡ true = is_no_more v.low u.high (omega (arith, low, last, b, c)) in
+    let right : nat_le u.low v.high ≡ true = is_no_more u.low v.high (omega (arith, first, high, a, d)) in
+    let e : true ≡ false = sym (ap (λ p. p && (nat_le v.low u.high && nat_le u.low v.high)) ranks ∙ ap (λ p. p && nat_le u.low v.high) left ∙ right) ∙ apart in cc
+frames_apart (ForFrames u) (ForTimer name) x y apart one other rank key here there = absurd (let f : None ≡ Some y = other in cc)
+frames_apart (ForFrames u) (ForKey told) x y apart one other rank key here there = absurd (let f : None ≡ Some y = other in cc)
+frames_apart (ForTimer name) b x y apart one other rank key here there = absurd (let f : None ≡ Some x = one in cc)
+frames_apart (ForKey told) b x y apart one other rank key here there = absurd (let f : None ≡ Some x = one in cc)
+
+-- the keys of two procedures differ
+pub keys_differ : (a b : Purpose) (x y : Option ℕ) → collide b a ≡ false → key_in a ≡ Some x → key_in b ≡ Some y → x ≢ y
+keys_differ (ForKey None) (ForKey None) x y apart one other same = let f : true ≡ false = apart in cc
+keys_differ (ForKey None) (ForKey (Some n)) x y apart one other same = let f : Some None ≡ Some x = one in let g : Some (Some n) ≡ Some y = other in cc
+keys_differ (ForKey (Some m)) (ForKey None) x y apart one other same = let f : Some (Some m) ≡ Some x = one in let g : Some None ≡ Some y = other in cc
+keys_differ (ForKey (Some m)) (ForKey (Some n)) x y apart one other same =
+    let f : Some (Some m) ≡ Some x = one in
+    let g : Some (Some n) ≡ Some y = other in
+    let number : m ≡ n = cc in
+    let h : n == m ≡ true = subst (λ k. n == k ≡ true) (sym number) (nat_eq_equiv.refl n) in
+    let e : true ≡ false = sym h ∙ apart in cc
+keys_differ (ForKey (Some m)) (ForFrames keys) x y apart one other same = let f : None ≡ Some y = other in cc
+keys_differ (ForKey None) (ForFrames keys) x y apart one other same = let f : None ≡ Some y = other in cc
+keys_differ (ForKey (Some m)) (ForTimer name) x y apart one other same = let f : None ≡ Some y = other in cc
+keys_differ (ForKey None) (ForTimer name) x y apart one other same = let f : None ≡ Some y = other in cc
+keys_differ (ForFrames keys) b x y apart one other same = let f : None ≡ Some x = one in cc
+keys_differ (ForTimer name) b x y apart one other same = let f : None ≡ Some x = one in cc
