@@ -16,3 +16,6 @@ pub mod Texts
 pub mod Parts
 pub mod Events
 pub mod EventLists
+pub mod Parameters
+pub mod Procedures
+pub mod Programs
