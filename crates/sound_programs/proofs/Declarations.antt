@@ -1,10 +1,10 @@
 -- Each variable of a program that breaks no rule was declared so.
 use mathlib.Core.Former.{Count}
-use Rattle.std.proofs.Common.{◌≡◌, ℕ, ◌≤◌, inl, inr, Bool, true, false, not, ◌&&◌, List, [], ◌∷◌, ◌++◌, Option, Some, None, refl, sym, ap, ◌∙◌, subst, arith}
-use Rattle.std.specs.Prelude.{⊤, ℤ, pos, negsuc, flat_map, if◌then◌else◌, is_some, map, nat_le, unwrap_or}
+use Rattle.std.proofs.Common.{◌≡◌, ℕ, ◌-◌, ◌≤◌, ◌<◌, ◌^◌, inl, inr, Bool, true, false, not, ◌&&◌, List, [], ◌∷◌, ◌++◌, Option, Some, None, refl, sym, ap, ◌∙◌, subst, arith}
+use Rattle.std.specs.Prelude.{⊤, ◌||◌, ℤ, pos, negsuc, flat_map, if◌then◌else◌, is_some, map, nat_le, nat_lt, unwrap_or}
 use Rattle.std.specs.List.{AllByRecursion}
 use Rattle.std.specs.Option.{option_and_then, option_map_or}
-use Rattle.std.proofs.lemmas.Bool.{leb-true}
+use Rattle.std.proofs.lemmas.Bool.{leb-true, ltb-false}
 use Rattle.int_kinds.specs.declared.kinds.Kind.{Kind}
 use Rattle.dbc_reader.specs.declared.message.DbcMessage.{DbcMessage}
 use Rattle.capl_tree.specs.declared.declaration.Decl.{Decl}
@@ -19,14 +19,14 @@ use Rattle.capl_tree.specs.declared.statement.Stmt.TheBlock.{Row_of-Arm, end_of-
 use Rattle.capl_tree.specs.declared.statement.Stmt.TheVariants as stmt
 use Rattle.capl_tree.specs.Forms as tree
 use Rattle.capl_meaning.specs.declared.offence.Offence.{Offence}
-use Rattle.capl_meaning.specs.Rule.{E12, E19}
-use Rattle.capl_meaning.specs.Variable.{Form, Number, Array, Message, Timer, Misfit, Part, Globals, Procedure, Variable, declarations_in, declarations_of, declarations_of_arms, declarations_of_else, declarations_of_groups, form_of, parameters_of, parts_of, variable_of_parameter, variables_of, variables_of_declaration, variables_of_part}
+use Rattle.capl_meaning.specs.Rule.{E11, E12, E19, E21, E23}
+use Rattle.capl_meaning.specs.Variable.{Form, Number, Array, Message, Timer, Misfit, Part, Globals, Procedure, Variable, ByIdentifier, ByName, declarations_in, declarations_of, declarations_of_arms, declarations_of_else, declarations_of_groups, form_of, identifier, message_named, parameters_of, parts_of, variable_of_parameter, variables_of, variables_of_declaration, variables_of_part}
 use Rattle.capl_meaning.specs.Names.{Names, NoThis, Scope, ThisForm, inside, names_of, outside}
 use Rattle.capl_meaning.specs.Sort.{is_bad, sort_of}
 use Rattle.capl_meaning.specs.Constant.{array_length, constant_at, elements_of, length_at, length_by, scope_of}
 use Rattle.capl_meaning.specs.ExpressionRules.{integer_offences, offence, offences}
 use Rattle.capl_meaning.specs.InitialiserRules.{constant_needed, constant_offences, initialiser_offences}
-use Rattle.capl_meaning.specs.DeclarationRules.{const_rule, declaration_offences, declarator_offences, form_rule, size_offences, size_rule, type_rules}
+use Rattle.capl_meaning.specs.DeclarationRules.{const_rule, database_rule, declaration_offences, declarator_offences, form_rule, is_identifier, is_in_range, size_offences, size_rule, type_rules}
 use Rattle.capl_meaning.specs.StatementRules as source
 use Rattle.capl_meaning.specs.StatementRules.{alone_offences, in_body, in_loop, label_offences, labels_of, labels_rule, needed_offences, offences_of_arms, offences_of_else, offences_of_groups, offences_of_statements, statement_offences}
 use Rattle.capl_meaning.specs.ProcedureRules.{head_offences, inner_name_offences, outer_name_offences, purpose_offences}
@@ -104,10 +104,17 @@ abbrev pub size_by : Scope → ℕ → Form → List Offence
 size_by s at (Array k fixed size) = size_offences s at (Some size)
 size_by s at _ = []
 
+-- a message has an identifier and a length that their cells hold
+abbrev pub IsHeldType : Form → Type 0
+IsHeldType (Message (ByIdentifier id)) = id < 2 ^ 32
+IsHeldType (Message (ByName (Some m))) = (m.id < 2 ^ 32) × (m.len ≤ 8)
+IsHeldType _ = ⊤
+
 -- a variable was declared where no rule was broken
 pub record IsDeclaredWell (names : Names) (v : Variable) : Type 0 where
   pub this : ThisForm
   pub gives : Option Kind
+  pub held : IsHeldType v.form
   pub form : form_rule (declared_in names v this gives) v.token v.form ≡ []
   pub size : size_by (declared_in names v this gives) v.token v.form ≡ []
   pub init : option_map_or (initialiser_offences (declared_in names v this gives) v.token v.form) v.init [] ≡ []
@@ -126,6 +133,47 @@ sized s at decl_type.Seconds (Some size) none = refl
 sized s at decl_type.Millis None none = refl
 sized s at decl_type.Millis (Some size) none = refl
 
+-- the identifier of a declaration is one
+held_identifier : (value : Option ℕ) (extended : Bool) → is_identifier value extended ≡ true → identifier value extended < 2 ^ 32
+held_identifier None extended is = absurd (let f : false ≡ true = is in cc)
+held_identifier (Some n) true is = omega (arith, leb-true n 0x1FFFFFFF is)
+held_identifier (Some n) false is = omega (arith, leb-true n 0x7FF is)
+
+-- and so is that of a message of the database
+held_range : (id : ℕ) → is_in_range id ≡ true → id < 2 ^ 32
+held_range id is = go (nat_le (2 ^ 31) id) is
+  where
+    go : (b : Bool) → (if b then nat_le (id - 2 ^ 31) 0x1FFFFFFF else nat_le id 0x7FF) ≡ true → id < 2 ^ 32
+    go true e = omega (arith, leb-true (id - 2 ^ 31) 0x1FFFFFFF e)
+    go false e = omega (arith, leb-true id 0x7FF e)
+
+held_named : (s : Scope) (at : ℕ) (o : Option DbcMessage) → option_map_or (database_rule s at) o (offence s at E11 ∷ []) ≡ [] → IsHeldType (Message (ByName o))
+held_named s at None none = tt
+held_named s at (Some m) none = go (nat_lt 8 m.len) (is_in_range m.id) refl refl (unbroken (nat_lt 8 m.len || not (is_in_range m.id)) s at E23 none)
+  where
+    go : (a b : Bool) → nat_lt 8 m.len ≡ a → is_in_range m.id ≡ b → a || not b ≡ false → (m.id < 2 ^ 32) × (m.len ≤ 8)
+    go false true long range e = (held_range m.id range, ltb-false 8 m.len long)
+    go false false long range e = absurd (let f : true ≡ false = e in cc)
+    go true b long range e = absurd (let f : true ≡ false = e in cc)
+
+held_type : (s : Scope) (what : DeclType) (size : Option Expr) → type_rules s what ≡ [] → IsHeldType (form_of s.names.base what size)
+held_type s (decl_type.Number k fixed) None none = tt
+held_type s (decl_type.Number k fixed) (Some size) none = tt
+held_type s decl_type.Any None none = omega arith
+held_type s decl_type.Any (Some size) none = tt
+held_type s (decl_type.ById value extended at) None none = held_identifier value extended (negated (is_identifier value extended) (unbroken (not (is_identifier value extended)) s at E21 none))
+  where
+    negated : (b : Bool) → not b ≡ false → b ≡ true
+    negated true e = refl
+    negated false e = absurd (let f : true ≡ false = e in cc)
+held_type s (decl_type.ById value extended at) (Some size) none = tt
+held_type s (decl_type.ByName name at) None none = held_named s at (message_named s.names.base name) none
+held_type s (decl_type.ByName name at) (Some size) none = tt
+held_type s decl_type.Seconds None none = tt
+held_type s decl_type.Seconds (Some size) none = tt
+held_type s decl_type.Millis None none = tt
+held_type s decl_type.Millis (Some size) none = tt
+
 module _ (base : List DbcMessage) (program : Program) where
   abbrev names : Names
   names = names_of base program
@@ -136,7 +184,7 @@ module _ (base : List DbcMessage) (program : Program) where
   abbrev standing : ℕ → ℕ → ThisForm → Option Kind → Scope
   standing owner file this gives = record { names = names; owner = owner; file = file; this = this; gives = gives }
 
-  declared : (owner file : ℕ) (this : ThisForm) (gives : Option Kind) (what : DeclType) (items : List Declr) → flat_map (declarator_offences (standing owner file this gives) what) items ≡ [] →
+  declared : (owner file : ℕ) (this : ThisForm) (gives : Option Kind) (what : DeclType) (items : List Declr) → type_rules (standing owner file this gives) what ≡ [] → flat_map (declarator_offences (standing owner file this gives) what) items ≡ [] →
       AllByRecursion Well (map (λ (d : Declr). record {
         owner = owner;
         file = file;
@@ -145,8 +193,8 @@ module _ (base : List DbcMessage) (program : Program) where
         form = form_of base what d.size;
         init = d.init;
       }) items)
-  declared owner file this gives what [] none = tt
-  declared owner file this gives what (d ∷ items) none =
+  declared owner file this gives what [] types none = tt
+  declared owner file this gives what (d ∷ items) types none =
       let s = standing owner file this gives in
       let first = front (declarator_offences s what d) _ none in
       let two = back (form_rule s d.at (form_of base what d.size)) _ first in
@@ -154,11 +202,12 @@ module _ (base : List DbcMessage) (program : Program) where
         record {
           this = this;
           gives = gives;
+          held = held_type s what d.size types;
           form = front (form_rule s d.at (form_of base what d.size)) _ first;
           size = sized s d.at what d.size (front (size_offences s d.at d.size) _ three);
           init = back (size_offences s d.at d.size) _ three;
         },
-        declared owner file this gives what items (back (declarator_offences s what d) _ none),
+        declared owner file this gives what items types (back (declarator_offences s what d) _ none),
       )
 
   all_declared : (owner file : ℕ) (this : ThisForm) (gives : Option Kind) (ds : List Decl) → AllByRecursion (λ d. declaration_offences (standing owner file this gives) d ≡ []) ds →
@@ -166,11 +215,11 @@ module _ (base : List DbcMessage) (program : Program) where
   all_declared owner file this gives [] all = tt
   all_declared owner file this gives (d ∷ ds) all =
       all_append Well (variables_of_declaration base owner file d) (flat_map (variables_of_declaration base owner file) ds)
-      (declared owner file this gives d.what d.items (back (type_rules (standing owner file this gives) d.what) _ all.0)) (all_declared owner file this gives ds all.1)
+      (declared owner file this gives d.what d.items (front (type_rules (standing owner file this gives) d.what) _ all.0) (back (type_rules (standing owner file this gives) d.what) _ all.0)) (all_declared owner file this gives ds all.1)
 
   parameters : (owner file : ℕ) (ps : List Param) → AllByRecursion Well (map (variable_of_parameter owner file) ps)
   parameters owner file [] = tt
-  parameters owner file (p ∷ ps) = (record { this = NoThis; gives = None; form = refl; size = refl; init = refl }, parameters owner file ps)
+  parameters owner file (p ∷ ps) = (record { this = NoThis; gives = None; held = tt; form = refl; size = refl; init = refl }, parameters owner file ps)
 
   of_part : (part : Part) → part_offences names part ≡ [] → AllByRecursion Well (variables_of_part base part)
   of_part (Globals file declarations) none = all_declared 0 file NoThis None declarations (each_empty (declaration_offences (outside names file)) declarations none)

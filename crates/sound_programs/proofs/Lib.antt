@@ -19,3 +19,4 @@ pub mod EventLists
 pub mod Parameters
 pub mod Procedures
 pub mod Programs
+pub mod SmallDeclarations

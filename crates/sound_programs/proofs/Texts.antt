@@ -39,7 +39,7 @@ small_text : (e : Expr) (text : List ℕ) → IsSmallExpr e → text_in e ≡ So
 small_text (tree.Paren inner at) text few is = small_text inner text few is
 small_text (expr.Str bytes at) text few is =
     let same : bytes ≡ text = let f : Some bytes ≡ Some text = is in cc in
-    subst (λ l. length l < 2 ^ 32) same few
+    subst (λ l. length l < 2 ^ 32) same few.0
 small_text e text few is = absurd (let f : None ≡ Some text = is in cc)
 
 -- and so is an argument of `write`

@@ -6,6 +6,9 @@ use Rattle.capl_tree.specs.declared.expr.Expr.{Expr, Row_of-Expr, end_of-Expr, m
 use Rattle.capl_tree.specs.declared.expr.Expr.TheVariants as expr
 use Rattle.capl_tree.specs.declared.expr.Field.{Field}
 use Rattle.capl_tree.specs.declared.expr.Field.TheVariants.{Named}
+use Rattle.capl_tree.specs.declared.declaration.Decl.{Decl}
+use Rattle.capl_tree.specs.declared.declaration.Init.{Init}
+use Rattle.capl_tree.specs.declared.declaration.Init.TheVariants.{One, Many}
 use Rattle.capl_tree.specs.declared.statement.Stmt.{Stmt, Row_of-Stmt, end_of-Stmt, more_of-Stmt, items-the_row-Stmt}
 use Rattle.capl_tree.specs.declared.statement.Stmt.TheBlock.{Row_of-Arm, end_of-Arm, more_of-Arm, Row_of-Group, end_of-Group, more_of-Group, Held-Stmt-If-1, items-the_row-Arm, items-the_row-Group}
 use Rattle.capl_tree.specs.declared.statement.Stmt.TheVariants as stmt
@@ -26,7 +29,7 @@ abbrev mutual
   pub IsSmallExpr : Expr → Type 0
   IsSmallExpr (expr.Num value extended at) = IfSome value (λ n. n < 2 ^ 64)
   IsSmallExpr (expr.Char value at) = value < 2 ^ 8
-  IsSmallExpr (expr.Str text at) = IsShortList text
+  IsSmallExpr (expr.Str text at) = IsShortList text × AllByRecursion (λ byte. byte < 2 ^ 8) text
   IsSmallExpr (expr.This at) = ⊤
   IsSmallExpr (expr.Name name at) = ⊤
   IsSmallExpr (tree.Paren inner at) = IsSmallExpr inner
@@ -50,12 +53,21 @@ abbrev mutual
   AreSmallExprs end_of-Expr = ⊤
   AreSmallExprs (more_of-Expr first rest) = IsSmallExpr first × AreSmallExprs rest
 
+-- an initialiser; only a text in it is more than a constant
+abbrev pub IsSmallInit : Init → Type 0
+IsSmallInit (One value) = IsSmallExpr value
+IsSmallInit (Many items at) = ⊤
+
+-- a declaration
+abbrev pub IsSmallDecl : Decl → Type 0
+IsSmallDecl declaration = AllByRecursion (λ declared. IfSome declared.init IsSmallInit) declaration.items
+
 abbrev mutual
-  -- a statement; a declaration is no part of a typed tree
+  -- a statement
   pub IsSmallStmt : Stmt → Type 0
   IsSmallStmt stmt.Empty = ⊤
   IsSmallStmt (stmt.Block' shape body) = IsShortList (items-the_row-Stmt _ body) × AreSmallStmts body
-  IsSmallStmt (stmt.Decl declaration) = ⊤
+  IsSmallStmt (stmt.Decl declaration) = IsSmallDecl declaration
   IsSmallStmt (stmt.Expr e) = IsSmallExpr e
   IsSmallStmt (stmt.If' shape arms other) =
       IsShortList (items-the_row-Arm _ arms) × AreSmallArms arms × IsSmallElse other
@@ -105,7 +117,7 @@ pub record IsSmallProcedure (procedure : Proc) : Type 0 where
 -- a part of a file
 abbrev pub IsSmallItem : TopItem → Type 0
 IsSmallItem (top.Includes names) = ⊤
-IsSmallItem (top.Variables declarations) = ⊤
+IsSmallItem (top.Variables declarations) = AllByRecursion IsSmallDecl declarations
 IsSmallItem (top.Proc procedure) = IsSmallProcedure procedure
 
 -- a program
