@@ -20,3 +20,4 @@ pub mod Parameters
 pub mod Procedures
 pub mod Programs
 pub mod SmallDeclarations
+pub mod Starts
