@@ -21,3 +21,5 @@ pub mod Procedures
 pub mod Programs
 pub mod SmallDeclarations
 pub mod Starts
+pub mod Counts
+pub mod Sound

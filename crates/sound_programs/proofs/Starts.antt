@@ -291,9 +291,12 @@ module _ (base : List DbcMessage) (program : Program) (order : List ℕ) (line :
       zip_append Holds (kinds_by (elements_of names v) v.form) (flat_map (λ v. kinds_by (elements_of names v) v.form) vs) (first_cells_of names v) (flat_map (first_cells_of names) vs)
       (variable_held v (all v (inl refl))) (variables_held vs (λ u among. all u (inr among)))
 
+  -- the first cells are held by their kinds
+  pub all_held : AllZip Holds (laid_kinds (names_of base program)) (lay (names_of base program) (first_store (names_of base program)))
+  all_held =
+      let laid : lay names (first_store names) ≡ flat_map (first_cells_of names) names.variables = first_laid names (distinct_without_offences base program none) in
+      subst (λ l. AllZip Holds (laid_kinds names) l) (sym laid) (variables_held names.variables (λ v among. among))
+
   -- the initial values are held
   pub starts_fine : All (IsHeldStart (typed_program base program order line).cells) (typed_program base program order line).starts
-  starts_fine =
-      let laid : lay names (first_store names) ≡ flat_map (first_cells_of names) names.variables = first_laid names (distinct_without_offences base program none) in
-      All-from_recursion (IsHeldStart whole.cells) whole.starts
-      (starts_held event_kinds (laid_kinds names) (lay names (first_store names)) 15 refl (subst (λ l. AllZip Holds (laid_kinds names) l) (sym laid) (variables_held names.variables (λ v among. among))))
+  starts_fine = All-from_recursion (IsHeldStart whole.cells) whole.starts (starts_held event_kinds (laid_kinds names) (lay names (first_store names)) 15 refl all_held)

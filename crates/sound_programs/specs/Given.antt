@@ -13,7 +13,7 @@ use Rattle.capl_meaning.specs.StatementRules.{in_body, statement_offences}
 use Rattle.typed_laws.specs.Laid.{HasForm}
 use Rattle.typed_source.specs.Sound.{HasTables, IsCallable}
 use Rattle.typed_source.specs.Statement.{StandFrom, formats_of}
-use Rattle.sound_programs.specs.Small.{IsSmallProgram, IsSmallStmt}
+use Rattle.sound_programs.specs.Small.{IsShortList, IsSmallProgram, IsSmallStmt}
 
 -- no variable is an array of messages or timers
 abbrev pub HaveForms : Names → Type 0
@@ -44,3 +44,9 @@ pub record StandsIn (s : Scope) (order : List ℕ) (typed : Typed) (number befor
 pub record IsReadable (program : Program) : Type 0 where
   pub well_formed : All IsFile program.files
   pub small : IsSmallProgram program
+
+-- the lists of a typed program that its cells do not bound have fewer than 2^32 items
+pub record HasShortLists (typed : Typed) : Type 0 where
+  pub functions : IsShortList typed.functions
+  pub handlers : IsShortList typed.handlers
+  pub formats : IsShortList typed.formats

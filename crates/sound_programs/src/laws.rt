@@ -1,26 +1,28 @@
 //! Laws of programs without offences. Each call does nothing: its contract is the law.
 
-ghost use Rattle.std.specs.Prelude.{◌≡◌, ◌≢◌, ℕ, List, [], Some, length, slice_get, All, AllPairs};
+ghost use Rattle.std.specs.Prelude.{◌≡◌, ◌≢◌, ◌≤◌, ℕ, List, [], Some, length, slice_get, All, AllPairs};
 ghost use Rattle.run_effects.specs.Duration.{IsUnit};
 ghost use Rattle.run_effects.specs.Event.{KeepsSelectors, KeepsTimers};
 ghost use Rattle.write_format.specs.Arrays.{IsCharArray};
 ghost use Rattle.write_format.specs.Format.{IsShort, char_arrays};
+ghost use Rattle.message_cells.specs.Cells.{IsHeldStart};
 ghost use Rattle.dbc_reader.specs.declared.message.DbcMessage.{DbcMessage};
 ghost use Rattle.capl_tree.specs.declared.expr.Expr.{Expr};
 ghost use Rattle.capl_tree.specs.declared.file.Program.{Program};
 ghost use Rattle.capl_tree.specs.declared.statement.Stmt.{Stmt};
 ghost use Rattle.typed_tree.specs.declared.program.TFun.{TFun};
 ghost use Rattle.typed_tree.specs.declared.program.Typed.{Typed};
-ghost use Rattle.typed_tree.specs.Sound.{IsSoundFunction, IsSoundHandler, all_keys, all_selectors, all_timers};
+ghost use Rattle.typed_tree.specs.Sound.{IsSound, IsSoundFunction, IsSoundHandler, all_keys, all_selectors, all_timers};
 ghost use Rattle.typed_tree.specs.SoundStatement.{IsSoundStmt};
 ghost use Rattle.capl_meaning.specs.ExpressionRules.{integer_offences};
 ghost use Rattle.capl_meaning.specs.Names.{Scope, names_of};
 ghost use Rattle.capl_meaning.specs.Offences.{offences_of};
+ghost use Rattle.capl_meaning.specs.Size.{cells_of_program};
 ghost use Rattle.capl_meaning.specs.Sort.{sort_of};
 ghost use Rattle.typed_source.specs.Program.{IsGoodOrder, typed_program};
 ghost use Rattle.typed_source.specs.Sound.{HasTables, IsOfNumber};
 ghost use Rattle.typed_source.specs.Statement.{statement_of};
-ghost use Rattle.sound_programs.specs.Given.{HaveForms, IsReadable, StandsIn, in_procedure};
+ghost use Rattle.sound_programs.specs.Given.{HasShortLists, HaveForms, IsReadable, StandsIn, in_procedure};
 
 /// An expression of which an integer is needed is a number, where it breaks no rule and no variable is an
 /// array of messages or timers.
@@ -91,4 +93,23 @@ pub fn programs_have_sound_procedures()
         IsReadable program → offences_of base program ≡ [] → IsGoodOrder (names_of base program) order →
         All (IsSoundHandler (typed_program base program order line))
         (typed_program base program order line).handlers }
+{}
+
+/// The initial values of the typed program of a readable program without offences are held by the kinds of
+/// their cells.
+pub fn programs_have_held_starts()
+    ensures { (base : List DbcMessage) (program : Program) (order : List ℕ) (line : ℕ → ℕ → ℕ) →
+        IsReadable program → offences_of base program ≡ [] →
+        All (IsHeldStart (typed_program base program order line).cells)
+        (typed_program base program order line).starts }
+{}
+
+/// The typed program of a readable program without offences and with at most 1,000,000 cells is sound, in
+/// each order in which functions stand behind those that they call, where it has fewer than 2^32 functions,
+/// event procedures and formats.
+pub fn programs_without_offences_are_sound()
+    ensures { (base : List DbcMessage) (program : Program) (order : List ℕ) (line : ℕ → ℕ → ℕ) →
+        IsReadable program → offences_of base program ≡ [] → IsGoodOrder (names_of base program) order →
+        cells_of_program base program ≤ 1000000 → HasShortLists (typed_program base program order line) →
+        IsSound (typed_program base program order line) }
 {}
