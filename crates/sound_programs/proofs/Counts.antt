@@ -74,6 +74,7 @@ pub record HasFewCells (typed : Typed) : Type 0 where
   pub starts : length typed.starts < 2 ^ 32
   pub timers : length typed.timers < 2 ^ 32
 
+-- so they are where a program has at most 1,000,000 cells
 pub few_cells : (base : List DbcMessage) (program : Program) (order : List ℕ) (line : ℕ → ℕ → ℕ) → IsReadable program → offences_of base program ≡ [] → cells_of_program base program ≤ 1000000 →
     HasFewCells (typed_program base program order line)
 few_cells base program order line readable none few =

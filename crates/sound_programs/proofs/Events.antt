@@ -49,15 +49,17 @@ use Rattle.sound_programs.proofs.Written.{and_both}
 
 -- ---- what is told
 
--- the frames, the timer and the key that a purpose is for
+-- the frames that a purpose is for
 abbrev pub frames_in : Purpose → Option Selector
 frames_in (ForFrames selector) = Some selector
 frames_in _ = None
 
+-- the key
 abbrev pub key_in : Purpose → Option (Option ℕ)
 key_in (ForKey key) = Some key
 key_in _ = None
 
+-- the timer, by its number
 abbrev pub timer_in : Names → Purpose → Option ℕ
 timer_in names (ForTimer name) = if names_timer names name then Some (timer_named names name) else None
 timer_in names _ = None
@@ -93,6 +95,7 @@ between rank None high keys is = absurd (let f : None ≡ Some keys = is in cc)
 between rank (Some least) None keys is = absurd (let f : None ≡ Some keys = is in cc)
 between rank (Some least) (Some most) keys is = ap (λ (o : Option Selector). option_map_or (λ (k : Selector). k.rank) o rank) (sym is)
 
+-- a selector selects at a known rank
 pub ranked : (base : List DbcMessage) (selector : Sel) (keys : Selector) → selector_of base selector ≡ Some keys → keys.rank ≤ 2
 ranked base (sel.Any at) keys is = let e : keys.rank ≡ 2 = between 2 (Some 0) (Some 0xFFFFFFFF) keys is in omega (arith, e)
 ranked base (sel.Name name at) keys is = go (message_named base name) is

@@ -22,4 +22,5 @@ pub mod Programs
 pub mod SmallDeclarations
 pub mod Starts
 pub mod Counts
+pub mod FormatCounts
 pub mod Sound

@@ -49,7 +49,7 @@ pub number_fine : (g : Sort) → IsOfNumber g → IsFine g
 number_fine (sort.Number k) is = tt
 number_fine g is = elim is [ ]
 
--- an array, a message and a timer are of their sorts
+-- an array is of its sort
 pub of_array : (g : Sort) → is_array g ≡ true → (k : Kind) × (g ≡ sort.Array k)
 of_array (sort.Array k) is = (k, refl)
 of_array (sort.Number k) is = absurd (let f : false ≡ true = is in cc)
@@ -59,6 +59,7 @@ of_array sort.Text is = absurd (let f : false ≡ true = is in cc)
 of_array sort.Nothing is = absurd (let f : false ≡ true = is in cc)
 of_array sort.Bad is = absurd (let f : false ≡ true = is in cc)
 
+-- a message is
 pub of_message : (g : Sort) → is_message g ≡ true → g ≡ sort.Message
 of_message sort.Message is = refl
 of_message (sort.Number k) is = absurd (let f : false ≡ true = is in cc)
@@ -68,6 +69,7 @@ of_message sort.Text is = absurd (let f : false ≡ true = is in cc)
 of_message sort.Nothing is = absurd (let f : false ≡ true = is in cc)
 of_message sort.Bad is = absurd (let f : false ≡ true = is in cc)
 
+-- a timer is
 pub of_timer : (g : Sort) → is_timer g ≡ true → g ≡ sort.Timer
 of_timer sort.Timer is = refl
 of_timer (sort.Number k) is = absurd (let f : false ≡ true = is in cc)

@@ -78,6 +78,7 @@ counted field c sort.Timer text is = absurd (let f : false ≡ true = is in cc)
 counted field c sort.Nothing text is = absurd (let f : false ≡ true = is in cc)
 counted field c sort.Bad text is = absurd (let f : false ≡ true = is in cc)
 
+-- two tests that hold together hold
 pub and_both : (a b : Bool) → a && b ≡ true → (a ≡ true) × (b ≡ true)
 and_both true b h = (refl, h)
 and_both false b h = absurd (let f : false ≡ true = h in cc)

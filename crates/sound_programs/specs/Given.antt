@@ -29,9 +29,9 @@ abbrev pub in_procedure : ℕ → Scope → Around
 in_procedure number s =
     record { number = number; gives = is_some s.gives; breakable = false; continuable = false }
 
--- a statement of the body of the procedure of a number stands in a program, with so many formats before its
--- own: it is well formed and small and breaks no rule, the functions that it calls stand before the procedure,
--- and the typed program has its formats
+-- a statement of the body of the procedure of a number stands in a program, with so many formats before
+-- its own: it is well formed and small and breaks no rule, the functions that it calls stand before the
+-- procedure, and the typed program has its formats
 pub record StandsIn (s : Scope) (order : List ℕ) (typed : Typed) (number before : ℕ) (statement : Stmt) :
     Type 0 where
   pub well_formed : IsBodyPart statement

@@ -1,4 +1,16 @@
-//! A program without offences has a sound typed program, point by point.
+//! A program without offences has a sound typed program: laws, point by point.
+//!
+//! What holds: of a program that breaks no rule and is readable (`Given` and `Small` in specs/), its typed
+//! program has its tables; each expression of which an integer is needed is a number; each statement has a
+//! sound tree; the formats read arrays of characters that are there, and are short; the initial values are
+//! held by the kinds of their cells; no two event procedures are for one event; the functions and event
+//! procedures are sound, in an order in which functions stand behind those that they call; and all of
+//! this together is soundness, where the program has at most 1,000,000 cells.
+//!
+//! What does not hold yet, and is asked for: that such an order is the one that is used (it follows from
+//! E26 and from how the order is made, which is not seen here); that functions, event procedures and
+//! formats are fewer than 2^32 (it follows from the count of tokens); and that a program that was parsed
+//! is readable. So no crate stands on these laws yet. There is no code that runs.
 #![tactic(auto)]
 
 pub mod laws;
