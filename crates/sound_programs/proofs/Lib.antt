@@ -23,4 +23,5 @@ pub mod SmallDeclarations
 pub mod Starts
 pub mod Counts
 pub mod FormatCounts
+pub mod ProcedureCounts
 pub mod Sound

@@ -2,7 +2,7 @@
 use Rattle.std.proofs.Common.{◌≡◌, ◌≢◌, ℕ, zero, suc, ◌<◌, Bool, true, false, List, [], ◌∷◌, ◌++◌, length, Option, Some, None, refl, sym, ap, ◌∙◌, arith}
 use Rattle.std.specs.Prelude.{⊤, AllPairs, filter_map, if◌then◌else◌}
 use Rattle.std.specs.List.{AllByRecursion, cons_option, list_any}
-use Rattle.std.proofs.lemmas.List.Elements.{All-from_recursion}
+use Rattle.std.proofs.lemmas.List.Elements.{All-from_recursion, recursion_from_All}
 use Rattle.capl_meaning.specs.StatementRules.{repeated}
 use Rattle.sound_programs.proofs.Empty.{back, front, full}
 
@@ -18,6 +18,14 @@ pairs R (x ∷ xs) h zero zero d less inside = absurd (omega (arith, less))
 pairs R (x ∷ xs) h zero (suc j) d less inside = All-from_recursion (λ y. R x y) xs h.0 j d (omega (arith, inside))
 pairs R (x ∷ xs) h (suc i) zero d less inside = absurd (omega (arith, less))
 pairs R (x ∷ xs) h (suc i) (suc j) d less inside = pairs R xs h.1 i j d (omega (arith, less)) (omega (arith, inside))
+
+-- and where any two are, each is so to each later one
+pub unpairs : {A : Type 0} (R : A → A → Type 0) (xs : List A) → AllPairs R xs → Apart R xs
+unpairs R [] h = tt
+unpairs R (x ∷ xs) h = (
+  recursion_from_All (λ y. R x y) xs (λ k d inside. h 0 (suc k) d (omega arith) (omega (arith, inside))),
+  unpairs R xs (λ i j d less inside. h (suc i) (suc j) d (omega (arith, less)) (omega (arith, inside))),
+)
 
 module _ {A : Type 0} (same : A → A → Bool) where
   -- none is the same as one that is known before it

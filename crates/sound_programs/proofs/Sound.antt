@@ -1,23 +1,26 @@
 -- The typed program of a program that breaks no rule is sound.
-use Rattle.std.proofs.Common.{◌≡◌, ℕ, ◌≤◌, List, []}
+use Rattle.std.proofs.Common.{◌≡◌, ℕ, ◌≤◌, ◌<◌, ◌^◌, List, []}
 use Rattle.dbc_reader.specs.declared.message.DbcMessage.{DbcMessage}
 use Rattle.capl_tree.specs.declared.file.Program.{Program}
+use Rattle.capl_tree.specs.Weight.{weight}
 use Rattle.typed_tree.specs.Sound.{IsSound}
 use Rattle.capl_meaning.specs.Names.{names_of}
 use Rattle.capl_meaning.specs.Offences.{offences_of}
 use Rattle.capl_meaning.specs.Size.{cells_of_program}
 use Rattle.typed_source.specs.Program.{IsGoodOrder, typed_program}
-use Rattle.sound_programs.specs.Given.{HasShortLists, IsReadable}
+use Rattle.sound_programs.specs.Given.{IsReadable}
 use Rattle.sound_programs.proofs.Counts.{few_cells}
 use Rattle.sound_programs.proofs.EventLists.{keys_kept, selectors_kept, timers_kept}
 use Rattle.sound_programs.proofs.Procedures.{functions_sound, handlers_sound, tables_there}
+use Rattle.sound_programs.proofs.ProcedureCounts.{short_lists}
 use Rattle.sound_programs.proofs.Programs.{arrays_there, formats_short, units_fine}
 use Rattle.sound_programs.proofs.Starts.{starts_fine}
 
 -- all points together
 pub all_sound : (base : List DbcMessage) (program : Program) (order : List ℕ) (line : ℕ → ℕ → ℕ) → IsReadable program → offences_of base program ≡ [] → IsGoodOrder (names_of base program) order →
-    cells_of_program base program ≤ 1000000 → HasShortLists (typed_program base program order line) → IsSound (typed_program base program order line)
-all_sound base program order line readable none good few short =
+    cells_of_program base program ≤ 1000000 → weight program < 2 ^ 35 → IsSound (typed_program base program order line)
+all_sound base program order line readable none good few light =
+    let short = short_lists base program order line good light in
     let tables = tables_there base program order line readable none in
     let cells = few_cells base program order line readable none few in
     record {

@@ -1,6 +1,6 @@
 //! Laws of programs without offences. Each call does nothing: its contract is the law.
 
-ghost use Rattle.std.specs.Prelude.{◌≡◌, ◌≢◌, ◌≤◌, ℕ, List, [], Some, length, slice_get, All, AllPairs};
+ghost use Rattle.std.specs.Prelude.{◌≡◌, ◌≢◌, ◌≤◌, ◌<◌, ◌^◌, ℕ, List, [], Some, length, slice_get, All, AllPairs};
 ghost use Rattle.run_effects.specs.Duration.{IsUnit};
 ghost use Rattle.run_effects.specs.Event.{KeepsSelectors, KeepsTimers};
 ghost use Rattle.write_format.specs.Arrays.{IsCharArray};
@@ -10,6 +10,7 @@ ghost use Rattle.dbc_reader.specs.declared.message.DbcMessage.{DbcMessage};
 ghost use Rattle.capl_tree.specs.declared.expr.Expr.{Expr};
 ghost use Rattle.capl_tree.specs.declared.file.Program.{Program};
 ghost use Rattle.capl_tree.specs.declared.statement.Stmt.{Stmt};
+ghost use Rattle.capl_tree.specs.Weight.{weight};
 ghost use Rattle.typed_tree.specs.declared.program.TFun.{TFun};
 ghost use Rattle.typed_tree.specs.declared.program.Typed.{Typed};
 ghost use Rattle.typed_tree.specs.Sound.{IsSound, IsSoundFunction, IsSoundHandler, all_keys, all_selectors, all_timers};
@@ -104,13 +105,20 @@ pub fn programs_have_held_starts()
         (typed_program base program order line).starts }
 {}
 
-/// The typed program of a readable program without offences and with at most 1,000,000 cells is sound, in
-/// each order in which functions stand behind those that they call, where it has fewer than 2^32 functions,
-/// event procedures and formats.
+/// The typed program of a program whose weight is below 2^35 has fewer than 2^32 functions, event procedures
+/// and formats, in each order that has each function once.
+pub fn light_programs_have_short_lists()
+    ensures { (base : List DbcMessage) (program : Program) (order : List ℕ) (line : ℕ → ℕ → ℕ) →
+        IsGoodOrder (names_of base program) order → weight program < 2 ^ 35 →
+        HasShortLists (typed_program base program order line) }
+{}
+
+/// The typed program of a readable program without offences, with at most 1,000,000 cells and a weight
+/// below 2^35, is sound, in each order in which functions stand behind those that they call.
 pub fn programs_without_offences_are_sound()
     ensures { (base : List DbcMessage) (program : Program) (order : List ℕ) (line : ℕ → ℕ → ℕ) →
         IsReadable program → offences_of base program ≡ [] → IsGoodOrder (names_of base program) order →
-        cells_of_program base program ≤ 1000000 → HasShortLists (typed_program base program order line) →
+        cells_of_program base program ≤ 1000000 → weight program < 2 ^ 35 →
         IsSound (typed_program base program order line) }
 {}
 
@@ -125,6 +133,7 @@ mod tests {
         super::programs_keep_events_apart();
         super::programs_have_sound_procedures();
         super::programs_have_held_starts();
+        super::light_programs_have_short_lists();
         super::programs_without_offences_are_sound();
     }
 }

@@ -4,13 +4,14 @@
 //! program has its tables; each expression of which an integer is needed is a number; each statement has a
 //! sound tree; the formats read arrays of characters that are there, and are short; the initial values are
 //! held by the kinds of their cells; no two event procedures are for one event; the functions and event
-//! procedures are sound, in an order in which functions stand behind those that they call; and all of
-//! this together is soundness, where the program has at most 1,000,000 cells.
+//! procedures are sound, in an order in which functions stand behind those that they call; no list is too
+//! long; and all of this together is soundness, where the program has at most 1,000,000 cells and a
+//! weight below 2^35.
 //!
-//! What does not hold yet, and is asked for: that such an order is the one that is used (it follows from
-//! E26 and from how the order is made, which is not seen here); that functions, event procedures and
-//! formats are fewer than 2^32 (it follows from the count of tokens); and that a program that was parsed
-//! is readable. So no crate stands on these laws yet. There is no code that runs.
+//! What is asked for and not shown here: that the order that is used is such an order (it follows from E26
+//! and from how the order is made); that a program that was parsed is readable, and that its weight is so
+//! low (both follow from the grammar, the types of a tree and the count of tokens). So no crate stands on
+//! these laws yet. There is no code that runs.
 #![tactic(auto)]
 
 pub mod laws;
