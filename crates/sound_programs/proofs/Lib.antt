@@ -25,3 +25,4 @@ pub mod Counts
 pub mod FormatCounts
 pub mod ProcedureCounts
 pub mod Sound
+pub mod Recursion

@@ -1,6 +1,6 @@
 //! Laws of programs without offences. Each call does nothing: its contract is the law.
 
-ghost use Rattle.std.specs.Prelude.{◌≡◌, ◌≢◌, ◌≤◌, ◌<◌, ◌^◌, ℕ, List, [], Some, length, slice_get, All, AllPairs};
+ghost use Rattle.std.specs.Prelude.{◌≡◌, ◌≢◌, ◌≤◌, ◌<◌, ◌^◌, ℕ, List, [], Some, false, length, slice_get, All, AllPairs};
 ghost use Rattle.run_effects.specs.Duration.{IsUnit};
 ghost use Rattle.run_effects.specs.Event.{KeepsSelectors, KeepsTimers};
 ghost use Rattle.write_format.specs.Arrays.{IsCharArray};
@@ -15,6 +15,7 @@ ghost use Rattle.typed_tree.specs.declared.program.TFun.{TFun};
 ghost use Rattle.typed_tree.specs.declared.program.Typed.{Typed};
 ghost use Rattle.typed_tree.specs.Sound.{IsSound, IsSoundFunction, IsSoundHandler, all_keys, all_selectors, all_timers};
 ghost use Rattle.typed_tree.specs.SoundStatement.{IsSoundStmt};
+ghost use Rattle.capl_meaning.specs.Calls.{called_by_number, reaches};
 ghost use Rattle.capl_meaning.specs.ExpressionRules.{integer_offences};
 ghost use Rattle.capl_meaning.specs.Names.{Scope, names_of};
 ghost use Rattle.capl_meaning.specs.Offences.{offences_of};
@@ -105,6 +106,14 @@ pub fn programs_have_held_starts()
         (typed_program base program order line).starts }
 {}
 
+/// No function that a function of a readable program without offences calls reaches it by calls.
+pub fn functions_do_not_reach_their_callers()
+    ensures { (base : List DbcMessage) (program : Program) → IsReadable program →
+        offences_of base program ≡ [] → (number : ℕ) →
+        All (λ called. reaches (names_of base program) called number ≡ false)
+        (called_by_number (names_of base program) number) }
+{}
+
 /// The typed program of a program whose weight is below 2^35 has fewer than 2^32 functions, event procedures
 /// and formats, in each order that has each function once.
 pub fn light_programs_have_short_lists()
@@ -133,6 +142,7 @@ mod tests {
         super::programs_keep_events_apart();
         super::programs_have_sound_procedures();
         super::programs_have_held_starts();
+        super::functions_do_not_reach_their_callers();
         super::light_programs_have_short_lists();
         super::programs_without_offences_are_sound();
     }
