@@ -5,8 +5,8 @@
 //! sound tree; the formats read arrays of characters that are there, and are short; the initial values are
 //! held by the kinds of their cells; no two event procedures are for one event; the functions and event
 //! procedures are sound, in an order in which functions stand behind those that they call; no function that
-//! a function calls reaches it; no list is too long; and all of this together is soundness, where the program has at most 1,000,000 cells and a
-//! weight below 2^35.
+//! a function calls reaches it; no list is too long; and all of this together is soundness, where the
+//! program has at most 1,000,000 cells and a weight below 2^35.
 //!
 //! What is asked for and not shown here: that the order that is used is such an order (it follows from E26
 //! and from how the order is made); that a program that was parsed is readable, and that its weight is so
