@@ -55,8 +55,22 @@ mod tests {
         let rows = [
             ("d/n.can", None, None, b'L', 1, "refused d/n.can L01\n"),
             ("d/n.can", Some(3), None, b'E', 7, "refused d/n.can:3 E07\n"),
-            ("d/n.can", Some(12), Some(40), b'E', 28, "refused d/n.can:12:40 E28\n"),
-            ("d\n/n\r.can", None, None, b'F', 1, "refused d\\n/n\\r.can F01\n"),
+            (
+                "d/n.can",
+                Some(12),
+                Some(40),
+                b'E',
+                28,
+                "refused d/n.can:12:40 E28\n",
+            ),
+            (
+                "d\n/n\r.can",
+                None,
+                None,
+                b'F',
+                1,
+                "refused d\\n/n\\r.can F01\n",
+            ),
         ];
         for (file, line, column, group, number, text) in rows {
             let blame = Blame {

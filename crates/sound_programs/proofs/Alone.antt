@@ -154,16 +154,19 @@ module _ (typed : Typed) (around : Around) where
         IsSoundPlain (option_map_or (λ held. Send (message_slot s.names held)) (message_in s message) Empty)
     sound_output at message good none =
         let there = message_there s message (of_message (sort_of s message) (argument_so s at is_message message good none)) in
-        subst (λ o. IsSoundPlain (option_map_or (λ held. Send (message_slot s.names held)) o Empty)) (sym there.1) (record {
-          names_exist = held_there message there.0 there.1;
-          labels_differ = tt;
-          labels_in_range = tt;
-          plain_parts = tt;
-          returns = tt;
-          leaves = tt;
-          writes = tt;
-          short_lists = tt;
-        }, tt)
+        subst (λ o. IsSoundPlain (option_map_or (λ held. Send (message_slot s.names held)) o Empty)) (sym there.1) (
+          record {
+            names_exist = held_there message there.0 there.1;
+            labels_differ = tt;
+            labels_in_range = tt;
+            plain_parts = tt;
+            returns = tt;
+            leaves = tt;
+            writes = tt;
+            short_lists = tt;
+          },
+          tt,
+        )
 
     -- the timer of a call is there
     timer_exists : (at : ℕ) (timer : Expr) → IsFine (sort_of s timer) → argument_rule s at is_timer timer ≡ [] →
@@ -177,31 +180,40 @@ module _ (typed : Typed) (around : Around) where
         IsSoundPlain (setting s.names (timer_in s timer) cyclic t)
     sound_set at timer cyclic t good none duration =
         let there = timer_exists at timer good none in
-        subst (λ o. IsSoundPlain (setting s.names o cyclic t)) (sym there.1) ((record {
-          names_exist = there.2;
-          labels_differ = tt;
-          labels_in_range = tt;
-          plain_parts = tt;
-          returns = tt;
-          leaves = tt;
-          writes = tt;
-          short_lists = tt;
-        }, duration), tt)
+        subst (λ o. IsSoundPlain (setting s.names o cyclic t)) (sym there.1) (
+          (
+            record {
+              names_exist = there.2;
+              labels_differ = tt;
+              labels_in_range = tt;
+              plain_parts = tt;
+              returns = tt;
+              leaves = tt;
+              writes = tt;
+              short_lists = tt;
+            },
+            duration,
+          ),
+          tt,
+        )
 
     sound_cancel : (at : ℕ) (timer : Expr) → IsFine (sort_of s timer) → argument_rule s at is_timer timer ≡ [] →
         IsSoundPlain (option_map_or (λ v. Cancel (timer_number s.names v)) (timer_in s timer) Empty)
     sound_cancel at timer good none =
         let there = timer_exists at timer good none in
-        subst (λ o. IsSoundPlain (option_map_or (λ v. Cancel (timer_number s.names v)) o Empty)) (sym there.1) (record {
-          names_exist = there.2;
-          labels_differ = tt;
-          labels_in_range = tt;
-          plain_parts = tt;
-          returns = tt;
-          leaves = tt;
-          writes = tt;
-          short_lists = tt;
-        }, tt)
+        subst (λ o. IsSoundPlain (option_map_or (λ v. Cancel (timer_number s.names v)) o Empty)) (sym there.1) (
+          record {
+            names_exist = there.2;
+            labels_differ = tt;
+            labels_in_range = tt;
+            plain_parts = tt;
+            returns = tt;
+            leaves = tt;
+            writes = tt;
+            short_lists = tt;
+          },
+          tt,
+        )
 
     -- the arguments of a `write` that are numbers
     sound_numbers : {m : Count} (row : Row_of-Expr m) → CanRowBeMade s order typed around.number row →
@@ -231,16 +243,22 @@ module _ (typed : Typed) (around : Around) where
         let all : length (filter (λ e. is_number (sort_of s e)) arguments) ≡ count_by (λ e. is_number (sort_of s e)) arguments = length-filter (λ e. is_number (sort_of s e)) arguments in
         let some : count_by (λ e. is_number (sort_of s e)) arguments ≤ length arguments = count_by-le-length (λ e. is_number (sort_of s e)) arguments in
         omega (arith, all, some) in
-        subst (λ o. IsSoundPlain (writing s order before o arguments)) (sym fit.are) ((record {
-          names_exist = slice_get_within typed.formats before (format_of s fit.pieces arguments) at;
-          labels_differ = tt;
-          labels_in_range = tt;
-          plain_parts = tt;
-          returns = tt;
-          leaves = tt;
-          writes = subst (λ o. IsSomeAnd o (λ (format : FormatText). length (numbers_of s order arguments) ≡ numbers_taken format)) (sym at) (long ∙ sym taken);
-          short_lists = omega (arith, long, most, few);
-        }, numbers), tt)
+        subst (λ o. IsSoundPlain (writing s order before o arguments)) (sym fit.are) (
+          (
+            record {
+              names_exist = slice_get_within typed.formats before (format_of s fit.pieces arguments) at;
+              labels_differ = tt;
+              labels_in_range = tt;
+              plain_parts = tt;
+              returns = tt;
+              leaves = tt;
+              writes = subst (λ o. IsSomeAnd o (λ (format : FormatText). length (numbers_of s order arguments) ≡ numbers_taken format)) (sym at) (long ∙ sym taken);
+              short_lists = omega (arith, long, most, few);
+            },
+            numbers,
+          ),
+          tt,
+        )
 
     -- ---- calls
 
@@ -315,16 +333,19 @@ module _ (typed : Typed) (around : Around) where
     sound_copy : (left right : Held) (other : TStmt) → is_variable left ≡ true → IsMessage typed.cells (message_slot s.names left) → IsMessage typed.cells (message_slot s.names right) →
         IsSoundPlain (of_assignment s.names (Some left) (Some right) other)
     sound_copy (HeldFrame signals) right other is one two = absurd (let f : false ≡ true = is in cc)
-    sound_copy (HeldVariable v signals) right other is one two = (record {
-      names_exist = (one, two);
-      labels_differ = tt;
-      labels_in_range = tt;
-      plain_parts = tt;
-      returns = tt;
-      leaves = tt;
-      writes = tt;
-      short_lists = tt;
-    }, tt)
+    sound_copy (HeldVariable v signals) right other is one two = (
+      record {
+        names_exist = (one, two);
+        labels_differ = tt;
+        labels_in_range = tt;
+        plain_parts = tt;
+        returns = tt;
+        leaves = tt;
+        writes = tt;
+        short_lists = tt;
+      },
+      tt,
+    )
 
     -- an assignment
     sound_assign : (left right : Expr) (at : ℕ) → IsFine (sort_of s left) → IsFine (sort_of s right) → left_rule s None left ≡ [] → sides_rule s at (sort_of s left) (sort_of s right) ≡ [] →
@@ -394,14 +415,17 @@ module _ (typed : Typed) (around : Around) where
         let callable = can.0 f is in
         let given = called_arguments at f args good (subst (λ c. call_rules s at c (items-the_row-Expr _ args) ≡ []) is rules) can.1 in
         subst (λ c. IsSoundAlone typed around.number (of_call s order c (items-the_row-Expr _ args) (λ k. Call' k shape (row_of s order args)))) (sym is)
-        (subst (λ o. IsSoundAlone typed around.number (option_map_or (λ k. Call' k shape (row_of s order args)) o (Const (pos 0)))) (sym callable.is_there) (record {
-          names_exist = tt;
-          constant_in_range = tt;
-          operation = tt;
-          calls_earlier = (callable.earlier, subst (λ o. IsSomeAnd o (λ (function : TFun). length (items-the_row-TExpr _ (row_of s order args)) ≡ length function.params)) (sym callable.is_function) (given.0 ∙ sym callable.same_count));
-          few_arguments = subst (λ n. n < 2 ^ 32) (sym given.0) callable.few_parameters;
-          can_give_back = tt;
-        }, given.1)))
+        (subst (λ o. IsSoundAlone typed around.number (option_map_or (λ k. Call' k shape (row_of s order args)) o (Const (pos 0)))) (sym callable.is_there) (
+          record {
+            names_exist = tt;
+            constant_in_range = tt;
+            operation = tt;
+            calls_earlier = (callable.earlier, subst (λ o. IsSomeAnd o (λ (function : TFun). length (items-the_row-TExpr _ (row_of s order args)) ≡ length function.params)) (sym callable.is_function) (given.0 ∙ sym callable.same_count));
+            few_arguments = subst (λ n. n < 2 ^ 32) (sym given.0) callable.few_parameters;
+            can_give_back = tt;
+          },
+          given.1,
+        )))
     alone before (tree.Assign None left right at) formed few none called formats =
         let rest = back (offences s left) _ none in
         let rules = back (offences s right) _ rest in

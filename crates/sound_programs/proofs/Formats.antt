@@ -183,10 +183,13 @@ module _ (typed : Typed) (s : Scope) (tables : HasTables s.names typed) where
   array_there e named field =
       let table = tables.arrays named.variable kind.Char named.fixed named.size named.form in
       subst (λ o. Arrays (element_of field conversion.Text (text_argument s.names o (array_in s e)))) (sym named.no_text)
-      (subst (λ o. Arrays (element_of field conversion.Text (text_argument s.names None o))) (sym named.is) (record {
-        there = table.0.there;
-        characters = subst (λ j. All (λ k. k ≡ j) (cells_of (slot s.names (key_of named.variable)) (elements_of s.names named.variable) typed.cells)) table.1 table.0.of_one_kind;
-      }, tt))
+      (subst (λ o. Arrays (element_of field conversion.Text (text_argument s.names None o))) (sym named.is) (
+        record {
+          there = table.0.there;
+          characters = subst (λ j. All (λ k. k ≡ j) (cells_of (slot s.names (key_of named.variable)) (elements_of s.names named.variable) typed.cells)) table.1 table.0.of_one_kind;
+        },
+        tt,
+      ))
 
   -- the arrays of an argument that its code shows
   shown_arrays : (field : Field) (c : Conversion) (e : Expr) (g : Sort) → Names s e g → option_map_or (is_fit c) (sort_argument g) false ≡ true →

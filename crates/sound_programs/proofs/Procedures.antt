@@ -55,9 +55,9 @@ module _ (typed : Typed) (number : ℕ) (s : Scope) (order : List ℕ) (tables :
   body_sound before [] formed few none called formats = tt
   body_sound before (first ∷ rest) formed few none called formats = (
     statement typed number s order tables forms in_body before first formed.0 few.0 (front (statement_offences s in_body first) _ none) (all_front _ (calls_of first) (flat_map calls_of rest) called)
-    (first_part before (formats_of s first) (formats_of_body s rest) typed.formats formats),
+        (first_part before (formats_of s first) (formats_of_body s rest) typed.formats formats),
     body_sound (before + length (formats_of s first)) rest formed.1 few.1 (back (statement_offences s in_body first) _ none) (all_back _ (calls_of first) (flat_map calls_of rest) called)
-    (second_part before (formats_of s first) (formats_of_body s rest) typed.formats formats),
+        (second_part before (formats_of s first) (formats_of_body s rest) typed.formats formats),
   )
 
 -- as many trees as statements
@@ -79,9 +79,11 @@ placed : (names : Names) (order : List ℕ) (formats : List FormatText) (before 
 placed names order formats before [] there k number e = absurd (let f : None ≡ Some number = e in cc)
 placed names order formats before (first ∷ rest) there zero number e =
     let own = formats_of_function names (function_numbered names first) in
-    let same : first ≡ number = let f : Some first ≡ Some number = e in cc in
-    (function_of names order before (function_numbered names first), refl,
-    subst (λ n. Placed names order formats n (function_of names order before (function_numbered names first))) same (record { before = before; is = refl; formats_there = first_part before own (formats_of_functions names rest) formats there }))
+    let same : first ≡ number = let f : Some first ≡ Some number = e in cc in (
+      function_of names order before (function_numbered names first),
+      refl,
+      subst (λ n. Placed names order formats n (function_of names order before (function_numbered names first))) same (record { before = before; is = refl; formats_there = first_part before own (formats_of_functions names rest) formats there }),
+    )
 placed names order formats before (first ∷ rest) there (suc k) number e =
     let own = formats_of_function names (function_numbered names first) in
     placed names order formats (before + length own) rest (second_part before own (formats_of_functions names rest) formats there) k number e

@@ -138,28 +138,34 @@ module _ (typed : Typed) (number : ℕ) (s : Scope) (order : List ℕ) (tables :
 
   returns_right : (at : ℕ) (o : Option Kind) (value : Option Expr) (t : Expr → TExpr) → return_rule s at o value ≡ [] → ((e : Expr) → value ≡ Some e → IsSoundExpr typed number (t e)) → (around : Around) → around.number ≡ number → around.gives ≡ is_some o →
       IsSoundStmt typed around (Return (option_map (λ e. returned o (t e)) value))
-  returns_right at None None t none good around is gives = (record {
-    names_exist = tt;
-    labels_differ = tt;
-    labels_in_range = tt;
-    plain_parts = tt;
-    returns = gives;
-    leaves = tt;
-    writes = tt;
-    short_lists = tt;
-  }, tt)
+  returns_right at None None t none good around is gives = (
+    record {
+      names_exist = tt;
+      labels_differ = tt;
+      labels_in_range = tt;
+      plain_parts = tt;
+      returns = gives;
+      leaves = tt;
+      writes = tt;
+      short_lists = tt;
+    },
+    tt,
+  )
   returns_right at None (Some e) t none good around is gives = absurd (full _ _ none)
   returns_right at (Some k) None t none good around is gives = absurd (full _ _ none)
-  returns_right at (Some k) (Some e) t none good around is gives = (record {
-    names_exist = tt;
-    labels_differ = tt;
-    labels_in_range = tt;
-    plain_parts = tt;
-    returns = gives;
-    leaves = tt;
-    writes = tt;
-    short_lists = tt;
-  }, (record { names_exist = tt; constant_in_range = tt; operation = tt; calls_earlier = tt; few_arguments = tt; can_give_back = tt }, subst (λ n. IsSoundExpr typed n (t e)) (sym is) (good e refl)))
+  returns_right at (Some k) (Some e) t none good around is gives = (
+    record {
+      names_exist = tt;
+      labels_differ = tt;
+      labels_in_range = tt;
+      plain_parts = tt;
+      returns = gives;
+      leaves = tt;
+      writes = tt;
+      short_lists = tt;
+    },
+    (record { names_exist = tt; constant_in_range = tt; operation = tt; calls_earlier = tt; few_arguments = tt; can_give_back = tt }, subst (λ n. IsSoundExpr typed n (t e)) (sym is) (good e refl)),
+  )
 
   value_sound : (value : Option Expr) → IsPart value → IfSome value IsSmallExpr → needed_offences s value ≡ [] → AreCallable s.names order typed number (calls_in_part value) →
       (e : Expr) → value ≡ Some e → IsSoundExpr typed number (expression_of s order e)
@@ -182,16 +188,19 @@ module _ (typed : Typed) (number : ℕ) (s : Scope) (order : List ℕ) (tables :
         StandFrom before (formats_of s x) typed.formats →
         IsSoundStmt typed (record { number = number; gives = is_some s.gives; breakable = around.breakable; continuable = around.continuable }) (statement_of s order before x)
     statement around before stmt.Empty formed few none called formats = tt
-    statement around before (stmt.Block' shape body) formed few none called formats = (record {
-      names_exist = tt;
-      labels_differ = tt;
-      labels_in_range = tt;
-      plain_parts = tt;
-      returns = tt;
-      leaves = tt;
-      writes = tt;
-      short_lists = subst (λ n. n < 2 ^ 32) (sym (statements_long before body)) few.0;
-    }, statements around before body formed few.1 none called formats)
+    statement around before (stmt.Block' shape body) formed few none called formats = (
+      record {
+        names_exist = tt;
+        labels_differ = tt;
+        labels_in_range = tt;
+        plain_parts = tt;
+        returns = tt;
+        leaves = tt;
+        writes = tt;
+        short_lists = subst (λ n. n < 2 ^ 32) (sym (statements_long before body)) few.0;
+      },
+      statements around before body formed few.1 none called formats,
+    )
     statement around before (stmt.Decl declaration) formed few none called formats = tt
     statement around before (stmt.Expr e) formed few none called formats = (alone typed (standing around) s order tables forms before e formed few none called formats).0
     statement around before (stmt.If' shape arms other) formed few none called formats = (
@@ -206,9 +215,9 @@ module _ (typed : Typed) (number : ℕ) (s : Scope) (order : List ℕ) (tables :
         short_lists = subst (λ n. n < 2 ^ 32) (sym (arms_long before arms)) few.0;
       },
       arms_sound around before arms (arms_formed arms other formed.0) few.1 (front (offences_of_arms s around arms) _ none) (callable_front (calls_of_arms arms) (calls_of_else other) called)
-      (first_part before (formats_of_arms s arms) (formats_of_else s other) typed.formats formats),
+          (first_part before (formats_of_arms s arms) (formats_of_else s other) typed.formats formats),
       else_sound around (before + length (formats_of_arms s arms)) other formed.1 few.2 (back (offences_of_arms s around arms) _ none) (callable_back (calls_of_arms arms) (calls_of_else other) called)
-      (second_part before (formats_of_arms s arms) (formats_of_else s other) typed.formats formats),
+          (second_part before (formats_of_arms s arms) (formats_of_else s other) typed.formats formats),
     )
     statement around before (tree.While test body) formed few none called formats = (
       needed test formed.0 few.0 (front (integer_offences s test) _ none) (callable_front (calls_in test) (calls_of body) called),
@@ -242,7 +251,7 @@ module _ (typed : Typed) (number : ℕ) (s : Scope) (order : List ℕ) (tables :
           needed_part test formed.1 few.1 (front (needed_offences s test) _ rules) (callable_front (calls_in_part test) (calls_in_part step ++ calls_of body) others),
           third.0,
           statement in_loop (before + length (formats_of_part s init) + length (formats_of_part s step)) body (body_part body formed.3) few.3 (back (alone_offences s step) _ last) (callable_back (calls_in_part step) (calls_of body) ends)
-          (second_part (before + length (formats_of_part s init)) (formats_of_part s step) (formats_of s body) typed.formats behind),
+              (second_part (before + length (formats_of_part s init)) (formats_of_part s step) (formats_of s body) typed.formats behind),
         )
     statement around before (stmt.Switch' on shape groups) formed few none called formats =
         let rules = back (integer_offences s on) _ none in
@@ -259,10 +268,12 @@ module _ (typed : Typed) (number : ℕ) (s : Scope) (order : List ℕ) (tables :
             writes = tt;
             short_lists = (subst (λ n. n < 2 ^ 32) (sym (as_many_groups s order (prefix_kind s on) before groups)) few.0, few_labels s order (prefix_kind s on) before groups few.2);
           },
-          (record { names_exist = tt; constant_in_range = tt; operation = tt; calls_earlier = tt; few_arguments = tt; can_give_back = tt },
-          needed on formed.0 few.1 whole (callable_front (calls_in on) (calls_of_groups groups) called)),
+          (
+            record { names_exist = tt; constant_in_range = tt; operation = tt; calls_earlier = tt; few_arguments = tt; can_give_back = tt },
+            needed on formed.0 few.1 whole (callable_front (calls_in on) (calls_of_groups groups) called),
+          ),
           groups_sound (source.in_switch around) (prefix_kind s on) before groups (groups_formed groups formed.1) few.2 (back (labels_rule s (sort_of s on) (labels_of groups)) _ rules)
-          (callable_back (calls_in on) (calls_of_groups groups) called) formats,
+              (callable_back (calls_in on) (calls_of_groups groups) called) formats,
         )
     statement around before (stmt.Break at) formed few none called formats = record {
       names_exist = tt;
@@ -296,9 +307,9 @@ module _ (typed : Typed) (number : ℕ) (s : Scope) (order : List ℕ) (tables :
     statements around before (more_of-Stmt first rest) formed few none called formats =
         let parts = row_parts first rest formed in (
           statement around before first parts.0 few.0 (front (statement_offences s around first) _ none) (callable_front (calls_of first) (calls_of_row rest) called)
-          (first_part before (formats_of s first) (formats_of_row s rest) typed.formats formats),
+              (first_part before (formats_of s first) (formats_of_row s rest) typed.formats formats),
           statements around (before + length (formats_of s first)) rest parts.1 few.1 (back (statement_offences s around first) _ none) (callable_back (calls_of first) (calls_of_row rest) called)
-          (second_part before (formats_of s first) (formats_of_row s rest) typed.formats formats),
+              (second_part before (formats_of s first) (formats_of_row s rest) typed.formats formats),
         )
 
     -- the arms of an `if`
@@ -311,9 +322,9 @@ module _ (typed : Typed) (number : ℕ) (s : Scope) (order : List ℕ) (tables :
         let others = callable_back (calls_in test) (calls_of body ++ calls_of_arms rest) called in (
           needed test formed.0 few.0 (front (integer_offences s test) _ none) (callable_front (calls_in test) (calls_of body ++ calls_of_arms rest) called),
           statement around before body formed.1 few.1 (front (statement_offences s around body) _ rules) (callable_front (calls_of body) (calls_of_arms rest) others)
-          (first_part before (formats_of s body) (formats_of_arms s rest) typed.formats formats),
+              (first_part before (formats_of s body) (formats_of_arms s rest) typed.formats formats),
           arms_sound around (before + length (formats_of s body)) rest formed.2 few.2 (back (statement_offences s around body) _ rules) (callable_back (calls_of body) (calls_of_arms rest) others)
-          (second_part before (formats_of s body) (formats_of_arms s rest) typed.formats formats),
+              (second_part before (formats_of s body) (formats_of_arms s rest) typed.formats formats),
         )
 
     -- what stands behind a last `else`
@@ -333,7 +344,7 @@ module _ (typed : Typed) (number : ℕ) (s : Scope) (order : List ℕ) (tables :
         let others = callable_back (calls_in_labels labels) (calls_of_row body ++ calls_of_groups rest) called in (
           subst (λ n. n < 2 ^ 32) (sym (statements_long before body)) few.1,
           statements around before body formed.0 few.2 (front (offences_of_statements s around body) _ rules) (callable_front (calls_of_row body) (calls_of_groups rest) others)
-          (first_part before (formats_of_row s body) (formats_of_groups s rest) typed.formats formats),
+              (first_part before (formats_of_row s body) (formats_of_groups s rest) typed.formats formats),
           groups_sound around k (before + length (formats_of_row s body)) rest formed.1 few.3 (back (offences_of_statements s around body) _ rules) (callable_back (calls_of_row body) (calls_of_groups rest) others)
-          (second_part before (formats_of_row s body) (formats_of_groups s rest) typed.formats formats),
+              (second_part before (formats_of_row s body) (formats_of_groups s rest) typed.formats formats),
         )

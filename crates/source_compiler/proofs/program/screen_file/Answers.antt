@@ -1,5 +1,5 @@
 -- What the screening of the tokens says of the file.
-use Rattle.std.proofs.Common.{ℕ, List, get_or, subst}
+use Rattle.std.proofs.Common.{ℕ, List, subst, sym}
 use Rattle.texts.specs.declared.blame.Rule.{Rule}
 use Rattle.capl_lexer.specs.Screening.{Breaks}
 use Rattle.capl_lexer.specs.declared.token.Token.{Token}
@@ -17,8 +17,9 @@ returns-in-Some c =
     let place = c.in-Some.place in
     let rule = c.in-Some.rule in
     let d = c.index-tokens-place.result in
-    blamed {A = Unit {0}} (λ done. IsScreened file) (λ blame. IsTokenBlame blame file) (place_blame name (get_or tokens place d).line (get_or tokens place d).column rule) c.blamed_place.result
-    (token_blame file tokens name place rule d c.as_slice-tokens.ensures c.bytes.ensures c.in-Some.ensures.breaks c.in-Some.ensures.first) c.blamed_place.ensures
+    blamed {A = Unit {0}} (λ done. IsScreened file) (λ blame. IsTokenBlame blame file) (place_blame name d.line d.column rule) c.blamed_place.result
+    (subst (λ (t : Token). IsTokenBlame (place_blame name t.line t.column rule) file) (sym c.index-tokens-place.is)
+    (token_blame file tokens name place rule d c.as_slice-tokens.ensures c.bytes.ensures c.in-Some.ensures.breaks c.in-Some.ensures.first)) c.blamed_place.ensures
 
 pub returns-in-None : goal.returns-in-None
 returns-in-None c =
