@@ -50,7 +50,7 @@ use Rattle.typed_laws.specs.Laid.{HasForm, IsHeld, message_slot, slot}
 use Rattle.typed_laws.proofs.Places.{message_named}
 use Rattle.typed_laws.proofs.Timers.{timer_named}
 use Rattle.typed_source.specs.Expression.{expression_of, loaded, of_call, of_name, of_this, place_in, place_of_form, row_of}
-use Rattle.typed_source.specs.Statement.{StandFrom, alone_of, format_of, formats_of_alone, formats_of_call, formats_written, numbers_of, of_assignment, of_call_alone, pieces_written, setting, writing}
+use Rattle.typed_source.specs.Statement.{StandFrom, alone_of, format_of, formats_of_alone, formats_of_call, formats_written, numbers_of, of_assignment, of_call_alone, pieces_written, setting, text_written, writing}
 use Rattle.typed_source.specs.Sound.{CanBeMade, CanRowBeMade, HasTables, IsCallable, IsOfNumber}
 use Rattle.typed_source.proofs.SoundExpressions.{sound}
 use Rattle.sound_programs.specs.Given.{AreCallable, HaveForms}
@@ -228,16 +228,16 @@ module _ (typed : Typed) (around : Around) where
         go false is others = others
 
     sound_write : (before : ℕ) (format : Expr) (arguments : List Expr) → Fits s format arguments → length arguments < 2 ^ 32 →
-        StandFrom before (formats_written s (pieces_written s format arguments) arguments) typed.formats →
+        StandFrom before (formats_written s (text_written format) (pieces_written s format arguments) arguments) typed.formats →
         AllByRecursion (IsSoundExpr typed around.number) (numbers_of s order arguments) →
         IsSoundPlain (writing s order before (pieces_written s format arguments) arguments)
     sound_write before format arguments fit few formats numbers =
-        let here : slice_get typed.formats (before + 0) ≡ Some (format_of s fit.pieces arguments) =
-        (subst (λ o. StandFrom before (formats_written s o arguments) typed.formats) fit.are formats) 0 (format_of s fit.pieces arguments) refl in
+        let here : slice_get typed.formats (before + 0) ≡ Some (format_of s (text_written format) fit.pieces arguments) =
+        (subst (λ o. StandFrom before (formats_written s (text_written format) o arguments) typed.formats) fit.are formats) 0 (format_of s (text_written format) fit.pieces arguments) refl in
         let zero_more : before ≡ before + 0 = omega arith in
-        let at : slice_get typed.formats before ≡ Some (format_of s fit.pieces arguments) = ap (slice_get typed.formats) zero_more ∙ here in
+        let at : slice_get typed.formats before ≡ Some (format_of s (text_written format) fit.pieces arguments) = ap (slice_get typed.formats) zero_more ∙ here in
         let long : length (numbers_of s order arguments) ≡ length (filter (λ e. is_number (sort_of s e)) arguments) = length-map (filter (λ e. is_number (sort_of s e)) arguments) (expression_of s order) in
-        let taken : numbers_taken (format_of s fit.pieces arguments) ≡ length (filter (λ e. is_number (sort_of s e)) arguments) =
+        let taken : numbers_taken (format_of s (text_written format) fit.pieces arguments) ≡ length (filter (λ e. is_number (sort_of s e)) arguments) =
         numbers_counted s fit.pieces arguments (fit.as_many ∙ length-map arguments (sort_of s)) fit.shown in
         let most : length (filter (λ e. is_number (sort_of s e)) arguments) ≤ length arguments =
         let all : length (filter (λ e. is_number (sort_of s e)) arguments) ≡ count_by (λ e. is_number (sort_of s e)) arguments = length-filter (λ e. is_number (sort_of s e)) arguments in
@@ -246,7 +246,7 @@ module _ (typed : Typed) (around : Around) where
         subst (λ o. IsSoundPlain (writing s order before o arguments)) (sym fit.are) (
           (
             record {
-              names_exist = slice_get_within typed.formats before (format_of s fit.pieces arguments) at;
+              names_exist = slice_get_within typed.formats before (format_of s (text_written format) fit.pieces arguments) at;
               labels_differ = tt;
               labels_in_range = tt;
               plain_parts = tt;

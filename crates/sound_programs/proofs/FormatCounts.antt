@@ -14,16 +14,16 @@ use Rattle.capl_tree.specs.Forms as tree
 use Rattle.capl_tree.specs.Weight.{arms_weight, else_weight, expression_weight, expressions_weight, further_arms_weight, groups_weight, part_weight, statement_weight, statements_weight}
 use Rattle.capl_meaning.specs.declared.builtin.Builtin.TheVariants as builtin
 use Rattle.capl_meaning.specs.Names.{Callee, OfLanguage, OfProgram, Unknown, Scope, callee}
-use Rattle.typed_source.specs.Statement.{formats_of, formats_of_alone, formats_of_arms, formats_of_call, formats_of_else, formats_of_groups, formats_of_part, formats_of_row, formats_written, pieces_written}
+use Rattle.typed_source.specs.Statement.{formats_of, formats_of_alone, formats_of_arms, formats_of_call, formats_of_else, formats_of_groups, formats_of_part, formats_of_row, formats_written, pieces_written, text_written}
 
 module _ (s : Scope) where
-  written_one : (o : Option (List Piece)) (arguments : List Expr) → length (formats_written s o arguments) ≤ 1
-  written_one None arguments = omega arith
-  written_one (Some pieces) arguments = omega arith
+  written_one : (text : List ℕ) (o : Option (List Piece)) (arguments : List Expr) → length (formats_written s text o arguments) ≤ 1
+  written_one text None arguments = omega arith
+  written_one text (Some pieces) arguments = omega arith
 
   call_one : (c : Callee) (arguments : List Expr) → length (formats_of_call s c arguments) ≤ 1
   call_one (OfLanguage builtin.Write) [] = omega arith
-  call_one (OfLanguage builtin.Write) (format ∷ arguments) = written_one (pieces_written s format arguments) arguments
+  call_one (OfLanguage builtin.Write) (format ∷ arguments) = written_one (text_written format) (pieces_written s format arguments) arguments
   call_one (OfLanguage builtin.Output) arguments = omega arith
   call_one (OfLanguage builtin.SetTimer) arguments = omega arith
   call_one (OfLanguage builtin.SetTimerCyclic) arguments = omega arith

@@ -47,7 +47,7 @@ use Rattle.capl_meaning.specs.StatementRules.{alone_offences, in_body, in_loop, 
 use Rattle.typed_laws.specs.Laid.{slot}
 use Rattle.typed_laws.proofs.Declared.{all_append}
 use Rattle.typed_source.specs.Sound.{HasTables}
-use Rattle.typed_source.specs.Statement.{argument_by, argument_of, format_of, formats_of, formats_of_alone, formats_of_arms, formats_of_call, formats_of_else, formats_of_groups, formats_of_part, formats_of_row, formats_written, pieces_written, text_argument}
+use Rattle.typed_source.specs.Statement.{argument_by, argument_of, format_of, formats_of, formats_of_alone, formats_of_arms, formats_of_call, formats_of_else, formats_of_groups, formats_of_part, formats_of_row, formats_written, pieces_written, text_argument, text_written}
 use Rattle.sound_programs.specs.Given.{HaveForms}
 use Rattle.sound_programs.specs.Small.{AreSmallArms, AreSmallExprs, AreSmallGroups, AreSmallStmts, IsSmallElse, IsSmallExpr, IsSmallStmt}
 use Rattle.sound_programs.proofs.Empty.{back, front, full}
@@ -113,14 +113,14 @@ module _ (s : Scope) (P : FormatText → Type 0) (each : (e : Expr) → IsSmallE
 -- ---- what stands alone
 
 module _ (s : Scope) (forms : HaveForms s.names) (P : FormatText → Type 0)
-    (written : (format : Expr) (arguments : List Expr) (fit : Fits s format arguments) → IsSmallExpr format → AllByRecursion IsSmallExpr arguments → P (format_of s fit.pieces arguments)) where
+    (written : (format : Expr) (arguments : List Expr) (fit : Fits s format arguments) → IsSmallExpr format → AllByRecursion IsSmallExpr arguments → P (format_of s (text_written format) fit.pieces arguments)) where
   all_small : {m : Count} (row : Row_of-Expr m) → AreSmallExprs row → AllByRecursion IsSmallExpr (items-the_row-Expr m row)
   all_small end_of-Expr few = tt
   all_small (more_of-Expr first rest) few = (few.0, all_small rest few.1)
 
   write_format : (format : Expr) (arguments : List Expr) (fit : Fits s format arguments) → IsSmallExpr format → AllByRecursion IsSmallExpr arguments →
-      AllByRecursion P (formats_written s (pieces_written s format arguments) arguments)
-  write_format format arguments fit few others = subst (λ o. AllByRecursion P (formats_written s o arguments)) (sym fit.are) (written format arguments fit few others, tt)
+      AllByRecursion P (formats_written s (text_written format) (pieces_written s format arguments) arguments)
+  write_format format arguments fit few others = subst (λ o. AllByRecursion P (formats_written s (text_written format) o arguments)) (sym fit.are) (written format arguments fit few others, tt)
 
   builtin_formats : (at : ℕ) (b : Builtin) {m : Count} (row : Row_of-Expr m) → AreSmallExprs row → offences_of_row s row ≡ [] → builtin_rules s at b (items-the_row-Expr m row) ≡ [] →
       AllByRecursion P (formats_of_call s (OfLanguage b) (items-the_row-Expr m row))
@@ -223,5 +223,5 @@ module _ (typed : Typed) (s : Scope) (tables : HasTables s.names typed) where
       (shown_arrays code.field code.conversion e (sort_of s e) (names s e) both.0) (all_arrays pieces es both.1))
 
   -- the arrays of a format of a `write`
-  pub written_arrays : (format : Expr) (arguments : List Expr) (fit : Fits s format arguments) → AllByRecursion (IsCharArray typed.cells) (char_arrays (format_of s fit.pieces arguments))
+  pub written_arrays : (format : Expr) (arguments : List Expr) (fit : Fits s format arguments) → AllByRecursion (IsCharArray typed.cells) (char_arrays (format_of s (text_written format) fit.pieces arguments))
   written_arrays format arguments fit = all_arrays fit.pieces arguments fit.shown

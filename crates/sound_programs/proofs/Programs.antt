@@ -20,7 +20,7 @@ use Rattle.typed_laws.specs.Laid.{HasForm, IsAmong}
 use Rattle.typed_laws.proofs.Declared.{all_append}
 use Rattle.typed_source.specs.Program.{formats_of_body, formats_of_function, formats_of_functions, formats_of_handlers, typed_program}
 use Rattle.typed_source.specs.Sound.{HasTables, HaveUnits}
-use Rattle.typed_source.specs.Statement.{format_of}
+use Rattle.typed_source.specs.Statement.{format_of, text_written}
 use Rattle.typed_source.proofs.Units.{have_units}
 use Rattle.sound_programs.specs.Given.{HaveForms, IsReadable}
 use Rattle.sound_programs.specs.Small.{IsSmallExpr}
@@ -41,7 +41,7 @@ module _ (base : List DbcMessage) (program : Program) (order : List ℕ) (line :
   -- ---- formats
 
   module _ (P : FormatText → Type 0)
-      (written : (s : Scope) → s.names ≡ names → (format : Expr) (arguments : List Expr) (fit : Fits s format arguments) → IsSmallExpr format → AllByRecursion IsSmallExpr arguments → P (format_of s fit.pieces arguments)) where
+      (written : (s : Scope) → s.names ≡ names → (format : Expr) (arguments : List Expr) (fit : Fits s format arguments) → IsSmallExpr format → AllByRecursion IsSmallExpr arguments → P (format_of s (text_written format) fit.pieces arguments)) where
     of_body : (s : Scope) → s.names ≡ names → (body : _) → IsGoodBody s body → AllByRecursion P (formats_of_body s body)
     of_body s named body good =
         body_formats s P (λ e few none. alone_formats s (subst HaveForms (sym named) (have_forms base program clean)) P (written s named) e few none) body good.small good.no_offence
@@ -66,7 +66,7 @@ module _ (base : List DbcMessage) (program : Program) (order : List ℕ) (line :
   -- all arrays that the formats read are there and of characters
   pub arrays_there : All (λ format. All (IsCharArray (typed_program base program order line).cells) (char_arrays format)) (typed_program base program order line).formats
   arrays_there = all_formats (λ format. All (IsCharArray whole.cells) (char_arrays format))
-      (λ s named format arguments fit few others. All-from_recursion (IsCharArray whole.cells) (char_arrays (format_of s fit.pieces arguments))
+      (λ s named format arguments fit few others. All-from_recursion (IsCharArray whole.cells) (char_arrays (format_of s (text_written format) fit.pieces arguments))
       (written_arrays whole s (subst (λ n. HasTables n whole) (sym named) (tables_there base program order line readable clean)) format arguments fit))
 
   -- and all formats are short

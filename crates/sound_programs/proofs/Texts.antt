@@ -28,7 +28,7 @@ use Rattle.capl_meaning.specs.Message.{array_in}
 use Rattle.capl_meaning.specs.Sort.{sort_of}
 use Rattle.capl_meaning.specs.Statement.{fitting_pieces}
 use Rattle.typed_laws.proofs.Declared.{all_append}
-use Rattle.typed_source.specs.Statement.{argument_by, argument_of, array_argument, format_of, text_argument}
+use Rattle.typed_source.specs.Statement.{argument_by, argument_of, array_argument, format_of, text_argument, text_written}
 use Rattle.sound_programs.specs.Small.{IsSmallExpr}
 use Rattle.sound_programs.proofs.Written.{Fits}
 
@@ -143,7 +143,7 @@ module _ (s : Scope) where
   small_arguments (e ∷ es) few = (small_argument s e few.0, small_arguments es few.1)
 
   -- the format of a `write` of small expressions
-  pub written_short : (format : Expr) (arguments : List Expr) (fit : Fits s format arguments) → IsSmallExpr format → AllByRecursion IsSmallExpr arguments → IsShort (format_of s fit.pieces arguments)
+  pub written_short : (format : Expr) (arguments : List Expr) (fit : Fits s format arguments) → IsSmallExpr format → AllByRecursion IsSmallExpr arguments → IsShort (format_of s (text_written format) fit.pieces arguments)
   written_short format arguments fit few others =
       let text = read (map (sort_of s) arguments) (text_in format) fit.pieces fit.are in
       let parts = all_parts fit.pieces (map (argument_of s) arguments) (small_arguments arguments others) in
