@@ -1,0 +1,6 @@
+-- The lemmas of this crate.
+pub mod FormatLemmas
+pub mod InstructionLemmas
+pub mod ObjectLemmas
+pub mod Pairs
+pub mod TableLemmas

@@ -1,0 +1,10 @@
+-- The halves make the number.
+use Rattle.object_file.specs.Number.{qword}
+use Rattle.object_file.proofs.Pairs.{halves_read}
+use Rattle.object_file.proofs.number.U128Stored.read.Goals as goal
+
+pub returns-clause-spelled : goal.returns-clause-spelled
+returns-clause-spelled c =
+    let joined = c.join_u128.ensures in
+    halves_read 18446744073709551616 qword c.in_ok-low.low c.in_ok-low.high _ c.args.bytes.now c.in_ok-low.rest.now joined.low joined.number
+    c.in_ok-low.ensures.spelled

@@ -1,0 +1,130 @@
+// Texts and lists.
+
+ghost use Rattle.std.specs.Prelude.{◌≡◌, ◌++◌, ◌<◌, ◌^◌, ◌∷◌, All, IfOk, IsErrOf, None, OnOk, flat_map, length};
+ghost use Rattle.object_file.specs.Number.{list, text};
+ghost use Rattle.object_file.specs.Inside.Reading.{items_at};
+ghost use Rattle.object_file.specs.declared.stored.ReadRefusal.TheVariants.{Bad};
+
+use crate::stored::{ReadRefusal, Stored};
+use items::Items;
+use std::alloc::Global;
+use texts::{NoMemory, Text};
+
+/// A length as a number of four bytes. What is too long for one has no text that there is memory for.
+fn count_of(len: usize) -> Result<u32, NoMemory>
+    ensures { IfOk result (λ count. count ≡ len) }
+{
+    u32::try_from(len).map_err(|_| NoMemory)
+}
+
+/// Appends a text: its length and its bytes.
+pub(crate) fn write_text(own: &[u8], into: &mut Vec<u8>) -> Result<(), NoMemory>
+    ensures bytes { OnOk result (into.new.items ≡ into.old.items ++ text own.now) }
+    ensures short { OnOk result (length own.now < 2 ^ 32) }
+{
+    count_of(own.len())?.write(into)?;
+    into.extend_from_slice(own)?;
+    Ok(())
+}
+
+/// Appends a list: the number of its records, and the records.
+pub(crate) fn write_list<T: Stored>(records: &[T], into: &mut Vec<u8>) -> Result<(), NoMemory>
+    ensures bytes { OnOk result (into.new.items ≡ into.old.items ++ list T.spelling records.now) }
+    ensures short { OnOk result (length records.now < 2 ^ 32) }
+    ensures holds { OnOk result (All T.holds records.now) }
+{
+    count_of(records.len())?.write(into)?;
+    write_records(records, into)
+}
+
+/// Appends records.
+fn write_records<T: Stored>(records: &[T], into: &mut Vec<u8>) -> Result<(), NoMemory>
+    ensures bytes { OnOk result (into.new.items ≡ into.old.items ++ flat_map T.spelling records.now) }
+    ensures holds { OnOk result (All T.holds records.now) }
+{
+    for record in records {
+        record.write(into)?;
+    }
+    Ok(())
+}
+
+/// So many records, and what stands behind them. Memory is taken as they come.
+fn read_records<T: Stored>(
+    alloc: Global,
+    count: u32,
+    bytes: &[u8],
+) -> Result<(Vec<T>, &[u8]), ReadRefusal>
+    ensures spelled { IfOk result (λ found.
+        bytes.now ≡ flat_map T.spelling (found.0).items ++ found.1.now) }
+    ensures count { IfOk result (λ found. length (found.0).items ≡ count) }
+    ensures holds { IfOk result (λ found. All T.holds (found.0).items) }
+    ensures bad { IsErrOf result Bad → items_at T.at count bytes.now ≡ None }
+{
+    T::complete();
+    let mut records = Vec::new(alloc);
+    let mut rest = bytes;
+    for _ in 0..count {
+        let (record, behind) = T::read(alloc, rest)?;
+        records.push(record)?;
+        rest = behind;
+    }
+    Ok((records, rest))
+}
+
+impl Stored for Text {
+    ghost use Rattle.std.specs.Prelude.{◌<◌, ◌^◌, length};
+    ghost use Rattle.object_file.specs.Number.{text};
+    ghost use Rattle.object_file.specs.Inside.Reading.{text_at};
+
+    ghost spelling = { text };
+
+    ghost holds = { λ bytes. length bytes < 2 ^ 32 };
+
+    ghost at = { text_at };
+
+    fn write(&self, into: &mut Vec<u8>) -> Result<(), NoMemory> {
+        write_text(self.bytes(), into)
+    }
+
+    fn read(alloc: Global, bytes: &[u8]) -> Result<(Text, &[u8]), ReadRefusal> {
+        u32::complete();
+        let (count, rest) = u32::read(alloc, bytes)?;
+        if count as usize > rest.len() {
+            return Err(ReadRefusal::Bad);
+        }
+        let (own, rest) = rest.split_at(count as usize);
+        Ok((Text::make(alloc, own)?, rest))
+    }
+
+    fn complete() {
+        u32::complete();
+    }
+}
+
+impl<T: Stored> Stored for Items<T> {
+    ghost use Rattle.std.specs.Prelude.{◌<◌, ◌^◌, All, length};
+    ghost use Rattle.object_file.specs.Number.{list};
+    ghost use Rattle.object_file.specs.Inside.Reading.{list_at};
+
+    ghost spelling = { list T.spelling };
+
+    ghost holds = { λ records. (length records < 2 ^ 32) × All T.holds records };
+
+    ghost at = { list_at T.at };
+
+    fn write(&self, into: &mut Vec<u8>) -> Result<(), NoMemory> {
+        write_list(self.as_slice(), into)
+    }
+
+    fn read(alloc: Global, bytes: &[u8]) -> Result<(Items<T>, &[u8]), ReadRefusal> {
+        u32::complete();
+        let (count, rest) = u32::read(alloc, bytes)?;
+        let (records, rest) = read_records(alloc, count, rest)?;
+        Ok((Items::from_list(records), rest))
+    }
+
+    fn complete() {
+        u32::complete();
+        T::complete();
+    }
+}
