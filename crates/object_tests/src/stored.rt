@@ -19,8 +19,7 @@ const TEXT: [u8; 130] = [
     // One event procedure: on start it runs function 0; it stands in file 0 on line 3.
     1, 0, 0, 0, 1, 0, 0, 0, 0, 0, 0, 0, 0, 3, 0, 0, 0,
     // Three instructions: the number -2, the line of format 0, the end.
-    3, 0, 0, 0,
-    0, 254, 255, 255, 255, 255, 255, 255, 255, 255, 255, 255, 255, 255, 255, 255, 255,
+    3, 0, 0, 0, 0, 254, 255, 255, 255, 255, 255, 255, 255, 255, 255, 255, 255, 255, 255, 255, 255,
     25, 0, 0, 0, 0, 24,
     // Their depths.
     3, 0, 0, 0, 0, 0, 0, 0, 1, 0, 0, 0, 0, 0, 0, 0,
@@ -56,7 +55,10 @@ fn bytes_behind_the_last_list_are_bad(rt: HostRuntime) -> Result<(), Fail> {
     let mut bytes = Vec::from_slice(rt.alloc(), &TEXT)?;
     bytes.push(0)?;
     assert_eq!(rt; load(rt.alloc(), &bytes).err(), Some(LoadRefusal::Bad));
-    assert_eq!(rt; load(rt.alloc(), &TEXT[..129]).err(), Some(LoadRefusal::Bad));
+    assert_eq!(rt;
+        load(rt.alloc(), &TEXT[..129]).err(),
+        Some(LoadRefusal::Bad)
+    );
     Ok(())
 }
 
