@@ -329,7 +329,7 @@ static PAIRS: [Run; 9] = [
     Run {
         files: &[("m.can", ""), ("n.can", "\non start { x = 1; }")],
         status: Status::Refused,
-        written: "refused n.can:2:3 E09\n",
+        written: "refused n.can:2:12 E09\n",
         rows: &[],
         ..PAIR
     },
