@@ -84,7 +84,7 @@ module _ (base : List DbcMessage) (sources : List NodeSource) (rounds : List Pas
     pub same_profile : shown_of show.Profile scenario base sources replay (steps rounds picks) ≡ shown_of show.Profile scenario base sources replay (steps rounds others)
     same_profile =
         let labels : Labels = labels_of scenario sources replay in
-        let last : (ℕ → MeterRow) → List ℕ = λ row. node_lines base row 0 scenario.nodes.items sources in
+        let last : (ℕ → MeterRow) → List ℕ = λ runs. node_lines base runs 0 scenario.nodes.items sources in
         ap (λ (l : List ℕ). l ++ last (row_then (first_rows base 0 sources) (steps rounds picks))) (no_entries labels (entries (steps rounds picks)))
         ∙ ap last same_row
         ∙ ap (λ (l : List ℕ). l ++ last (row_then (first_rows base 0 sources) (steps rounds others))) (sym (no_entries labels (entries (steps rounds others))))

@@ -214,12 +214,12 @@ run_there runs scenario base sources replay codes rounds end codes_are run =
 rows_counted : (base : List DbcMessage) (sources : List NodeSource) (list : List Step) (rows : List MeterRow) → length rows ≡ sum_by (procedures_in base) sources →
     ((number : ℕ) → number < length rows → slice_get rows number ≡ Some (row_then (first_rows base 0 sources) list number)) → rows ≡ rows_in base sources list
 rows_counted base sources list rows long counts =
-    let row : ℕ → MeterRow = row_then (first_rows base 0 sources) list in
+    let runs_of : ℕ → MeterRow = row_then (first_rows base 0 sources) list in
     let many : ℕ = sum_by (procedures_in base) sources in
-    let made : length (map row (range_with_len 0 many)) ≡ many = length-map-range_with_len row 0 many in
+    let made : length (map runs_of (range_with_len 0 many)) ≡ many = length-map-range_with_len runs_of 0 many in
     ext_get_or no_run rows (rows_in base sources list) (long ∙ sym made)
-    (λ number within. get_or_from_slice_get rows number (row number) no_run (counts number within)
-    ∙ sym (get_or-map-range_with_len row 0 many number number no_run (omega (arith, within, long)) (omega arith)))
+    (λ number within. get_or_from_slice_get rows number (runs_of number) no_run (counts number within)
+    ∙ sym (get_or-map-range_with_len runs_of 0 many number number no_run (omega (arith, within, long)) (omega arith)))
 
 -- ---- a run that was played
 
