@@ -59,7 +59,7 @@ TURNS = 1000
 
 COMMANDS = ["check", "run", "window", "log", "profile"]
 # Rules of a file as a whole, and the letters of those of a line; all others are told with a line and a column.
-WHOLE = {"E02", "E03", "E04", "E07", "E29", "F01", "F02", "N01"}
+WHOLE = {"E03", "E04", "E07", "E29", "F01", "F02", "N01"}
 OF_LINES = ("S", "D", "L")
 RULE = re.compile(rb"refused ([^\n]*?)(?::([1-9]\d*)(?::([1-9]\d*))?)? "
                   rb"(S0[1-9]|S1[0-2]|F0[12]|N01|D0[12]|L01|E0[1-9]|E[12]\d)\n")

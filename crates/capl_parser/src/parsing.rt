@@ -12,8 +12,9 @@ use crate::refusal::ParseRefusal;
 use capl_lexer::Token;
 use capl_nesting::is_deeper_than;
 use capl_tree::FileTree;
-use expr_parser::Cursor;
+use expr_parser::{Cursor, Refusal};
 use std::alloc::Global;
+use viable_prefixes::first_wrong_token;
 
 /// How deep the tokens of a file may nest.
 pub const NESTING_LIMIT: u32 = 200;
@@ -22,7 +23,8 @@ pub const NESTING_LIMIT: u32 = 200;
 /// in the number of the tokens; how deep its calls go, the nesting of the tokens bounds.
 ///
 /// Deep comes exactly where the tokens nest more than 200 deep, NotSpelled exactly where they do not and
-/// no tree is spelled so, and NoMemory only where the system gives no memory.
+/// no tree is spelled so, with the first token with which they begin no tree any more, and NoMemory only
+/// where the system gives no memory.
 pub fn parse(alloc: Global, tokens: &[Token]) -> Result<FileTree, ParseRefusal>
     requires { length tokens.now < 2 ^ 32 }
 
@@ -32,13 +34,19 @@ pub fn parse(alloc: Global, tokens: &[Token]) -> Result<FileTree, ParseRefusal>
         (other : FileTree) → IsTreeOf (toks tokens.now) other → other ≡ tree) }
     ensures within_limit { OnOk result (nesting (toks tokens.now) ≤ nesting_limit) }
 
-    // They nest too deep, or spell no tree.
+    // They nest too deep, or spell no tree, and the token is the first wrong one.
     ensures refusal { IfErr result (IsRefusalOf (toks tokens.now)) }
 {
     if is_deeper_than(alloc, tokens, NESTING_LIMIT)? {
         return Err(ParseRefusal::Deep);
     }
     let mut cursor = Cursor::new(alloc, tokens);
-    let items = read_file(&mut cursor, tokens.len() as u32)?;
-    Ok(FileTree { items })
+    match read_file(&mut cursor, tokens.len() as u32) {
+        Ok(items) => Ok(FileTree { items }),
+        Err(Refusal::NotSpelled) => {
+            let token = first_wrong_token(alloc, tokens)?;
+            Err(ParseRefusal::NotSpelled { token })
+        }
+        Err(Refusal::NoMemory) => Err(ParseRefusal::NoMemory),
+    }
 }

@@ -172,7 +172,7 @@ static RUNS: [Run; 26] = [
     Run {
         files: &[("n.can", "on start {")],
         status: Status::Refused,
-        written: "refused n.can E02\n",
+        written: "refused n.can:1:11 E02\n",
         ..EMPTY
     },
     Run {

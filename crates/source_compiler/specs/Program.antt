@@ -1,5 +1,5 @@
 -- The program of a node's files, and which of its rules is the first that is broken.
-use Rattle.std.specs.Prelude.{◌≡◌, ◌<◌, ◌≤◌, ◌⊎◌, ℕ, List, [], ◌∷◌, ◌++◌, map, slice_get, unwrap_or, Option, Some, None, All}
+use Rattle.std.specs.Prelude.{◌≡◌, ◌<◌, ◌≤◌, ◌⊎◌, ℕ, ◌+◌, ◌-◌, ◌^◌, min, List, [], ◌∷◌, ◌++◌, length, map, slice_get, unwrap_or, Option, Some, None, All}
 use Rattle.std.specs.List.{AllZip}
 use Rattle.std.specs.Option.{option_and_then, option_map}
 use Rattle.texts.specs.declared.blame.Blame.{Blame}
@@ -14,6 +14,7 @@ use Rattle.capl_tree.specs.Weight.{weight}
 use Rattle.capl_tree.specs.declared.file.FileTree.{FileTree}
 use Rattle.capl_tree.specs.declared.file.Program.{Program}
 use Rattle.capl_parser.specs.Refusal.{nesting_limit}
+use Rattle.viable_prefixes.specs.Prefix.{IsFirstWrong}
 use Rattle.capl_include.specs.Blame.{file_blame, place_blame, source_rule}
 use Rattle.capl_include.specs.Expansion.{Contents, Expansion, Went, Stopped, IsExpansion}
 use Rattle.capl_include.specs.declared.expanded.SourceFile.{SourceFile}
@@ -73,13 +74,34 @@ IsParsed file = (tree : FileTree) × HasTree file tree
 abbrev pub AreTreesOf : List SourceFile → Program → Type 0
 AreTreesOf files program = AllZip HasTree files program.files
 
+-- the column just past a token; one that 32 bits do not hold is the greatest that they do
+abbrev pub column_past : Token → ℕ
+column_past token = min (token.column + (token.to - token.from)) (2 ^ 32 - 1)
+
+-- the place just past the last token is to blame
+abbrev pub end_blame : List ℕ → Option Token → Rule → Blame
+end_blame name None rule = place_blame name 1 1 rule
+end_blame name (Some last) rule = place_blame name last.line (column_past last) rule
+
+-- the place of a wrong token, or where there is none the one just past the last token
+abbrev pub wrong_blame : List ℕ → Option Token → Option Token → Blame
+wrong_blame name (Some wrong) last = place_blame name wrong.line wrong.column (source_rule 2)
+wrong_blame name None last = end_blame name last (source_rule 2)
+
+-- the tokens of a file nest no deeper than they may and spell no tree, and the first wrong one is to blame
+pub record IsSpellingBlame (blame : Blame) (file : SourceFile) : Type 0 where
+  pub shallow : nesting (toks file.tokens) ≤ nesting_limit
+  pub no_tree : (tree : FileTree) → IsTreeOf (toks file.tokens) tree → ⊥
+  pub number : ℕ
+  pub first : IsFirstWrong (toks file.tokens) number
+  pub is : blame ≡ wrong_blame file.name (slice_get file.tokens number)
+    (slice_get file.tokens (length file.tokens - 1))
+
 -- the tokens of a file nest deeper than they may (E03), or they do not and spell no tree (E02)
 abbrev pub IsTreeBlame : Blame → SourceFile → Type 0
 IsTreeBlame blame file =
     ((nesting_limit < nesting (toks file.tokens)) × (blame ≡ file_blame file.name (source_rule 3)))
-    ⊎ ((nesting (toks file.tokens) ≤ nesting_limit)
-    × ((tree : FileTree) → IsTreeOf (toks file.tokens) tree → ⊥)
-    × (blame ≡ file_blame file.name (source_rule 2)))
+    ⊎ IsSpellingBlame blame file
 
 -- the first file whose tokens do so
 abbrev pub IsParseBlame : List SourceFile → Blame → Type 0

@@ -1,6 +1,6 @@
 // The code of a program, from its files.
 
-ghost use Rattle.std.specs.Prelude.{◌≡◌, ◌≤◌, ◌<◌, ◌^◌, ◌⊎◌, All, IfOk, length, map};
+ghost use Rattle.std.specs.Prelude.{◌≡◌, ◌≤◌, ◌<◌, ◌-◌, ◌^◌, ◌⊎◌, All, IfOk, length, map, slice_get};
 ghost use Rattle.capl_include.specs.Answer.{token_count};
 ghost use Rattle.capl_include.specs.Blame.{file_blame, source_rule};
 ghost use Rattle.capl_lexer.specs.Reading.{token_limit};
@@ -14,13 +14,13 @@ ghost use Rattle.typed_tree.specs.Sound.{IsSound};
 ghost use Rattle.source_compiler.specs.Source.{IsProgramBlame};
 ghost use Rattle.input_refusals.specs.Agreement.{IsBlamedOrNoMemory, Judges};
 ghost use Rattle.source_compiler.specs.Compiled.{IsCompiled};
-ghost use Rattle.source_compiler.specs.Program.{AreTreesOf, HasTree, IsFirstFile, IsOffenceBlame, IsParseBlame, IsScreenBlame, IsScreened, IsSizeBlame, IsTokenBlame, IsTreeBlame, lines_of, most, name_in, offence_blame};
+ghost use Rattle.source_compiler.specs.Program.{AreTreesOf, HasTree, IsFirstFile, IsOffenceBlame, IsParseBlame, IsScreenBlame, IsScreened, IsSizeBlame, IsTokenBlame, IsTreeBlame, column_past, lines_of, most, name_in, offence_blame, wrong_blame};
 
 use crate::compiled::Compiled;
 use crate::rules::{NOT_SPELLED, TOO_DEEP, TOO_LARGE, source_rule};
 use bytecode::Verified;
 use capl_include::SourceFile;
-use capl_lexer::screen;
+use capl_lexer::{Token, screen};
 use capl_meaning::Offence;
 use capl_parser::{ParseRefusal, parse};
 use capl_tree::{FileTree, Program, weight_of};
@@ -107,9 +107,35 @@ fn parse_file(alloc: Global, file: &SourceFile) -> Result<FileTree, InputRefusal
     match parse(alloc, file.tokens.as_slice()) {
         Ok(tree) => Ok(tree),
         Err(ParseRefusal::Deep) => Err(blamed_file(alloc, &file.name, TOO_DEEP)),
-        Err(ParseRefusal::NotSpelled) => Err(blamed_file(alloc, &file.name, NOT_SPELLED)),
+        Err(ParseRefusal::NotSpelled { token }) => Err(blamed_wrong(alloc, file, token)),
         Err(ParseRefusal::NoMemory) => Err(InputRefusal::NoMemory),
     }
+}
+
+/// The refusal that blames the token of this number of a file, the first wrong one, or the place just past
+/// the last token where there is none of this number; or the refusal of want of memory.
+fn blamed_wrong(alloc: Global, file: &SourceFile, number: u32) -> InputRefusal
+    ensures { IsBlamedOrNoMemory (wrong_blame file.now.name (slice_get file.now.tokens number)
+        (slice_get file.now.tokens (length file.now.tokens - 1))) result }
+{
+    let name = file.name.bytes();
+    let tokens = file.tokens.as_slice();
+    if let Some(wrong) = tokens.get(number as usize) {
+        return blamed_place(alloc, name, wrong.line, wrong.column, NOT_SPELLED);
+    }
+    match tokens.get(tokens.len().saturating_sub(1)) {
+        Some(last) => blamed_place(alloc, name, last.line, column_past(last), NOT_SPELLED),
+        None => blamed_place(alloc, name, 1, 1, NOT_SPELLED),
+    }
+}
+
+/// The column just past a token, or the greatest that there is.
+fn column_past(token: &Token) -> u32
+    ensures { result ≡ column_past token.now }
+{
+    token
+        .column
+        .saturating_add(token.to.saturating_sub(token.from))
 }
 
 /// The typed program of these files.
