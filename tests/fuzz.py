@@ -34,6 +34,7 @@ With --self-test the program runs inside small scripts that each do one thing wr
 import argparse
 import collections
 import contextlib
+import dataclasses
 import os
 import pathlib
 import random
@@ -68,6 +69,11 @@ FRAME = re.compile(rb"\((\d{10}|[1-9]\d{10,})\.(\d{6})\) ([\w.-]{1,15}) "
                    rb"([0-7][0-9A-F]{2}|[01][0-9A-F]{7})#((?:[0-9A-F]{2}){0,8}|R[1-8]?)\n")
 ROW = re.compile(rb"p [A-Za-z_]\w* \S.*:[1-9]\d* (preStart|start|message|timer|key|stopMeasurement) "
                  rb"(0|[1-9]\d*) (0|[1-9]\d*)\n")
+
+# A token, from where it begins, and what may stand between tokens.
+TOKEN = re.compile(rb"""#include[ \t]*"[^"\n]*"|"(?:\\.|[^"\\\n])*"|'(?:\\.|[^'\\\n])'|\w+|<<=|>>=|[-+*/%&|^<>=!]="""
+                   rb"""|&&|\|\||\+\+|--|<<|>>|::|[^\s]""")
+BETWEEN = re.compile(rb"(?:\s|//[^\n]*|/\*.*?\*/)*", re.DOTALL)
 
 Ended = collections.namedtuple("Ended", "status out err seconds")
 
@@ -192,7 +198,8 @@ def faults_of_refusal(case, out):
     rows = data.split(b"\n") + [b""]
     if int(line) > len(rows):
         return [f"the line is not in the file: {out!r}"]
-    if column and int(column) > len(rows[int(line) - 1]):
+    # E02 may be told just past the last token.
+    if column and int(column) > len(rows[int(line) - 1]) + (rule == "E02"):
         return [f"the column is not in the line: {out!r}"]
     return []
 
@@ -254,7 +261,7 @@ class Trial:
         if self.said["check"].status != 0 or is_short(self.case):
             for command in COMMANDS[1:]:
                 self.said[command] = self.run(command)
-        checks = [of_again, of_refusals]
+        checks = [of_again, of_refusals, of_the_wrong_token]
         if self.said["check"].status == 0 and all(it.status == 0 for it in self.said.values()) and len(self.said) > 1:
             checks += [of_parts, of_picks, of_prefix, of_reads, of_layout, of_end, of_silence, of_replay]
         faults = [f"{check.__name__[3:]}: {fault}" for check in checks for fault in check(self)]
@@ -298,6 +305,34 @@ def of_refusals(trial):
     want = refusal(trial.said["check"])
     return [f"{command} answers {refusal(ended)!r}, and check {want!r}"
             for command, ended in trial.said.items() if refusal(ended) != want]
+
+
+def wrong_token(case, out):
+    """The file of the first wrong token of what is refused so, its bytes and the place of the token."""
+    match = RULE.fullmatch(out)
+    name = match and os.fsdecode(match[1]).removeprefix(case.folder)
+    data = case.files.get(name)
+    if not match or match[4] != b"E02" or not isinstance(data, bytes):
+        return None
+    lines = data.split(b"\n")[:int(match[2]) - 1]
+    return name, data, sum(len(line) + 1 for line in lines) + int(match[3]) - 1
+
+
+def of_the_wrong_token(trial):
+    """Up to it a source could become a program, and with it none, whatever comes next."""
+    refused = trial.said["check"].out
+    name, data, place = wrong_token(trial.case, refused) or (None, b"", 0)
+    if name is None:
+        return
+    shorter = {name: data[:place]}
+    ended = trial.run("check", shorter)
+    again = wrong_token(dataclasses.replace(trial.case, files={**trial.case.files, **shorter}), ended.out)
+    if again and again[0] == name and not BETWEEN.fullmatch(data[again[2]:place]):
+        yield f"{data[again[2]:place]!r} stands behind what is told of a source up to its wrong token: {ended.out!r}"
+    token = TOKEN.match(data, place)
+    if token and b"#include" not in data[token.end():]:
+        end = trial.chance.choice([b"", b" }", b" ; }", b" x", b"\non start { }\n"])
+        yield from differ("with another end", [trial.run("check", {name: data[:token.end()] + end}).out], [refused])
 
 
 def of_parts(trial):
