@@ -58,7 +58,7 @@ grown_one found i = record { kept = push_kept found i; only = λ k place at. by 
     by k place (inr same) = inr same
 
 -- a flag that was set is set
-set_kept : (flags : List Bool) (i place : ℕ) → slice_get flags place ≡ Some true → slice_get (set flags i true) place ≡ Some true
+pub set_kept : (flags : List Bool) (i place : ℕ) → slice_get flags place ≡ Some true → slice_get (set flags i true) place ≡ Some true
 set_kept [] i place at = at
 set_kept (f ∷ flags) zero zero at = refl
 set_kept (f ∷ flags) zero (suc place) at = at
@@ -66,7 +66,7 @@ set_kept (f ∷ flags) (suc i) zero at = at
 set_kept (f ∷ flags) (suc i) (suc place) at = set_kept flags i place at
 
 -- the flag that is set
-set_same : (flags : List Bool) (i : ℕ) → i < length flags → slice_get (set flags i true) i ≡ Some true
+pub set_same : (flags : List Bool) (i : ℕ) → i < length flags → slice_get (set flags i true) i ≡ Some true
 set_same [] i within = absurd (omega (arith, within))
 set_same (f ∷ flags) zero within = refl
 set_same (f ∷ flags) (suc i) within = set_same flags i (omega (arith, within))

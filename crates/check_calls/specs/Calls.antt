@@ -1,11 +1,11 @@
 -- The calls of a program, as code has them.
-use Rattle.std.specs.Prelude.{◌≡◌, ◌≢◌, ℕ, List, map, slice_get, slice_index, Some, AllPairs}
+use Rattle.std.specs.Prelude.{◌≡◌, ◌≢◌, ℕ, false, List, map, slice_get, slice_index, Some, All, AllPairs}
 use Rattle.capl_meaning.specs.Names.{Function, Names}
-use Rattle.capl_meaning.specs.Calls.{function_numbered}
+use Rattle.capl_meaning.specs.Calls.{called_by_number, function_numbered, reaches}
 use Rattle.typed_source.specs.Expression.{place_in}
 use Rattle.typed_source.specs.Program.{HasEach, HasNoOther}
 use Rattle.check_calls.specs.declared.calls.Calls.{Calls}
-use Rattle.check_calls.specs.Graph.{AreCallees, Rise, rows_of}
+use Rattle.check_calls.specs.Graph.{AreApart, AreCallees, Rise, StandBehind, rows_of}
 use Rattle.check_calls.specs.Components.{AreComponents}
 
 -- the order of the functions, by the numbers of their procedures
@@ -22,6 +22,11 @@ AreAt names order indices = (k number : ℕ) → slice_get order k ≡ Some numb
     (i : ℕ) × (f : Function) × (slice_get indices k ≡ Some i) × (slice_get names.functions i ≡ Some f)
     × (f.number ≡ number)
 
+-- no function of a program that another calls reaches it
+abbrev pub GoForward : Names → Type 0
+GoForward names =
+    (number : ℕ) → All (λ called. reaches names called number ≡ false) (called_by_number names number)
+
 -- these are the calls of a program
 pub record AreCallsOf (names : Names) (calls : Calls) : Type 0 where
   pub has_each : HasEach names (order_of calls)
@@ -32,6 +37,8 @@ pub record AreCallsOf (names : Names) (calls : Calls) : Type 0 where
   pub apart : (i j : ℕ) (f g : Function) → slice_get names.functions i ≡ Some f →
       slice_get names.functions j ≡ Some g → f.number ≡ g.number → i ≡ j
   pub indices : AreAt names (order_of calls) (indices_of calls)
+  pub indices_apart : AreApart (indices_of calls)
+  pub behind : StandBehind (rows_of calls.callees.items) (indices_of calls)
   pub places : (k : ℕ) (f : Function) → slice_get names.functions k ≡ Some f →
       place_in (order_of calls) f.number ≡ Some (slice_index calls.places.items k)
   pub numbers : calls.numbers.items ≡ map (λ f. f.number) names.functions

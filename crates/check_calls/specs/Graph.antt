@@ -67,3 +67,12 @@ AreReaching rows roots marks =
 abbrev pub IsMarked : List Bool → List Bool → (ℕ → Type 0) → Type 0
 IsMarked before after New =
     (place : ℕ) → slice_get after place ≡ Some true → (slice_get before place ≡ Some true) ⊎ New place
+
+-- a place stands in a list before an index
+abbrev pub StandsBefore : List ℕ → ℕ → ℕ → Type 0
+StandsBefore places k place = (i : ℕ) × (i < k) × (slice_get places i ≡ Some place)
+
+-- each place of a list stands behind what it leads to, but for what reaches it
+abbrev pub StandBehind : List (List ℕ) → List ℕ → Type 0
+StandBehind rows places = (k from to : ℕ) → slice_get places k ≡ Some from → Leads rows from to →
+    to < length rows → StandsBefore places k to ⊎ Reaches rows to from

@@ -1,2 +1,3 @@
 -- What proofs inside of this crate speak of.
 pub mod Search
+pub mod Walk

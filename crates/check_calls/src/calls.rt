@@ -10,7 +10,7 @@ use crate::components::Components;
 use crate::depth::depth_first;
 use crate::ranks::number_at;
 use crate::rows::{callees_of_all, count_of, is_among, numbers_at, numbers_of_all, rise, stand_at};
-use crate::search::{each_once, reached_from};
+use crate::search::reached_from;
 use check_names::Names;
 use std::alloc::Global;
 use texts::NoMemory;
@@ -45,8 +45,7 @@ impl Calls {
         }
         let count = count_of(numbers.as_slice())?;
         let callees = callees_of_all(alloc, names)?;
-        let first = depth_first(alloc, callees.as_slice())?;
-        let indices = each_once(alloc, count, first.as_slice())?;
+        let indices = depth_first(alloc, count, callees.as_slice())?;
         let places = stand_at(alloc, count, indices.as_slice())?;
         let order = numbers_at(alloc, numbers.as_slice(), indices.as_slice())?;
         let components = Components::build(

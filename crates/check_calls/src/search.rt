@@ -1,7 +1,7 @@
 // What is reached by calls.
 
 ghost use Rattle.std.specs.Prelude.{◌≡◌, ◌<◌, ℕ, Bool, IfOk, OnOk, Some, length, slice_get, true};
-ghost use Rattle.check_calls.specs.Graph.{AllPass, AreApart, Has, IsClosed, Keeps, rows_of};
+ghost use Rattle.check_calls.specs.Graph.{AllPass, Has, IsClosed, Keeps, rows_of};
 ghost use Rattle.check_calls.specs.Inside.Search.{AreFlagged, AreOnce, IsGrown};
 
 use std::alloc::Global;
@@ -85,22 +85,6 @@ pub(crate) fn reached_from(
     }
     if search.found.len() > rows.len() {
         return Err(NoMemory);
-    }
-    Ok(search.found)
-}
-
-/// Each place below a count once: first those of a list in its order, and then the others.
-pub(crate) fn each_once(alloc: Global, count: u32, first: &[u32]) -> Result<Vec<u32>, NoMemory>
-    ensures each { IfOk result (λ all. (place : ℕ) → place < count → Has all.items place) }
-    ensures apart { IfOk result (λ all. AreApart all.items) }
-    ensures within { IfOk result (λ all. (k place : ℕ) → slice_get all.items k ≡ Some place → place < count) }
-{
-    let flags = vec![in alloc; false; count as usize]?;
-    let found = Vec::new(alloc);
-    let mut search = Search { flags, found };
-    search.note_all(first)?;
-    for place in 0..count {
-        search.note(place)?;
     }
     Ok(search.found)
 }
