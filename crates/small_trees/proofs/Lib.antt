@@ -1,0 +1,10 @@
+-- The lemmas of this crate.
+mod Forms
+mod Longer
+mod LightExpressions
+mod LightStatements
+mod SmallExpressions
+mod SmallDeclarations
+mod SmallStatements
+mod SmallFiles
+mod SmallTokens
