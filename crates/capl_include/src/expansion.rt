@@ -1,10 +1,11 @@
 // The expansion of a file.
 
-ghost use Rattle.std.specs.Prelude.{◌≡◌, ◌+◌, ◌<◌, ◌≤◌, false, IfOk, IfErr, OnOk, IfSome, IsErrOf, length};
+ghost use Rattle.std.specs.Prelude.{◌≡◌, ◌+◌, ◌<◌, ◌≤◌, ◌^◌, false, All, IfOk, IfErr, OnOk, IfSome, IsErrOf, length};
 ghost use Rattle.capl_lexer.specs.Reading.{token_limit};
 ghost use Rattle.texts.specs.Fault.{HasRisen, raised, raised_by};
 ghost use Rattle.capl_include.specs.Expansion.{Went, has_met};
 ghost use Rattle.capl_include.specs.Answer.{IsAnswer, IsOnly, HaveDifferentNames, token_count};
+ghost use Rattle.capl_include.specs.Text.{AreOfTexts, IsOfText};
 ghost use Rattle.capl_include.specs.Inside.Once.{GoesOnce, ReadsEach};
 ghost use Rattle.capl_include.specs.Inside.Visit.{IsVisitAt, IsVisitRefusal, ReadAgrees, StepAgrees};
 
@@ -47,6 +48,8 @@ pub fn expand<F: Files>(
     ensures reads { IfOk result (λ expanded.
         F.reads files.new ≡ raised_by (length expanded.files) (F.reads files.old)) }
     ensures few { IfOk result (λ expanded. token_count expanded.files ≤ token_limit) }
+    // The tokens of each file are those of some text, also where the contents are not told.
+    ensures texts { IfOk result (λ expanded. AreOfTexts expanded.files) }
     ensures rose { IsErrOf result ExpandRefusal.Failed → HasRisen (F.faults files.old) (F.faults files.new) }
     ensures faults_stay { F.faults files.old ≤ F.faults files.new }
     ensures contents_stay { F.held files.new ≡ F.held files.old }
@@ -77,6 +80,7 @@ fn visit<F: Files>(
     ensures counts { OnOk result
         (token_count progress.new.files + progress.old.count
         ≡ token_count progress.old.files + progress.new.count) }
+    ensures texts { OnOk result (AreOfTexts progress.old.files → AreOfTexts progress.new.files) }
     ensures grows { OnOk result (length progress.old.met < length progress.new.met) }
     ensures rose { IsErrOf result ExpandRefusal.Failed → HasRisen (F.faults files.old) (F.faults files.new) }
     ensures faults_stay { F.faults files.old ≤ F.faults files.new }
@@ -109,6 +113,7 @@ fn read_tokens<F: Files>(
     requires { count ≤ token_limit }
     ensures told { IfSome (F.held files.old) (λ contents. ReadAgrees contents name.now count result) }
     ensures few { IfOk result (λ tokens. count + length tokens.items ≤ token_limit) }
+    ensures text { IfOk result (λ tokens. IsOfText tokens.items) }
     ensures reads { F.reads files.new ≡ raised (F.reads files.old) }
     ensures rose { IsErrOf result ExpandRefusal.Failed → HasRisen (F.faults files.old) (F.faults files.new) }
     ensures faults_stay { F.faults files.old ≤ F.faults files.new }
@@ -121,6 +126,7 @@ fn read_tokens<F: Files>(
         Err(FileRefusal::Failed) => return Err(ExpandRefusal::Failed),
         Err(FileRefusal::NoMemory) => return Err(ExpandRefusal::NoMemory),
     };
+    are_bytes(&bytes);
     match lex(alloc, &bytes) {
         Ok(tokens) if tokens.len() <= TOKEN_LIMIT - count => Ok(tokens),
         Ok(_) | Err(LexRefusal::Many) => Err(blamed(alloc, name, TOO_MANY_TOKENS)),
@@ -130,6 +136,11 @@ fn read_tokens<F: Files>(
         Err(LexRefusal::NoMemory) => Err(ExpandRefusal::NoMemory),
     }
 }
+
+/// Each number of a text is a byte. A call does nothing: its contract tells what the type says.
+fn are_bytes(text: &[u8])
+    ensures { All (λ byte. byte < 2 ^ 8) text.now }
+{}
 
 /// The name of the file to visit for the token of a file, or None where it names none or one that was
 /// met.

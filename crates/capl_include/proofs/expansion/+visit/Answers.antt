@@ -2,11 +2,13 @@
 use Rattle.std.proofs.Common.{◌≡◌, ◌<◌, ◌≤◌, ◌+◌, ◌++◌, ◌∷◌, [], ℕ, List, Option, Bool, length, true, false, refl, sym, subst, ◌∙◌, ap, arith, Ok, Err, nat_le, length-append}
 use Rattle.std.specs.Prelude.{IfSome, IfErr}
 use Rattle.std.proofs.lemmas.Bool.Decides.{nat_tests}
+use Rattle.std.proofs.lemmas.List.Elements.{All-push}
 use Rattle.std.proofs.lemmas.List.Sums.{sum_by_push}
 use Rattle.capl_lexer.specs.Reading.{token_limit}
 use Rattle.capl_lexer.specs.declared.token.Token.{Token}
 use Rattle.capl_include.specs.Answer.{token_count}
 use Rattle.capl_include.specs.Expansion.{Contents, Expansion, Went, appending, file_limit, meeting}
+use Rattle.capl_include.specs.Text.{AreOfTexts, IsOfText}
 use Rattle.capl_include.specs.Inside.Once.{GoesOnce}
 use Rattle.capl_include.specs.Inside.Visit.{IsRead, ReadAgrees, StepAgrees, IsVisitAt, IsVisitRefusal}
 use Rattle.capl_include.specs.declared.expanded.SourceFile.{SourceFile}
@@ -129,6 +131,7 @@ loop-token-init g t c =
       few = subst (λ (p : Expansion). p.count ≤ token_limit) (sym is)
           (omega (arith, done.few, c.count.ensures, ap length c.deref-token-items.ensures.value));
       counts = counts_first name list old c.meet.new.self is;
+      texts = λ are. subst (λ (p : Expansion). AreOfTexts p.files) (sym is) are;
       faults_stay = done.faults_stay;
       contents_stay = done.contents_stay;
       told = told_always (g.F.Files.held c.args.files.now) (λ contents. GoesFrom contents root name list old 0 c.meet.new.self)
@@ -160,6 +163,7 @@ loop-token-preserved g t c =
             grows = subst (λ (p : Expansion). length old.met < length p.met) (sym w.progress-is) (omega (arith, before.grows, done.grows));
             few = subst (λ (p : Expansion). p.count ≤ token_limit) (sym w.progress-is) done.within_limit;
             counts = counts_then (length list) old at new _ w.progress-is before.counts done.counts;
+            texts = λ are. subst (λ (p : Expansion). AreOfTexts p.files) (sym w.progress-is) (done.texts (before.texts are));
             faults_stay = subst (λ f. g.F.Files.faults c.args.files.now ≤ g.F.Files.faults f) (sym w.files-is) (omega (arith, before.faults_stay, done.faults_stay));
             contents_stay = subst (λ f. g.F.Files.held f ≡ held) (sym w.files-is) (done.contents_stay ∙ before.contents_stay);
             told = subst (λ (p : Expansion). IfSome held (λ contents. GoesFrom contents root name list old (place + 1) p)) (sym w.progress-is)
@@ -178,6 +182,7 @@ loop-token-preserved g t c =
             grows = subst (λ (p : Expansion). length old.met < length p.met) (sym w.progress-is) before.grows;
             few = subst (λ (p : Expansion). p.count ≤ token_limit) (sym w.progress-is) before.few;
             counts = subst (λ (p : Expansion). token_count p.files + (old.count + length list) ≡ token_count old.files + p.count) (sym w.progress-is) before.counts;
+            texts = λ are. subst (λ (p : Expansion). AreOfTexts p.files) (sym w.progress-is) (before.texts are);
             faults_stay = subst (λ f. g.F.Files.faults c.args.files.now ≤ g.F.Files.faults f) (sym w.files-is) before.faults_stay;
             contents_stay = subst (λ f. g.F.Files.held f ≡ held) (sym w.files-is) before.contents_stay;
             told = subst (λ (p : Expansion). IfSome held (λ contents. GoesFrom contents root name list old (place + 1) p)) (sym w.progress-is)
@@ -235,3 +240,11 @@ returns-clause-counts g t c =
     let file : SourceFile = record { name = c.in_ok-make.field-0; tokens = c.from_list.result } in
     counts_last c.deref-token-items.result.now c.args.progress.now c.loop-token.progress c.append.new.self file
     (c.from_list.ensures ∙ sym c.deref-token-items.ensures.value) c.in_ok-append.ensures.appended c.loop-token.invariant.counts
+
+pub returns-clause-texts : goal.returns-clause-texts
+returns-clause-texts g t c = λ are.
+    let at = c.loop-token.progress in
+    let file : SourceFile = record { name = c.in_ok-make.field-0; tokens = c.from_list.result } in
+    let text : IsOfText file.tokens = subst IsOfText (sym c.from_list.ensures) c.in_ok-tokens.ensures.text in
+    subst (λ (p : Expansion). AreOfTexts p.files) (sym c.in_ok-append.ensures.appended)
+    (All-push (λ (f : SourceFile). IsOfText f.tokens) at.files file (c.loop-token.invariant.texts are) text)

@@ -4,6 +4,7 @@ use Rattle.std.specs.Prelude.{IfSome}
 use Rattle.capl_lexer.specs.Reading.{token_limit}
 use Rattle.capl_include.specs.Answer.{token_count}
 use Rattle.capl_include.specs.Expansion.{file_limit, meeting}
+use Rattle.capl_include.specs.Text.{AreOfTexts}
 use Rattle.capl_include.specs.Inside.Once.{GoesOnce, ReadsEach}
 use Rattle.capl_include.proofs.VisitLemmas.{GoesFrom}
 use Rattle.capl_include.proofs.expansion.+visit.Given as goal
@@ -16,6 +17,7 @@ invariant-loop-token g l = record {
   few : l.progress.count ≤ token_limit;
   counts : token_count l.progress.files + (l.fn.progress.count + length l.token-items)
       ≡ token_count l.fn.progress.files + l.progress.count;
+  texts : AreOfTexts l.fn.progress.files → AreOfTexts l.progress.files;
   faults_stay : g.F.Files.faults l.fn.files ≤ g.F.Files.faults l.files;
   contents_stay : g.F.Files.held l.files ≡ g.F.Files.held l.fn.files;
   told : IfSome (g.F.Files.held l.fn.files) (λ contents.

@@ -1,6 +1,9 @@
 -- The visit of the first file is the answer.
 use Rattle.std.proofs.Common.{◌∙◌, Ok, sym, ap, subst, length}
+use Rattle.std.proofs.lemmas.List.Elements.{All-nil}
 use Rattle.texts.specs.Fault.{raised_by}
+use Rattle.capl_include.specs.Text.{AreOfTexts, IsOfText}
+use Rattle.capl_include.specs.declared.expanded.SourceFile.{SourceFile}
 use Rattle.capl_include.specs.Expansion.{Expansion, Went}
 use Rattle.capl_include.specs.Answer.{IsAnswer, IsOnly, HaveDifferentNames}
 use Rattle.capl_include.specs.Inside.Visit.{IsVisitAt, IsVisitRefusal}
@@ -53,3 +56,9 @@ returns-clause-reads g c =
     let before = g.F.Files.reads c.args.files.now in
     reads_all before (g.F.Files.reads c.visit.new.files) c.new-progress.result c.visit.new.progress none c.in_ok-visit.ensures.reads
     ∙ ap (λ files. raised_by (length files) before) (sym c.into_expanded.ensures)
+
+pub returns-clause-texts : goal.returns-clause-texts
+returns-clause-texts g c =
+    let none = ap (λ (e : Expansion). e.files) c.new-progress.ensures in
+    let are = c.in_ok-visit.ensures.texts (subst AreOfTexts (sym none) (All-nil (λ (f : SourceFile). IsOfText f.tokens))) in
+    subst AreOfTexts (sym c.into_expanded.ensures) are
