@@ -33,7 +33,8 @@ impl Walk {
 
     /// Enters a function, if it was not entered before.
     fn enter(&mut self, function: u32) -> Result<(), NoMemory>
-        ensures { OnOk result (WasEntered self.old self.new function ⊎ IsEntered self.old self.new function) }
+        ensures { OnOk result
+            (WasEntered self.old self.new function ⊎ IsEntered self.old self.new function) }
     {
         let at = function as usize;
         if at < self.entered.len() && !self.entered[at] {
@@ -46,7 +47,8 @@ impl Walk {
     /// Follows the next call of the last function that is open, or leaves it where there is none. False
     /// where no function is open.
     fn step(&mut self, rows: &[Vec<u32>]) -> Result<bool, NoMemory>
-        ensures walks { OnOk result (GoesOn (rows_of rows.now) self.old → GoesOn (rows_of rows.now) self.new) }
+        ensures walks { OnOk result
+            (GoesOn (rows_of rows.now) self.old → GoesOn (rows_of rows.now) self.new) }
         ensures kept { OnOk result (KeepsEntered self.old self.new) }
         ensures closed { IfOk result (λ more. more ≡ false → self.new.stack.items ≡ []) }
         ensures falls { IfOk result (λ more. more ≡ true →
@@ -108,7 +110,8 @@ pub(crate) fn depth_first(
     requires { count ≡ length rows.now }
     ensures each { IfOk result (λ order. (place : ℕ) → place < count → Has order.items place) }
     ensures apart { IfOk result (λ order. AreApart order.items) }
-    ensures within { IfOk result (λ order. (k place : ℕ) → slice_get order.items k ≡ Some place → place < count) }
+    ensures within { IfOk result (λ order.
+        (k place : ℕ) → slice_get order.items k ≡ Some place → place < count) }
     ensures behind { IfOk result (λ order. StandBehind (rows_of rows.now) order.items) }
 {
     let mut walk = Walk::new(alloc, rows.len())?;

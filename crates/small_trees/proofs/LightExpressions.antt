@@ -14,6 +14,7 @@ use Rattle.capl_tree.specs.FileSpelling.{part}
 use Rattle.capl_tree.specs.Weight.{expression_weight, expressions_weight, field_weight, part_weight}
 
 mutual
+  -- an expression
   pub expression_light : (e : Expr) (ts : List Tok) → expression_weight e + 8 * length ts ≤ 8 * length (expression e ts)
   expression_light (expr.Num value ext at) ts = omega arith
   expression_light (expr.Char value at) ts = omega arith
@@ -43,15 +44,18 @@ mutual
   expression_light (form.Assign operator left right at) ts =
       omega (arith, expression_light left (tok.Sign (assignment_sign operator) ∷ expression right ts), expression_light right ts)
 
+  -- a field
   pub field_light : (f : Field) (ts : List Tok) → field_weight f + 8 * length ts ≤ 8 * length (spell.field f ts)
   field_light (Named name at) ts = omega arith
   field_light (form.Bytes k index at) ts = omega (arith, expression_light index (tok.Sign sign.CloseParen ∷ ts))
 
+  -- arguments
   pub arguments_light : {m : _} (row : Row_of-Expr m) (ts : List Tok) → expressions_weight row + 8 * length ts ≤ 8 * length (spell.arguments row ts)
   arguments_light end_of-Expr ts = omega arith
   arguments_light (more_of-Expr first others) ts =
       omega (arith, expression_light first (spell.further_arguments others ts), further_light others ts)
 
+  -- arguments behind the first
   pub further_light : {m : _} (row : Row_of-Expr m) (ts : List Tok) → expressions_weight row + 8 * length ts ≤ 8 * length (spell.further_arguments row ts)
   further_light end_of-Expr ts = omega arith
   further_light (more_of-Expr first others) ts =

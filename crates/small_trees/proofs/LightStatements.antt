@@ -23,6 +23,7 @@ labels_light : (labels : List Label) (ts : List Tok) → 8 * length labels + 8 *
 labels_light labels ts = omega (arith, each_longer label label_longer labels ts)
 
 mutual
+  -- a part of a body
   pub statement_light : (s : Stmt) (ts : List Tok) → IsBodyPart s → statement_weight s + 8 * length ts ≤ 8 * length (spell.statement s ts)
   statement_light stmt.Empty ts is = omega arith
   statement_light (stmt.Block' shape body) ts is = omega (arith, statements_light body (tok.Sign sign.CloseBrace ∷ ts) is)
@@ -59,6 +60,7 @@ mutual
   statement_light (stmt.Continue at) ts is = omega arith
   statement_light (stmt.Return value at) ts is = omega (arith, part_light value (tok.Sign sign.Semi ∷ ts))
 
+  -- parts of a body
   pub statements_light : {m : _} (row : Row_of-Stmt m) (ts : List Tok) → AreStatements row → statements_weight row + 8 * length ts ≤ 8 * length (spell.statements row ts)
   statements_light end_of-Stmt ts is = omega arith
   statements_light (more_of-Stmt first others) ts is =
@@ -79,6 +81,7 @@ mutual
         expression_light test (tok.Sign sign.CloseParen ∷ spell.statement body left),
       )
 
+  -- arms behind the first
   pub further_light : {m : _} (row : Row_of-Arm m) (other : Held-Stmt-If-1) (ts : List Tok) → AreFurtherArms row other →
       further_arms_weight row + 8 * length ts ≤ 8 * length (spell.further_arms row ts)
   further_light end_of-Arm other ts is = omega arith
@@ -92,10 +95,12 @@ mutual
         expression_light test (tok.Sign sign.CloseParen ∷ spell.statement body left),
       )
 
+  -- what stands behind a last `else`
   pub else_light : (other : Held-Stmt-If-1) (ts : List Tok) → IsElse other → else_weight other + 8 * length ts ≤ 8 * length (spell.last_else other ts)
   else_light form.NoElse ts is = omega arith
   else_light (form.Else body) ts is = omega (arith, statement_light body ts (as_part body is.0))
 
+  -- the groups of a `switch`
   pub groups_light : {m : _} (row : Row_of-Group m) (ts : List Tok) → AreGroups row → groups_weight row + 8 * length ts ≤ 8 * length (spell.label_groups row ts)
   groups_light end_of-Group ts is = omega arith
   groups_light (more_of-Group labels shape body others) ts is =
@@ -139,6 +144,7 @@ further_longer (more_of-Arm test body others) other ts is =
       expression_light test (tok.Sign sign.CloseParen ∷ spell.statement body left),
     )
 
+-- no more arms than tokens
 pub arms_longer : {m : _} (row : Row_of-Arm m) (other : Held-Stmt-If-1) (ts : List Tok) → AreArms row other →
     length (items-the_row-Arm m row) + length ts ≤ length (spell.first_arm row ts)
 arms_longer end_of-Arm other ts is = absurd is

@@ -17,6 +17,7 @@ use Rattle.small_trees.specs.Tokens.{AreSmallToks}
 use Rattle.small_trees.proofs.LightExpressions.{arguments_light, expression_light, row_weighs}
 
 mutual
+  -- an expression
   pub expression_small : (e : Expr) (ts : List Tok) → IsShortList (expression e ts) → AreSmallToks (expression e ts) → IsSmallExpr e × AreSmallToks ts
   expression_small (expr.Num value ext at) ts short small = (small.0, small.1)
   expression_small (expr.Char value at) ts short small = (small.0, small.1)
@@ -62,11 +63,13 @@ mutual
       let two = expression_small right ts (omega (arith, short, expression_light left behind)) one.1.1 in
       ((one.0, two.0), two.1)
 
+  -- a field
   pub field_small : (f : Field) (ts : List Tok) → IsShortList (spell.field f ts) → AreSmallToks (spell.field f ts) → IsSmallField f × AreSmallToks ts
   field_small (Named name at) ts short small = (tt, small.1)
   field_small (form.Bytes k index at) ts short small =
       let it = expression_small index (tok.Sign sign.CloseParen ∷ ts) (omega (arith, short)) small.1.1 in (it.0, it.1.1)
 
+  -- arguments
   pub arguments_small : {m : _} (row : Row_of-Expr m) (ts : List Tok) → IsShortList (spell.arguments row ts) → AreSmallToks (spell.arguments row ts) →
       AreSmallExprs row × AreSmallToks ts
   arguments_small end_of-Expr ts short small = (tt, small)
@@ -76,6 +79,7 @@ mutual
       let two = further_small others ts (omega (arith, short, expression_light first behind)) one.1 in
       ((one.0, two.0), two.1)
 
+  -- arguments behind the first
   pub further_small : {m : _} (row : Row_of-Expr m) (ts : List Tok) → IsShortList (spell.further_arguments row ts) → AreSmallToks (spell.further_arguments row ts) →
       AreSmallExprs row × AreSmallToks ts
   further_small end_of-Expr ts short small = (tt, small)

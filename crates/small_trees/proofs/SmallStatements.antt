@@ -23,6 +23,7 @@ use Rattle.small_trees.proofs.SmallExpressions.{expression_small, part_small}
 use Rattle.small_trees.proofs.SmallDeclarations.{declaration_small, each_small, label_small}
 
 mutual
+  -- a part of a body
   pub statement_small : (s : Stmt) (ts : List Tok) → IsBodyPart s → IsShortList (spell.statement s ts) → AreSmallToks (spell.statement s ts) →
       IsSmallStmt s × AreSmallToks ts
   statement_small stmt.Empty ts is short small = (tt, small.1)
@@ -70,6 +71,7 @@ mutual
   statement_small (stmt.Return value at) ts is short small =
       let it = part_small value (tok.Sign sign.Semi ∷ ts) (omega (arith, short)) small.1 in (it.0, it.1.1)
 
+  -- parts of a body
   pub statements_small : {m : _} (row : Row_of-Stmt m) (ts : List Tok) → AreStatements row → IsShortList (spell.statements row ts) →
       AreSmallToks (spell.statements row ts) → AreSmallStmts row × AreSmallToks ts
   statements_small end_of-Stmt ts is short small = (tt, small)
@@ -80,6 +82,7 @@ mutual
       let two = statements_small others ts parts.1 (omega (arith, short, statement_light first behind parts.0)) one.1 in
       ((one.0, two.0), two.1)
 
+  -- the arms of an `if`
   pub arms_small : {m : _} (row : Row_of-Arm m) (other : Held-Stmt-If-1) (ts : List Tok) → AreArms row other → IsShortList (spell.first_arm row ts) →
       AreSmallToks (spell.first_arm row ts) → AreSmallArms row × AreSmallToks ts
   arms_small end_of-Arm other ts is short small = absurd is
@@ -92,6 +95,7 @@ mutual
       let three = further_small others other ts parts.1 (omega (arith, short, expression_light test behind, statement_light body left parts.0)) two.1 in
       ((one.0, two.0, three.0), three.1)
 
+  -- arms behind the first
   pub further_small : {m : _} (row : Row_of-Arm m) (other : Held-Stmt-If-1) (ts : List Tok) → AreFurtherArms row other → IsShortList (spell.further_arms row ts) →
       AreSmallToks (spell.further_arms row ts) → AreSmallArms row × AreSmallToks ts
   further_small end_of-Arm other ts is short small = (tt, small)
@@ -104,11 +108,13 @@ mutual
       let three = further_small others other ts parts.1 (omega (arith, short, expression_light test behind, statement_light body left parts.0)) two.1 in
       ((one.0, two.0, three.0), three.1)
 
+  -- what stands behind a last `else`
   pub else_small : (other : Held-Stmt-If-1) (ts : List Tok) → IsElse other → IsShortList (spell.last_else other ts) → AreSmallToks (spell.last_else other ts) →
       IsSmallElse other × AreSmallToks ts
   else_small form.NoElse ts is short small = (tt, small)
   else_small (form.Else body) ts is short small = statement_small body ts (as_part body is.0) (omega (arith, short)) small.1
 
+  -- the groups of a `switch`
   pub groups_small : {m : _} (row : Row_of-Group m) (ts : List Tok) → AreGroups row → IsShortList (spell.label_groups row ts) →
       AreSmallToks (spell.label_groups row ts) → AreSmallGroups row × AreSmallToks ts
   groups_small end_of-Group ts is short small = (tt, small)

@@ -14,8 +14,8 @@ ghost use Rattle.small_trees.specs.Tokens.{AreBytes, AreSmallToks, IsSmallText};
 
 /// The tokens of a text of fewer than 2^32 bytes are small.
 pub fn tokens_of_texts_are_small()
-    ensures { (text : List ℕ) (tokens : List Token) → IsReading text tokens → AreBytes text → IsShortList text →
-        AreSmallToks (map (λ token. token.tok) tokens) }
+    ensures { (text : List ℕ) (tokens : List Token) → IsReading text tokens → AreBytes text →
+        IsShortList text → AreSmallToks (map (λ token. token.tok) tokens) }
 {}
 
 /// A program is readable whose trees are spelled by small tokens, fewer than 2^32 in each file.

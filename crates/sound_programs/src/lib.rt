@@ -8,10 +8,9 @@
 //! a function calls reaches it; no list is too long; and all of this together is soundness, where the
 //! program has at most 1,000,000 cells and a weight below 2^35.
 //!
-//! What is asked for and not shown here: that the order that is used is such an order (it follows from E26
-//! and from how the order is made); that a program that was parsed is readable, and that its weight is so
-//! low (both follow from the grammar, the types of a tree and the count of tokens). So no crate stands on
-//! these laws yet. There is no code that runs.
+//! What is asked for is shown elsewhere: check_calls makes such an order (from E26), and small_trees has that
+//! a program that was parsed is readable and so light (from the grammar, the texts of files and the count of
+//! tokens). There is no code that runs.
 #![tactic(auto)]
 
 pub mod laws;
