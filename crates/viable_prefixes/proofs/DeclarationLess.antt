@@ -36,6 +36,7 @@ message_leaves at (tok.Num value ext ∷ ts) = omega arith
 message_leaves at (tok.Name name ∷ ts) = omega arith
 message_leaves at _ = tt
 
+-- the type of a declaration leaves less
 pub type_leaves : (total : ℕ) (ts : List Tok) → Leaves (read.declared_type total ts) (length ts)
 unfolding read.declared_type
 type_leaves total [] = tt

@@ -15,6 +15,7 @@ AreSpelled =
     ((ts : List Tok) (tree : FileTree) → IsTreeOf ts tree → accepts (goal.File ∷ []) ts ≡ true)
     × ((ts : List Tok) → accepts (goal.File ∷ []) ts ≡ true → (tree : FileTree) × IsTreeOf ts tree)
 
+-- it is so where they are the same
 pub first_is : AreSpelled → (ts : List Tok) → IsFirstWrong ts (first_wrong (goal.File ∷ []) ts)
 first_is spelled ts =
     let before = before_wrong ts (goal.File ∷ []) begins_sound in

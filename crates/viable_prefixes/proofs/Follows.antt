@@ -58,6 +58,7 @@ sign_first wanted (tok.Str text) ts = refl
 sign_first wanted (tok.Include text) ts = refl
 sign_first wanted tok.Directive ts = refl
 
+-- the same of a word
 pub word_first : (wanted : Word) (t : Tok) (ts : List Tok) → begins_word wanted (t ∷ ts) ≡ is_word wanted t
 word_first wanted (tok.Word found) ts = refl
 word_first wanted (tok.Name name) ts = refl
@@ -69,6 +70,7 @@ word_first wanted (tok.Str text) ts = refl
 word_first wanted (tok.Include text) ts = refl
 word_first wanted tok.Directive ts = refl
 
+-- the same of the word of a kind
 pub kind_first : (t : Tok) (ts : List Tok) → kind_at (t ∷ ts) ≡ kind_in t
 kind_first (tok.Word found) ts = refl
 kind_first (tok.Name name) ts = refl
@@ -80,6 +82,7 @@ kind_first (tok.Str text) ts = refl
 kind_first (tok.Include text) ts = refl
 kind_first tok.Directive ts = refl
 
+-- the same of an operator
 pub operator_first : (t : Tok) (ts : List Tok) → operator_at (t ∷ ts) ≡ operator_in t
 operator_first (tok.Sign found) ts = refl
 operator_first (tok.Name name) ts = refl

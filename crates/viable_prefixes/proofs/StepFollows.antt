@@ -80,6 +80,7 @@ pub made_goes : {A B : Type 0} (read : Read A) (made : A → B) (stack : Stack) 
 made_goes None made stack = refl
 made_goes (Some found) made stack = refl
 
+-- it leaves as little
 pub made_leaves : {A B : Type 0} (read : Read A) (made : A → B) (n : ℕ) → Leaves read n → Leaves (and_then read (λ a rest. Some (made a, rest))) n
 made_leaves None made n leaves = tt
 made_leaves (Some found) made n leaves = leaves
@@ -90,6 +91,7 @@ pub closed_goes : {A B : Type 0} (read : Read A) (wanted : Sign) (made : A → B
 closed_goes None wanted made stack = refl
 closed_goes (Some found) wanted made stack = sign_followed wanted found.1 stack ∙ made_goes (after wanted found.1) (λ _. made found.0) stack
 
+-- it leaves as little
 pub closed_leaves : {A B : Type 0} (read : Read A) (wanted : Sign) (made : A → B) (n : ℕ) → Leaves read n
     → Leaves (and_then read (λ a rest. and_then (after wanted rest) (λ _ rest. Some (made a, rest)))) n
 closed_leaves read wanted made n leaves =

@@ -25,6 +25,7 @@ tokens_from [] n token less is = absurd (omega (arith, less))
 tokens_from (first ∷ tokens) zero token less is = ap (λ (t : Token). t.tok ∷ toks tokens) is
 tokens_from (first ∷ tokens) (suc n) token less is = tokens_from tokens n token (omega (arith, less)) is
 
+-- the same, the number of the next in the form of a sum
 pub tokens_behind : (tokens : List Token) (n : ℕ) (token : Token) → n < length tokens → get_or tokens n token ≡ token
     → drop n (toks tokens) ≡ token.tok ∷ drop (n + 1) (toks tokens)
 tokens_behind tokens n token less is =

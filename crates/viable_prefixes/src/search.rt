@@ -91,7 +91,8 @@ fn take(goal: Goal, token: &Tok, stack: &mut Vec<Goal>) -> Result<bool, NoMemory
 
 /// The same where the goal is not one of a statement's.
 fn take_in_expression(goal: Goal, token: &Tok, stack: &mut Vec<Goal>) -> Result<bool, NoMemory>
-    ensures { Takes (spec.taken_in_expression goal token.now (reverse stack.old.items)) result stack.new.items }
+    ensures { Takes (spec.taken_in_expression goal token.now (reverse stack.old.items))
+        result stack.new.items }
 {
     match goal {
         Goal::Expression(level) => expr::expression(level, token, stack),
@@ -115,7 +116,8 @@ fn take_in_expression(goal: Goal, token: &Tok, stack: &mut Vec<Goal>) -> Result<
 
 /// The same where the goal is not one of an expression's either.
 fn take_in_declaration(goal: Goal, token: &Tok, stack: &mut Vec<Goal>) -> Result<bool, NoMemory>
-    ensures { Takes (spec.taken_in_declaration goal token.now (reverse stack.old.items)) result stack.new.items }
+    ensures { Takes (spec.taken_in_declaration goal token.now (reverse stack.old.items))
+        result stack.new.items }
 {
     match goal {
         Goal::Kind => Ok(kind_in(token).is_some()),

@@ -66,7 +66,8 @@ fn for_loop(stack: &mut Vec<Goal>) -> Result<bool, NoMemory>
 
 /// The first token of an expression and `;`.
 fn evaluation(token: &Tok, stack: &mut Vec<Goal>) -> Result<bool, NoMemory>
-    ensures { Takes (expression_from assignment_level token.now (goal.Sign sign.Semi ∷ reverse stack.old.items))
+    ensures { Takes
+        (expression_from assignment_level token.now (goal.Sign sign.Semi ∷ reverse stack.old.items))
         result stack.new.items }
 {
     stack.push(Goal::Sign(Sign::Semi))?;

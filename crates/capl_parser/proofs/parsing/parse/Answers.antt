@@ -26,7 +26,7 @@ returns-in-Ok-clause-only c =
 pub returns-in_ok-token-in-Err-NotSpelled-clause-refusal : goal.returns-in_ok-token-in-Err-NotSpelled-clause-refusal
 returns-in_ok-token-in-Err-NotSpelled-clause-refusal c =
     let none : file (parts_of (length c.args.tokens.now)) (toks c.args.tokens.now) ≡ None =
-        subst (λ (ts : List Tok). file (parts_of (length c.args.tokens.now)) ts ≡ None) c.new-cursor.ensures
-        (subst (λ (why : Refusal). Gives (file (parts_of (length c.args.tokens.now)) c.new-cursor.result) (Err why) c.read_file.new.cursor) c.in-Err-NotSpelled.field-0-is
-        c.in-Err-NotSpelled.ensures) in
+    subst (λ (ts : List Tok). file (parts_of (length c.args.tokens.now)) ts ≡ None) c.new-cursor.ensures
+    (subst (λ (why : Refusal). Gives (file (parts_of (length c.args.tokens.now)) c.new-cursor.result) (Err why) c.read_file.new.cursor) c.in-Err-NotSpelled.field-0-is
+    c.in-Err-NotSpelled.ensures) in
     (first_of (search rules, grind (arith, common_steps)), none_parsed c.args.tokens.now (length c.args.tokens.now) refl none, c.in_ok-token-in-Err-NotSpelled.ensures)
