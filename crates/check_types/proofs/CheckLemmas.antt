@@ -10,9 +10,11 @@ use Rattle.capl_meaning.specs.Names.{Names, names_of}
 use Rattle.capl_meaning.specs.Offences.{IsFirstOffence, offences_of}
 use Rattle.typed_laws.specs.Laid.{AreDistinct}
 use Rattle.typed_laws.proofs.Distinct.{distinct_without_offences}
-use Rattle.typed_source.specs.Program.{HasEach, HasNoOther, typed_program}
+use Rattle.capl_meaning.specs.Size.{cells_of_program}
+use Rattle.sound_programs.specs.Given.{IsReadable}
+use Rattle.typed_source.specs.Program.{HasEach, HasNoOther, IsGoodOrder, typed_program}
 use Rattle.check_calls.specs.declared.calls.Calls.{Calls}
-use Rattle.check_calls.specs.Calls.{AreCallsOf, order_of}
+use Rattle.check_calls.specs.Calls.{AreCallsOf, GoForward, order_of}
 use Rattle.type_expressions.specs.declared.layout.Layout.{Layout}
 use Rattle.type_expressions.specs.Layout.{IsLaidOut, IsLayoutOf, size_in}
 use Rattle.check_types.specs.Accepted.{IsAccepted, IsTooLarge}
@@ -63,18 +65,38 @@ pub laid_out : (names : Names) (layout : Option Layout) (laid : Layout) → layo
     (size_in names names.variables ≤ 1000000) × IsLayoutOf names laid
 laid_out names layout laid is out = subst (IsLaidOut names) is out
 
--- an accepted program
+-- few cells
+pub cells_few : (base : List DbcMessage) (program : Program) (names : Names) → names ≡ names_of base program →
+    size_in names names.variables ≤ 1000000 → cells_of_program base program ≤ 1000000
+cells_few base program names built few = subst (λ (n : Names). size_in n n.variables ≤ 1000000) built few
+
+-- functions stand behind those that they call
+pub good_calls : (base : List DbcMessage) (program : Program) (names : Names) (calls : Calls) → names ≡ names_of base program →
+    offences_of names.base program ≡ [] → AreCallsOf names calls → IsReadable program →
+    ((n : Names) (c : Calls) → AreCallsOf n c → GoForward n → IsGoodOrder n (order_of c)) →
+    ((b : List DbcMessage) (p : Program) → IsReadable p → offences_of b p ≡ [] → GoForward (names_of b p)) →
+    IsGoodOrder (names_of base program) (order_of calls)
+good_calls base program names calls built none are readable orders forward =
+    subst (λ (n : Names). IsGoodOrder n (order_of calls)) built
+    (orders names calls are
+    (subst GoForward (sym built) (forward base program readable (none_refused base program names built none))))
+
+-- an accepted program, where it is sound if its order is good
 pub accepted : (base : List DbcMessage) (program : Program) (names : Names) (calls : Calls) (lines : List (List ℕ)) (typed : Typed) →
     names ≡ names_of base program → offences_of names.base program ≡ [] → size_in names names.variables ≤ 1000000 →
-    AreCallsOf names calls → typed ≡ typed_program names.base program (order_of calls) (line_in lines) → IsSound typed →
+    AreCallsOf names calls → typed ≡ typed_program names.base program (order_of calls) (line_in lines) →
+    IsGoodOrder (names_of base program) (order_of calls) →
+    ((line : ℕ → ℕ → ℕ) → IsGoodOrder (names_of base program) (order_of calls) → IsSound (typed_program base program (order_of calls) line)) →
     IsAccepted base program lines typed
-accepted base program names calls lines typed built none few are made sound = record {
-  no_offence = none_refused base program names built none;
-  few_cells = subst (λ (n : Names). size_in n n.variables ≤ 1000000) built few;
-  order = order_of calls;
-  has_each = subst (λ (n : Names). HasEach n (order_of calls)) built are.has_each;
-  has_no_other = subst (λ (n : Names). HasNoOther n (order_of calls)) built are.has_no_other;
-  once = are.once;
-  typed_is = made ∙ ap (λ (b : List DbcMessage). typed_program b program (order_of calls) (line_in lines)) (same_base base program names built);
-  sound = sound;
-}
+accepted base program names calls lines typed built none few are made good sound =
+    let typed_is = made ∙ ap (λ (b : List DbcMessage). typed_program b program (order_of calls) (line_in lines)) (same_base base program names built) in
+    record {
+      no_offence = none_refused base program names built none;
+      few_cells = cells_few base program names built few;
+      order = order_of calls;
+      has_each = subst (λ (n : Names). HasEach n (order_of calls)) built are.has_each;
+      has_no_other = subst (λ (n : Names). HasNoOther n (order_of calls)) built are.has_no_other;
+      once = are.once;
+      typed_is = typed_is;
+      sound = subst IsSound (sym typed_is) (sound (line_in lines) good);
+    }

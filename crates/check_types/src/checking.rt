@@ -1,7 +1,9 @@
 // Checking a program.
 
-ghost use Rattle.std.specs.Prelude.{◌≡◌, IfErr, IfOk, map};
+ghost use Rattle.std.specs.Prelude.{◌≡◌, ◌<◌, ◌^◌, IfErr, IfOk, map};
+ghost use Rattle.capl_tree.specs.Weight.{weight};
 ghost use Rattle.check_names.specs.Names.{messages_of};
+ghost use Rattle.sound_programs.specs.Given.{IsReadable};
 ghost use Rattle.check_types.specs.Accepted.{IsAccepted};
 ghost use Rattle.check_types.specs.Refusal.{IsRefusalOf};
 
@@ -10,11 +12,14 @@ use crate::typed::make_program;
 use capl_meaning::Offence;
 use capl_tree::Program;
 use check_calls::Calls;
+use check_calls::laws::orders_are_good;
 use check_names::Names;
 use check_sorts::Constants;
 use check_statements::first_offence;
 use dbc_reader::Database;
-use sound_check::is_sound;
+use sound_programs::laws::{
+    functions_do_not_reach_their_callers, programs_without_offences_are_sound,
+};
 use std::alloc::Global;
 use texts::NoMemory;
 use type_expressions::{Layout, TreeTables};
@@ -56,8 +61,9 @@ pub fn check(
     lines: &[Vec<u32>],
     base: Option<&Database>,
 ) -> Result<Typed, CheckRefusal>
-    ensures accepted { IfOk result (IsAccepted (messages_of base.entry) program.now
-        (map (λ row. row.items) lines.now)) }
+    // A program of parsed files is readable and as light as that.
+    ensures accepted { IsReadable program.now → weight program.now < 2 ^ 35 →
+        IfOk result (IsAccepted (messages_of base.entry) program.now (map (λ row. row.items) lines.now)) }
     ensures refused { IfErr result (IsRefusalOf (messages_of base.entry) program.now) }
 {
     let names = Names::build(alloc, program, base)?;
@@ -82,9 +88,9 @@ pub fn check(
         tables: &tables,
     };
     let typed = make_program(alloc, program, &source)?;
-    // The compiler asks for a sound program. That a program without offences has one is not proved.
-    if !is_sound(alloc, &typed)? {
-        return Err(CheckRefusal::NoMemory);
-    }
+    // The compiler asks for a sound program, which a program without offences has.
+    orders_are_good();
+    functions_do_not_reach_their_callers();
+    programs_without_offences_are_sound();
     Ok(typed)
 }

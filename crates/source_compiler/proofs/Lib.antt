@@ -2,3 +2,4 @@
 pub mod CellLemmas
 pub mod FileLemmas
 pub mod OffenceLemmas
+mod ReadableLemmas

@@ -3,10 +3,12 @@
 ghost use Rattle.std.specs.Prelude.{◌≡◌, ◌≤◌, ◌<◌, ◌-◌, ◌^◌, ◌⊎◌, All, IfOk, length, map, slice_get};
 ghost use Rattle.capl_include.specs.Answer.{token_count};
 ghost use Rattle.capl_include.specs.Blame.{file_blame, source_rule};
+ghost use Rattle.capl_include.specs.Text.{AreOfTexts};
 ghost use Rattle.capl_lexer.specs.Reading.{token_limit};
 ghost use Rattle.capl_tree.specs.Weight.{weight};
 ghost use Rattle.check_names.specs.Names.{messages_of};
 ghost use Rattle.check_types.specs.Accepted.{IsAccepted};
+ghost use Rattle.sound_programs.specs.Given.{IsReadable};
 ghost use Rattle.gen_stmt.specs.Cells.{cell_count};
 ghost use Rattle.code_listing.specs.Program.{IsCodeOf};
 ghost use Rattle.typed_tree.specs.Size.{size};
@@ -29,6 +31,10 @@ use dbc_reader::Database;
 use gen_stmt::{CompileRefusal, cells_of, compile};
 use input_refusals::{InputRefusal, blamed_file, blamed_place};
 use items::Items;
+use small_trees::laws::{
+    programs_of_small_texts_are_readable, programs_weigh_eight_times_their_tokens,
+    tokens_of_texts_are_small,
+};
 use std::alloc::Global;
 use texts::{NoMemory, Text};
 use typed_source::laws::code_is_within_the_weight;
@@ -42,12 +48,16 @@ pub(crate) fn code_of(
     files: &[SourceFile],
     base: Option<&Database>,
 ) -> Result<Compiled, InputRefusal>
-    requires { token_count files.now ≤ token_limit }
+    requires few { token_count files.now ≤ token_limit }
+    requires texts { AreOfTexts files.now }
     ensures { Judges (IsCompiled (messages_of base.entry) files.now)
         (IsProgramBlame (messages_of base.entry) name.now files.now) result }
 {
     screen_files(alloc, files)?;
     let program = parse_files(alloc, files)?;
+    tokens_of_texts_are_small();
+    programs_of_small_texts_are_readable();
+    programs_weigh_eight_times_their_tokens();
     let typed = check_program(alloc, name, files, &program, base)?;
     code_is_within_the_weight();
     let code = compile_program(alloc, name, &program, &typed)?;
@@ -138,7 +148,7 @@ fn column_past(token: &Token) -> u32
         .saturating_add(token.to.saturating_sub(token.from))
 }
 
-/// The typed program of these files.
+/// The typed program of these files, whose program is readable and not too heavy to be sound.
 fn check_program(
     alloc: Global,
     name: &Text,
@@ -146,6 +156,8 @@ fn check_program(
     program: &Program,
     base: Option<&Database>,
 ) -> Result<Typed, InputRefusal>
+    requires readable { IsReadable program.now }
+    requires light { weight program.now < 2 ^ 35 }
     ensures { Judges (IsAccepted (messages_of base.entry) program.now (lines_of files.now))
         (λ blame. IsOffenceBlame (messages_of base.entry) files.now program.now blame
         ⊎ IsSizeBlame (messages_of base.entry) name.now program.now blame) result }

@@ -2,6 +2,7 @@
 
 ghost use Rattle.std.specs.Prelude.{◌≡◌, ◌≤◌, IfOk, IfSome, IsErrOf};
 ghost use Rattle.capl_include.specs.Answer.{token_count};
+ghost use Rattle.capl_include.specs.Text.{AreOfTexts};
 ghost use Rattle.capl_lexer.specs.Reading.{token_limit};
 ghost use Rattle.check_names.specs.Names.{messages_of};
 ghost use Rattle.texts.specs.Fault.{HasRisen};
@@ -53,6 +54,7 @@ fn read_files<F: Files>(
     ensures told { IfSome (F.held files.old) (λ contents.
         Agrees (FilesAt contents name.now) (IsFilesBlame contents name.now) result) }
     ensures few { IfOk result (λ sources. token_count sources ≤ token_limit) }
+    ensures texts { IfOk result (λ sources. AreOfTexts sources) }
     ensures failed { IsErrOf result InputRefusal.Failed → HasRisen (F.faults files.old) (F.faults files.new) }
     ensures faults_stay { F.faults files.old ≤ F.faults files.new }
     ensures contents_stay { F.held files.new ≡ F.held files.old }

@@ -11,8 +11,19 @@ use Rattle.source_compiler.specs.Compiled.{IsCompiled}
 use Rattle.source_compiler.specs.declared.compiled.Compiled.{Compiled}
 use Rattle.source_compiler.specs.Program.{lines_of, most}
 use Rattle.source_compiler.proofs.CellLemmas.{cells_told, few_cells, weight_told, within_weight}
+use Rattle.source_compiler.proofs.ReadableLemmas.{files_light, files_readable}
 use Rattle.input_refusals.proofs.Passing.{judged_on}
 use Rattle.source_compiler.proofs.program.code_of.Goals as goal
+
+pub check_program-requires-clause-readable : goal.check_program-requires-clause-readable
+check_program-requires-clause-readable c =
+    files_readable c.tokens_of_texts_are_small.ensures c.programs_of_small_texts_are_readable.ensures c.args.files.now c.in_ok-program.program
+    c.in_ok-program.ensures c.requires.texts c.requires.few
+
+pub check_program-requires-clause-light : goal.check_program-requires-clause-light
+check_program-requires-clause-light c =
+    files_light c.programs_weigh_eight_times_their_tokens.ensures c.args.files.now c.in_ok-program.program c.in_ok-program.ensures
+    c.requires.few
 
 pub compile_program-requires-clause-bounded : goal.compile_program-requires-clause-bounded
 compile_program-requires-clause-bounded c =
