@@ -1,5 +1,5 @@
 -- The files of a program have one first that is wrong, with one blame, or are one program.
-use Rattle.std.proofs.Common.{◌≡◌, ◌<◌, ◌≤◌, ◌+◌, ℕ, zero, suc, List, [], ◌∷◌, ◌++◌, length, get_or, take, drop, All, refl, sym, ap, subst, ◌∙◌, append_assoc, arith, inl, inr}
+use Rattle.std.proofs.Common.{◌≡◌, ◌<◌, ◌≤◌, ◌+◌, ℕ, zero, suc, ◌-◌, List, [], ◌∷◌, ◌++◌, length, slice_get, get_or, take, drop, All, refl, sym, ap, subst, ◌∙◌, append_assoc, arith, inl, inr}
 use Rattle.std.proofs.lemmas.List.Elements.{All-append, All-cons, All-nil}
 use Rattle.std.proofs.lemmas.List.{take_more}
 use Rattle.std.proofs.lemmas.List.Sums.{get_or-le-sum_by}
@@ -21,7 +21,8 @@ use Rattle.parser_laws.proofs.Whole.{only_tree}
 use Rattle.capl_tree.specs.declared.file.FileTree.{FileTree}
 use Rattle.capl_tree.specs.declared.file.Program.{Program}
 use Rattle.capl_include.specs.declared.expanded.SourceFile.{SourceFile}
-use Rattle.source_compiler.specs.Program.{AreTreesOf, HasTree, IsFirstFile, IsParsed, IsParseBlame, IsScreenBlame, IsScreened, IsTokenBlame, IsTreeBlame}
+use Rattle.source_compiler.specs.Program.{AreTreesOf, HasTree, IsFirstFile, IsParsed, IsParseBlame, IsScreenBlame, IsScreened, IsTokenBlame, IsTreeBlame, wrong_blame}
+use Rattle.source_compiler.proofs.WrongLemmas.{one_wrong}
 
 -- ---- the first file
 
@@ -168,13 +169,17 @@ screened_or_blame files blame right first = no_first IsScreened (IsTokenBlame bl
 
 one_tree_blame : (blame other : Blame) (file : SourceFile) → IsTreeBlame blame file → IsTreeBlame other file → blame ≡ other
 one_tree_blame blame other file (inl (deep, is)) (inl (deep_too, also)) = is ∙ sym also
-one_tree_blame blame other file (inl (deep, is)) (inr (flat, none, also)) = absurd (omega arith)
-one_tree_blame blame other file (inr (flat, none, is)) (inl (deep, also)) = absurd (omega arith)
-one_tree_blame blame other file (inr (flat, none, is)) (inr (flat_too, none_too, also)) = is ∙ sym also
+one_tree_blame blame other file (inl (deep, is)) (inr wrong) = absurd (omega (arith, deep, wrong.shallow))
+one_tree_blame blame other file (inr wrong) (inl (deep, also)) = absurd (omega (arith, deep, wrong.shallow))
+one_tree_blame blame other file (inr one) (inr two) =
+    let same = one_wrong (toks file.tokens) one.number two.number one.first two.first in
+    one.is
+    ∙ ap (λ (number : ℕ). wrong_blame file.name (slice_get file.tokens number) (slice_get file.tokens (length file.tokens - 1))) same
+    ∙ sym two.is
 
 parsed_or_tree : (blame : Blame) (file : SourceFile) → IsParsed file → IsTreeBlame blame file → ⊥
 parsed_or_tree blame file (tree, (flat, spelled)) (inl (deep, also)) = absurd (omega arith)
-parsed_or_tree blame file (tree, (flat, spelled)) (inr (flat_too, none, also)) = none tree spelled
+parsed_or_tree blame file (tree, (flat, spelled)) (inr wrong) = wrong.no_tree tree spelled
 
 -- the trees of files have one blame
 pub one_parse_blame : (files : List SourceFile) (blame other : Blame) → IsParseBlame files blame → IsParseBlame files other → blame ≡ other

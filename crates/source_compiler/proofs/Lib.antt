@@ -3,3 +3,5 @@ pub mod CellLemmas
 pub mod FileLemmas
 pub mod OffenceLemmas
 mod ReadableLemmas
+mod PlaceLemmas
+mod WrongLemmas

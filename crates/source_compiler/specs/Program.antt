@@ -1,5 +1,5 @@
 -- The program of a node's files, and which of its rules is the first that is broken.
-use Rattle.std.specs.Prelude.{◌≡◌, ◌<◌, ◌≤◌, ◌⊎◌, ℕ, ◌+◌, ◌-◌, ◌^◌, min, List, [], ◌∷◌, ◌++◌, length, map, slice_get, unwrap_or, Option, Some, None, All}
+use Rattle.std.specs.Prelude.{◌≡◌, ◌<◌, ◌≤◌, ◌⊎◌, ℕ, ◌+◌, ◌-◌, List, [], ◌∷◌, ◌++◌, length, map, slice_get, unwrap_or, Option, Some, None, All}
 use Rattle.std.specs.List.{AllZip}
 use Rattle.std.specs.Option.{option_and_then, option_map}
 use Rattle.texts.specs.declared.blame.Blame.{Blame}
@@ -74,9 +74,9 @@ IsParsed file = (tree : FileTree) × HasTree file tree
 abbrev pub AreTreesOf : List SourceFile → Program → Type 0
 AreTreesOf files program = AllZip HasTree files program.files
 
--- the column just past a token; one that 32 bits do not hold is the greatest that they do
+-- the column just past a token
 abbrev pub column_past : Token → ℕ
-column_past token = min (token.column + (token.to - token.from)) (2 ^ 32 - 1)
+column_past token = token.column + (token.to - token.from)
 
 -- the place just past the last token is to blame
 abbrev pub end_blame : List ℕ → Option Token → Rule → Blame
@@ -95,7 +95,7 @@ pub record IsSpellingBlame (blame : Blame) (file : SourceFile) : Type 0 where
   pub number : ℕ
   pub first : IsFirstWrong (toks file.tokens) number
   pub is : blame ≡ wrong_blame file.name (slice_get file.tokens number)
-    (slice_get file.tokens (length file.tokens - 1))
+      (slice_get file.tokens (length file.tokens - 1))
 
 -- the tokens of a file nest deeper than they may (E03), or they do not and spell no tree (E02)
 abbrev pub IsTreeBlame : Blame → SourceFile → Type 0

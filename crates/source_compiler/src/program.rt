@@ -3,7 +3,7 @@
 ghost use Rattle.std.specs.Prelude.{◌≡◌, ◌≤◌, ◌<◌, ◌-◌, ◌^◌, ◌⊎◌, All, IfOk, length, map, slice_get};
 ghost use Rattle.capl_include.specs.Answer.{token_count};
 ghost use Rattle.capl_include.specs.Blame.{file_blame, source_rule};
-ghost use Rattle.capl_include.specs.Text.{AreOfTexts};
+ghost use Rattle.capl_include.specs.Text.{AreOfTexts, IsOfText};
 ghost use Rattle.capl_lexer.specs.Reading.{token_limit};
 ghost use Rattle.capl_tree.specs.Weight.{weight};
 ghost use Rattle.check_names.specs.Names.{messages_of};
@@ -16,7 +16,7 @@ ghost use Rattle.typed_tree.specs.Sound.{IsSound};
 ghost use Rattle.source_compiler.specs.Source.{IsProgramBlame};
 ghost use Rattle.input_refusals.specs.Agreement.{IsBlamedOrNoMemory, Judges};
 ghost use Rattle.source_compiler.specs.Compiled.{IsCompiled};
-ghost use Rattle.source_compiler.specs.Program.{AreTreesOf, HasTree, IsFirstFile, IsOffenceBlame, IsParseBlame, IsScreenBlame, IsScreened, IsSizeBlame, IsTokenBlame, IsTreeBlame, column_past, lines_of, most, name_in, offence_blame, wrong_blame};
+ghost use Rattle.source_compiler.specs.Program.{AreTreesOf, HasTree, IsFirstFile, IsOffenceBlame, IsParseBlame, IsScreenBlame, IsScreened, IsSizeBlame, IsTokenBlame, IsTreeBlame, column_past, end_blame, lines_of, most, name_in, offence_blame, wrong_blame};
 
 use crate::compiled::Compiled;
 use crate::rules::{NOT_SPELLED, TOO_DEEP, TOO_LARGE, source_rule};
@@ -96,7 +96,8 @@ fn screen_file(alloc: Global, file: &SourceFile) -> Result<(), InputRefusal>
 
 /// The trees of these files.
 fn parse_files(alloc: Global, files: &[SourceFile]) -> Result<Program, InputRefusal>
-    requires { token_count files.now ≤ token_limit }
+    requires few { token_count files.now ≤ token_limit }
+    requires texts { AreOfTexts files.now }
     ensures { Judges (AreTreesOf files.now) (IsParseBlame files.now) result }
 {
     let mut trees = Vec::new(alloc);
@@ -111,7 +112,8 @@ fn parse_files(alloc: Global, files: &[SourceFile]) -> Result<Program, InputRefu
 
 /// The tree of a file.
 fn parse_file(alloc: Global, file: &SourceFile) -> Result<FileTree, InputRefusal>
-    requires { length file.now.tokens < 2 ^ 32 }
+    requires few { length file.now.tokens < 2 ^ 32 }
+    requires text { IsOfText file.now.tokens }
     ensures { Judges (HasTree file.now) (λ blame. IsTreeBlame blame file.now) result }
 {
     match parse(alloc, file.tokens.as_slice()) {
@@ -125,27 +127,36 @@ fn parse_file(alloc: Global, file: &SourceFile) -> Result<FileTree, InputRefusal
 /// The refusal that blames the token of this number of a file, the first wrong one, or the place just past
 /// the last token where there is none of this number; or the refusal of want of memory.
 fn blamed_wrong(alloc: Global, file: &SourceFile, number: u32) -> InputRefusal
+    requires { IsOfText file.now.tokens }
     ensures { IsBlamedOrNoMemory (wrong_blame file.now.name (slice_get file.now.tokens number)
         (slice_get file.now.tokens (length file.now.tokens - 1))) result }
 {
     let name = file.name.bytes();
     let tokens = file.tokens.as_slice();
-    if let Some(wrong) = tokens.get(number as usize) {
-        return blamed_place(alloc, name, wrong.line, wrong.column, NOT_SPELLED);
+    match tokens.get(number as usize) {
+        Some(wrong) => blamed_place(alloc, name, wrong.line, wrong.column, NOT_SPELLED),
+        None => blamed_end(alloc, name, tokens),
     }
+}
+
+/// The refusal that blames the place just past the last token, or that of want of memory.
+fn blamed_end(alloc: Global, name: &[u8], tokens: &[Token]) -> InputRefusal
+    requires { IsOfText tokens.now }
+    ensures { IsBlamedOrNoMemory
+        (end_blame name.now (slice_get tokens.now (length tokens.now - 1)) (source_rule 2)) result }
+{
     match tokens.get(tokens.len().saturating_sub(1)) {
         Some(last) => blamed_place(alloc, name, last.line, column_past(last), NOT_SPELLED),
         None => blamed_place(alloc, name, 1, 1, NOT_SPELLED),
     }
 }
 
-/// The column just past a token, or the greatest that there is.
+/// The column just past a token.
 fn column_past(token: &Token) -> u32
+    requires { column_past token.now < 2 ^ 32 }
     ensures { result ≡ column_past token.now }
 {
-    token
-        .column
-        .saturating_add(token.to.saturating_sub(token.from))
+    token.column + token.to.saturating_sub(token.from)
 }
 
 /// The typed program of these files, whose program is readable and not too heavy to be sound.

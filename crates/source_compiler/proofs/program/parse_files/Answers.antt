@@ -9,9 +9,9 @@ use Rattle.source_compiler.proofs.FileLemmas.{few_in_each, first_at, zip_more, z
 use Rattle.input_refusals.proofs.Passing.{judged_on}
 use Rattle.source_compiler.proofs.program.parse_files.Goals as goal
 
-pub parse_file-requires : goal.parse_file-requires
-parse_file-requires c =
-    omega (arith, c.requires, few_in_each c.args.files.now c.loop-file.file-index c.file-item.result c.loop-file-test.true c.file-item.is)
+pub parse_file-requires-clause-few : goal.parse_file-requires-clause-few
+parse_file-requires-clause-few c =
+    omega (arith, c.requires.few, few_in_each c.args.files.now c.loop-file.file-index c.file-item.result c.loop-file-test.true c.file-item.is)
 
 pub returns-in_err-tree : goal.returns-in_err-tree
 returns-in_err-tree c =
