@@ -23,8 +23,8 @@ pub const NESTING_LIMIT: u32 = 200;
 /// in the number of the tokens; how deep its calls go, the nesting of the tokens bounds.
 ///
 /// Deep comes exactly where the tokens nest more than 200 deep, NotSpelled exactly where they do not and
-/// no tree is spelled so, with the first token with which they begin no tree any more, and NoMemory only
-/// where the system gives no memory.
+/// no tree is spelled so, with the number of the first token with which they begin no tree any more, or of
+/// all tokens where all of them begin one, and NoMemory only where the system gives no memory.
 pub fn parse(alloc: Global, tokens: &[Token]) -> Result<FileTree, ParseRefusal>
     requires { length tokens.now < 2 ^ 32 }
 

@@ -49,7 +49,8 @@ impl From<NoMemory> for CheckRefusal {
 }
 
 /// The typed program of a program with a database, if it has one, where these are the lines of the tokens of
-/// its files, in program order.
+/// its files, in program order. It is sound, and the one of the source, where the program is readable and
+/// weighs less than 2^35, as each program of parsed files does.
 ///
 /// # Errors
 ///
@@ -88,7 +89,7 @@ pub fn check(
         tables: &tables,
     };
     let typed = make_program(alloc, program, &source)?;
-    // The compiler asks for a sound program, which a program without offences has.
+    // The compiler asks for a sound typed program; that of a program without offences is one.
     orders_are_good();
     functions_do_not_reach_their_callers();
     programs_without_offences_are_sound();

@@ -1,5 +1,5 @@
--- Parts of a source in which each number and character fits its type, and no list and no text has 2^32 items
--- or more.
+-- Parts of a source whose numbers, characters, texts and lists, as far as a typed program keeps them as they
+-- are, fit: numbers below 2^64, bytes, and fewer than 2^32 items.
 use Rattle.std.specs.Prelude.{ℕ, ◌<◌, ◌^◌, List, length, IfSome, ⊤}
 use Rattle.std.specs.List.{AllByRecursion}
 use Rattle.capl_tree.specs.declared.expr.Expr.{Expr, Row_of-Expr, end_of-Expr, more_of-Expr, items-the_row-Expr}

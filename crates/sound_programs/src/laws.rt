@@ -115,7 +115,7 @@ pub fn functions_do_not_reach_their_callers()
 {}
 
 /// The typed program of a program whose weight is below 2^35 has fewer than 2^32 functions, event procedures
-/// and formats, in each order that has each function once.
+/// and formats, in each order in which functions stand behind those that they call.
 pub fn light_programs_have_short_lists()
     ensures { (base : List DbcMessage) (program : Program) (order : List ℕ) (line : ℕ → ℕ → ℕ) →
         IsGoodOrder (names_of base program) order → weight program < 2 ^ 35 →

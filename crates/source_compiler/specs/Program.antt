@@ -78,7 +78,7 @@ AreTreesOf files program = AllZip HasTree files program.files
 abbrev pub column_past : Token → ℕ
 column_past token = token.column + (token.to - token.from)
 
--- the place just past the last token is to blame
+-- the place just past the last token is to blame; the beginning of the file where there is none
 abbrev pub end_blame : List ℕ → Option Token → Rule → Blame
 end_blame name None rule = place_blame name 1 1 rule
 end_blame name (Some last) rule = place_blame name last.line (column_past last) rule
@@ -88,7 +88,8 @@ abbrev pub wrong_blame : List ℕ → Option Token → Option Token → Blame
 wrong_blame name (Some wrong) last = place_blame name wrong.line wrong.column (source_rule 2)
 wrong_blame name None last = end_blame name last (source_rule 2)
 
--- the tokens of a file nest no deeper than they may and spell no tree, and the first wrong one is to blame
+-- the tokens of a file nest no deeper than they may and spell no tree, and to blame is the first wrong one, or
+-- the place just past the last
 pub record IsSpellingBlame (blame : Blame) (file : SourceFile) : Type 0 where
   pub shallow : nesting (toks file.tokens) ≤ nesting_limit
   pub no_tree : (tree : FileTree) → IsTreeOf (toks file.tokens) tree → ⊥

@@ -1,5 +1,5 @@
--- Tokens that a source begins with, and the first with which they are that no more (the viable prefixes of
--- parsing theory).
+-- Tokens with which some source begins, and the first token with which they no longer do (the viable prefixes
+-- of parsing theory).
 use Rattle.std.specs.Prelude.{ℕ, suc, ◌≤◌, ◌<◌, List, ◌++◌, length, take}
 use Rattle.capl_lexer.specs.declared.token.Tok.{Tok}
 use Rattle.capl_tree.specs.declared.file.FileTree.{FileTree}
@@ -9,7 +9,7 @@ use Rattle.capl_tree.specs.Tree.{IsTreeOf}
 abbrev pub BeginsTree : List Tok → Type 0
 BeginsTree front = (rest : List Tok) × (tree : FileTree) × IsTreeOf (front ++ rest) tree
 
--- the tokens before this number begin a tree, and with the next token, where there is one, they begin none
+-- the tokens before the one of this number begin a tree, and with the next token, where there is one, they begin none
 pub record IsFirstWrong (tokens : List Tok) (number : ℕ) : Type 0 where
   pub among : number ≤ length tokens
   pub begins : BeginsTree (take number tokens)

@@ -3,7 +3,8 @@
 //! Tokens are a viable prefix where some source begins with them. [`first_wrong_token`] gives the number of
 //! the first token with which they are no such prefix any more, by a predictive parser without trees: a stack
 //! of goals, each what may come next in a part that has begun, which one token after another moves on. A
-//! stack that is left can always be ended, and no token that a stack refuses begins what a goal on it wants.
+//! stack that is left can always be ended; what a stack refuses begins nothing that its goals, one after
+//! another, may be.
 #![tactic(auto)]
 
 pub use search::first_wrong_token;
