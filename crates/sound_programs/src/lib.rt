@@ -9,8 +9,8 @@
 //! program has at most 1,000,000 cells and a weight below 2^35.
 //!
 //! What is asked for is shown elsewhere: check_calls makes such an order (from E26), and small_trees has that
-//! a program that was parsed is readable and as light as that (from the grammar, the texts of files and the count of
-//! tokens). There is no code that runs.
+//! a program that was parsed is readable and as light as that (from the grammar, the texts of files and the
+//! count of tokens). There is no code that runs.
 #![tactic(auto)]
 
 pub mod laws;

@@ -88,8 +88,8 @@ abbrev pub wrong_blame : List ℕ → Option Token → Option Token → Blame
 wrong_blame name (Some wrong) last = place_blame name wrong.line wrong.column (source_rule 2)
 wrong_blame name None last = end_blame name last (source_rule 2)
 
--- the tokens of a file nest no deeper than they may and spell no tree, and to blame is the first wrong one, or
--- the place just past the last
+-- the tokens of a file nest no deeper than they may and spell no tree, and to blame is the first wrong one,
+-- or the place just past the last
 pub record IsSpellingBlame (blame : Blame) (file : SourceFile) : Type 0 where
   pub shallow : nesting (toks file.tokens) ≤ nesting_limit
   pub no_tree : (tree : FileTree) → IsTreeOf (toks file.tokens) tree → ⊥

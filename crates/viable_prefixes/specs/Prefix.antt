@@ -9,7 +9,7 @@ use Rattle.capl_tree.specs.Tree.{IsTreeOf}
 abbrev pub BeginsTree : List Tok → Type 0
 BeginsTree front = (rest : List Tok) × (tree : FileTree) × IsTreeOf (front ++ rest) tree
 
--- the tokens before the one of this number begin a tree, and with the next token, where there is one, they begin none
+-- the tokens before the one of this number begin a tree, and with it, where there is one, they begin none
 pub record IsFirstWrong (tokens : List Tok) (number : ℕ) : Type 0 where
   pub among : number ≤ length tokens
   pub begins : BeginsTree (take number tokens)
