@@ -192,6 +192,16 @@ def locals_of_one(count):
     return single("on start { " + "".join(f"byte v{it};v{it}=1;" for it in range(count)) + "}")
 
 
+def uses_of_one(count):
+    """So many assignments to elements of one array of nearly all cells that a program may have."""
+    return single("variables { byte a[999000]; long i; } on start { if (i) { " + "a[i] = 1; " * count + "} }")
+
+
+def texts_of_one(count):
+    """So many lines with the text in one array of nearly all cells that a program may have."""
+    return single("variables { char a[999000]; long i; } on start { if (i) { " + 'write("%s", a); ' * count + "} }")
+
+
 def procedures(count):
     """So many procedures for messages and timers, each with a selector or a timer of its own."""
     names = [f"t{it}" for it in range(count // 2)]
@@ -309,7 +319,8 @@ INPUTS = {
     "messages whose names collide": (colliding_messages, 120_000),
     **{f"nesting of {kind}": (nesting(kind), TOKENS) for kind in NESTED},
     "labels of a switch": (labels, 60_000), "calls in a chain": (chain_of_calls, 25_000),
-    "variables of one procedure": (locals_of_one, 30_000), "procedures": (procedures, 30_000),
+    "variables of one procedure": (locals_of_one, 30_000), "uses of one array": (uses_of_one, 20_000),
+    "texts of one array": (texts_of_one, 3_000), "procedures": (procedures, 30_000),
     "frames past selectors": (past_selectors, 130_000),
     "lines that include one file": (include_lines, 65_535), "files that include all": (includes_of_all, 250_000),
     "a string of a database": (one_statement('VERSION "', "x", '"'), DATABASE),

@@ -331,7 +331,7 @@ def of_the_wrong_token(trial):
         yield f"{data[again[2]:place]!r} stands behind what is told of a source up to its wrong token: {ended.out!r}"
     token = TOKEN.match(data, place)
     if token and b"#include" not in data[token.end():]:
-        end = trial.chance.choice([b"", b" }", b" ; }", b" x", b"\non start { }\n"])
+        end = trial.chance.choice([b"", b" }", b" ; }", b" 0", b"\non start { }\n"])
         yield from differ("with another end", [trial.run("check", {name: data[:token.end()] + end}).out], [refused])
 
 
