@@ -71,7 +71,7 @@ ROW = re.compile(rb"p [A-Za-z_]\w* \S.*:[1-9]\d* (preStart|start|message|timer|k
                  rb"(0|[1-9]\d*) (0|[1-9]\d*)\n")
 
 # A token, from where it begins, and what may stand between tokens.
-TOKEN = re.compile(rb"""#include[ \t]*"[^"\n]*"|"(?:\\.|[^"\\\n])*"|'(?:\\.|[^'\\\n])'|\w+|<<=|>>=|[-+*/%&|^<>=!]="""
+TOKEN = re.compile(rb"""#include[ \t]*"[^"\n]*"|"(?:\\.|[^"\\\n])*"|'(?:\\x[0-9A-Fa-f]{2}|\\.|[^'\\\n])'|\w+|<<=|>>=|[-+*/%&|^<>=!]="""
                    rb"""|&&|\|\||\+\+|--|<<|>>|::|[^\s]""")
 BETWEEN = re.compile(rb"(?:\s|//[^\n]*|/\*.*?\*/)*", re.DOTALL)
 
