@@ -114,7 +114,7 @@ const BLAMES: [(Files, Place); 19] = [
     ),
     (
         &[(b"s", b"scenario 1\nnode N n"), (b"n", b"on"), (b"u", b"")],
-        (b"n", None, None, b'E', 2),
+        (b"n", Some(1), Some(3), b'E', 2),
     ),
     (
         &[
@@ -122,7 +122,7 @@ const BLAMES: [(Files, Place); 19] = [
             (b"n", b"includes { #include \"u\" } on"),
             (b"u", b"\non start {"),
         ],
-        (b"u", None, None, b'E', 2),
+        (b"u", Some(2), Some(11), b'E', 2),
     ),
     (
         &[
