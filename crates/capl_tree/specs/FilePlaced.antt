@@ -18,13 +18,14 @@ use Rattle.capl_tree.specs.declared.procedure.Head.{Head}
 use Rattle.capl_tree.specs.declared.procedure.Head.TheVariants as head
 use Rattle.capl_tree.specs.declared.procedure.Param.{Param}
 use Rattle.capl_tree.specs.declared.procedure.Sel.{Sel}
-use Rattle.capl_tree.specs.declared.procedure.Sel.TheVariants as sel
+use Rattle.capl_tree.specs.declared.procedure.SelWhat.{SelWhat}
+use Rattle.capl_tree.specs.declared.procedure.SelWhat.TheVariants as selected
 use Rattle.capl_tree.specs.declared.file.TopItem.{TopItem}
 use Rattle.capl_tree.specs.declared.file.TopItem.TheVariants as top
 use Rattle.capl_tree.specs.Forms as form
 use Rattle.capl_tree.specs.Spelling.{expression, declaration}
 use Rattle.capl_tree.specs.Placed.{IsAt, IsPlaced, EachBefore, IsDeclarationPlaced}
-use Rattle.capl_tree.specs.FileSpelling.{part, label, each, statement, statements, further_arms, last_else, label_groups, braced, range_end, selector, parameter, Voids, signature, procedure}
+use Rattle.capl_tree.specs.FileSpelling.{part, label, each, statement, statements, further_arms, last_else, label_groups, braced, range_end, selection, selector, parameter, Voids, signature, procedure}
 
 -- an expression that may be missing, before the rest of its file
 abbrev pub IsPartPlaced : ℕ → Option Expr → List Tok → Type 0
@@ -105,14 +106,18 @@ abbrev mutual
       × AreStatementsPlaced total body (label_groups others rest)
       × AreGroupsPlaced total others rest
 
--- a selector
-abbrev pub IsSelectorPlaced : ℕ → Sel → List Tok → Type 0
-IsSelectorPlaced total (sel.Any at) rest = IsAt total at (selector (sel.Any at) rest)
-IsSelectorPlaced total (sel.Name name at) rest = IsAt total at (selector (sel.Name name at) rest)
-IsSelectorPlaced total (sel.Ids low high at) rest =
-    IsAt total at (selector (sel.Ids low high at) rest)
+-- which frames of a channel
+abbrev pub IsSelectionPlaced : ℕ → SelWhat → List Tok → Type 0
+IsSelectionPlaced total (selected.Any at) rest = IsAt total at (selection (selected.Any at) rest)
+IsSelectionPlaced total (selected.Name name at) rest = IsAt total at (selection (selected.Name name at) rest)
+IsSelectionPlaced total (selected.Ids low high at) rest =
+    IsAt total at (selection (selected.Ids low high at) rest)
     × IsPlaced total low (range_end high rest)
     × IsPartPlaced total high rest
+
+-- a selector, whose place is that of what stands behind its channel
+abbrev pub IsSelectorPlaced : ℕ → Sel → List Tok → Type 0
+IsSelectorPlaced total s rest = IsSelectionPlaced total s.what rest
 
 -- a parameter, whose place is that of its name
 abbrev pub IsParameterPlaced : ℕ → Param → List Tok → Type 0

@@ -3,7 +3,7 @@
 -- A part is written out before a rest: its own tokens and then the rest. A tree leaves two choices: whether
 -- `void` stands before a function that gives nothing, and whether it stands between parentheses that have no
 -- parameter.
-use Rattle.std.specs.Prelude.{ℕ, Bool, true, false, List, [], ◌∷◌, Option, Some, None, codes}
+use Rattle.std.specs.Prelude.{ℕ, zero, suc, Bool, true, false, List, [], ◌∷◌, Option, Some, None, codes}
 use Rattle.texts.specs.declared.text.Text.{Text}
 use Rattle.int_kinds.specs.declared.kinds.Kind.{Kind}
 use Rattle.capl_lexer.specs.declared.token.Tok.{Tok}
@@ -20,7 +20,8 @@ use Rattle.capl_tree.specs.declared.procedure.Head.{Head}
 use Rattle.capl_tree.specs.declared.procedure.Head.TheVariants as head
 use Rattle.capl_tree.specs.declared.procedure.Param.{Param}
 use Rattle.capl_tree.specs.declared.procedure.Sel.{Sel}
-use Rattle.capl_tree.specs.declared.procedure.Sel.TheVariants as sel
+use Rattle.capl_tree.specs.declared.procedure.SelWhat.{SelWhat}
+use Rattle.capl_tree.specs.declared.procedure.SelWhat.TheVariants as selected
 use Rattle.capl_tree.specs.declared.file.TopItem.{TopItem}
 use Rattle.capl_tree.specs.declared.file.TopItem.TheVariants as top
 use Rattle.capl_tree.specs.declared.file.FileTree.{FileTree}
@@ -113,11 +114,21 @@ abbrev pub range_end : Option Expr → List Tok → List Tok
 range_end None rest = rest
 range_end (Some high) rest = tok.Sign sign.Minus ∷ expression high rest
 
+-- which frames of a channel
+abbrev pub selection : SelWhat → List Tok → List Tok
+selection (selected.Any at) rest = tok.Sign sign.Star ∷ rest
+selection (selected.Name name at) rest = tok.Name name ∷ rest
+selection (selected.Ids low high at) rest = expression low (range_end high rest)
+
+-- the name of a channel and a dot, where there is a channel
+abbrev pub channel : ℕ → List Tok → List Tok
+channel (suc zero) rest = tok.Name (codes "CAN1") ∷ tok.Sign sign.Dot ∷ rest
+channel (suc (suc zero)) rest = tok.Name (codes "CAN2") ∷ tok.Sign sign.Dot ∷ rest
+channel _ rest = rest
+
 -- a selector
 abbrev pub selector : Sel → List Tok → List Tok
-selector (sel.Any at) rest = tok.Sign sign.Star ∷ rest
-selector (sel.Name name at) rest = tok.Name name ∷ rest
-selector (sel.Ids low high at) rest = expression low (range_end high rest)
+selector s rest = channel s.chan (selection s.what rest)
 
 -- the key of a procedure, `*` being any
 abbrev pub key : Option ℕ → List Tok → List Tok

@@ -25,7 +25,8 @@ use Rattle.capl_tree.specs.declared.procedure.Proc.{Proc}
 use Rattle.capl_tree.specs.declared.procedure.Head.{Head}
 use Rattle.capl_tree.specs.declared.procedure.Head.TheVariants as head
 use Rattle.capl_tree.specs.declared.procedure.Sel.{Sel}
-use Rattle.capl_tree.specs.declared.procedure.Sel.TheVariants as sel
+use Rattle.capl_tree.specs.declared.procedure.SelWhat.{SelWhat}
+use Rattle.capl_tree.specs.declared.procedure.SelWhat.TheVariants as selected
 use Rattle.capl_tree.specs.declared.file.TopItem.{TopItem}
 use Rattle.capl_tree.specs.declared.file.TopItem.TheVariants as top
 use Rattle.capl_tree.specs.declared.file.FileTree.{FileTree}
@@ -252,11 +253,15 @@ abbrev pub IsNumeral : Expr → Type 0
 IsNumeral (expr.Num value ext at) = ⊤
 IsNumeral _ = ⊥
 
--- a selector
+-- which frames of a channel
+abbrev pub IsSelection : SelWhat → Type 0
+IsSelection (selected.Any at) = ⊤
+IsSelection (selected.Name name at) = ⊤
+IsSelection (selected.Ids low high at) = IsNumeral low × ForSome high IsNumeral
+
+-- a selector, on one of two channels or on none
 abbrev pub IsSelector : Sel → Type 0
-IsSelector (sel.Any at) = ⊤
-IsSelector (sel.Name name at) = ⊤
-IsSelector (sel.Ids low high at) = IsNumeral low × ForSome high IsNumeral
+IsSelector s = (s.chan ≤ 2) × IsSelection s.what
 
 -- the head of a procedure
 abbrev pub IsHead : Head → Type 0

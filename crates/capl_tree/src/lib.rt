@@ -9,7 +9,7 @@
 pub use declaration::{Decl, DeclType, Declr, Init, Item};
 pub use expr::{Expr, Field};
 pub use file::{FileTree, Program, TopItem};
-pub use procedure::{Head, Param, Proc, Sel};
+pub use procedure::{Head, Param, Proc, Sel, SelWhat};
 pub use statement::{Arm, Group, Label, Stmt};
 pub use weight::weight_of;
 

@@ -58,9 +58,19 @@ pub struct Param {
     pub at: u32,
 }
 
-/// Which frames a message procedure is for.
+/// Which frames a message procedure is for: `SELECTED`, `CAN1.SELECTED` or `CAN2.SELECTED`.
 #[derive(Debug, Drop)]
-pub enum Sel {
+pub struct Sel {
+    /// The channel: 1 or 2, or 0 where none is named.
+    pub chan: u8,
+    /// Which frames of that channel, or of both.
+    pub what: SelWhat,
+}
+
+/// Which frames of a channel. Each `at` is the first token of this part, so that a selector with a channel
+/// begins two tokens before it.
+#[derive(Debug, Drop)]
+pub enum SelWhat {
     /// `*`
     Any {
         at: u32,
