@@ -20,23 +20,24 @@ use Rattle.capl_tree.specs.declared.procedure.Head.{Head}
 use Rattle.capl_tree.specs.declared.procedure.Head.TheVariants as head
 use Rattle.capl_tree.specs.declared.procedure.Param.{Param}
 use Rattle.capl_tree.specs.declared.procedure.Sel.{Sel}
-use Rattle.capl_tree.specs.declared.procedure.Sel.TheVariants as sel
+use Rattle.capl_tree.specs.declared.procedure.SelWhat.{SelWhat}
+use Rattle.capl_tree.specs.declared.procedure.SelWhat.TheVariants as selected
 use Rattle.capl_tree.specs.declared.file.TopItem.{TopItem}
 use Rattle.capl_tree.specs.declared.file.TopItem.TheVariants as top
 use Rattle.capl_tree.specs.declared.file.FileTree.{FileTree}
-use Rattle.capl_tree.specs.Grammar.{IsBodyPart, IsDeclaration, IsNumeral, IsSelector, IsHead, IsProcedure, IsTopItem, IsFile}
+use Rattle.capl_tree.specs.Grammar.{IsBodyPart, IsDeclaration, IsNumeral, IsSelection, IsSelector, IsHead, IsProcedure, IsTopItem, IsFile}
 use Rattle.capl_tree.specs.Spelling.{kind_word, expression, declaration, further, separated}
 use Rattle.capl_tree.specs.Placed.{IsAt, IsPlaced, EachBefore, IsDeclarationPlaced}
 use Rattle.capl_tree.specs.FileSpelling as spell
 use Rattle.capl_tree.specs.FileSpelling.{each, braced, Voids}
-use Rattle.capl_tree.specs.FilePlaced.{EachPlaced, IsStatementPlaced, IsSelectorPlaced, IsParameterPlaced, IsHeadPlaced, IsProcedurePlaced, IsTopItemPlaced}
+use Rattle.capl_tree.specs.FilePlaced.{EachPlaced, IsStatementPlaced, IsSelectionPlaced, IsSelectorPlaced, IsParameterPlaced, IsHeadPlaced, IsProcedurePlaced, IsTopItemPlaced}
 use Rattle.capl_tree.specs.Tree.{AreInPlace, IsTreeOf}
 use Rattle.expr_parser.specs.Operators.{kind_at, kind_of}
 use Rattle.expr_parser.specs.Reading.{Read, begins, begins_word, behind, after, items}
 use Rattle.expr_parser.proofs.Lists.{EachRead, items_complete}
 use Rattle.parser_laws.specs.Statement.{Parts, until, begins_declaration, ends_body, body_part, body, block, statement}
 use Rattle.parser_laws.specs.File as read
-use Rattle.parser_laws.specs.File.{name, included, numeral, range, one_selector, selector, key, named_event, event, parameter_of, parameter, parameters, signature, function_of, procedure_head, procedure, includes, variables, top_item, is_end, file}
+use Rattle.parser_laws.specs.File.{name, included, numeral, range, one_selection, selection, channel_named, on_channel, named_selector, selector, key, named_event, event, parameter_of, parameter, parameters, signature, function_of, procedure_head, procedure, includes, variables, top_item, is_end, file}
 use Rattle.parser_laws.proofs.Chains.{Chain, until_chain, IsRead, each_chain, each_both}
 use Rattle.parser_laws.proofs.Starts.{declaration_declares, starts_part, no_else, no_end, part_starts}
 use Rattle.parser_laws.proofs.Known.{AreComplete}
@@ -96,9 +97,9 @@ kind_item parts kind.Char ts = (refl, refl)
 
 -- the numbers of a range, or one number
 ids_read : (total : ℕ) (value : Option ℕ) (ext : Bool) (first : ℕ) (high : Option Expr) (at : ℕ) (ts : List Tok)
-    → (let low = expr.Num value ext first in IsSelector (sel.Ids low high at) → IsSelectorPlaced total (sel.Ids low high at) ts → begins sign.Minus ts ≡ false
-    → selector total (spell.selector (sel.Ids low high at) ts) ≡ Some (sel.Ids low high at, ts))
-unfolding selector one_selector range
+    → (let low = expr.Num value ext first in IsSelection (selected.Ids low high at) → IsSelectionPlaced total (selected.Ids low high at) ts → begins sign.Minus ts ≡ false
+    → selection total (spell.selection (selected.Ids low high at) ts) ≡ Some (selected.Ids low high at, ts))
+unfolding selection one_selection range
 ids_read total value ext first None at ts well placed over =
     let is : at ≡ total - suc (length ts) = omega (arith, placed.0) in
     let is_first : first ≡ total - suc (length ts) = omega (arith, placed.1) in
@@ -110,23 +111,54 @@ ids_read total value ext first (Some (expr.Num last mark second)) at ts well pla
     rw (is, is_first, is_second) refl
 ids_read total value ext first (Some high) at ts well placed over = absurd (well.1 high refl)
 
-selector_read : (total : ℕ) (s : Sel) (ts : List Tok) → IsSelector s → IsSelectorPlaced total s ts → begins sign.Minus ts ≡ false
-    → selector total (spell.selector s ts) ≡ Some (s, ts)
-unfolding selector one_selector
-selector_read total (sel.Any at) ts well placed over = let is : at ≡ total - suc (length ts) = omega (arith, placed) in rw is refl
-selector_read total (sel.Name text at) ts well placed over = let is : at ≡ total - suc (length ts) = omega (arith, placed) in rw is refl
-selector_read total (sel.Ids (expr.Num value ext first) high at) ts well placed over = ids_read total value ext first high at ts well placed over
-selector_read total (sel.Ids _ high at) ts well placed over = absurd well.0
+-- which frames of a channel
+selection_read : (total : ℕ) (what : SelWhat) (ts : List Tok) → IsSelection what → IsSelectionPlaced total what ts → begins sign.Minus ts ≡ false
+    → selection total (spell.selection what ts) ≡ Some (what, ts)
+unfolding selection one_selection
+selection_read total (selected.Any at) ts well placed over = let is : at ≡ total - suc (length ts) = omega (arith, placed) in rw is refl
+selection_read total (selected.Name text at) ts well placed over = let is : at ≡ total - suc (length ts) = omega (arith, placed) in rw is refl
+selection_read total (selected.Ids (expr.Num value ext first) high at) ts well placed over = ids_read total value ext first high at ts well placed over
+selection_read total (selected.Ids _ high at) ts well placed over = absurd well.0
 
-no_range : (others : List Sel) (rest : List Tok) → begins sign.Minus rest ≡ false → begins sign.Minus (further spell.selector others rest) ≡ false
-no_range [] rest over = over
-no_range (s ∷ others) rest over = refl
+-- neither a range nor a channel goes on in these tokens
+abbrev IsOver : List Tok → Type 0
+IsOver ts = (begins sign.Minus ts ≡ false) × (begins sign.Dot ts ≡ false)
+
+-- a selector of no channel
+plain_read : (total : ℕ) (what : SelWhat) (ts : List Tok) → IsSelection what → IsSelectionPlaced total what ts → IsOver ts
+    → selector total (spell.selection what ts) ≡ Some (record { chan = 0; what = what }, ts)
+unfolding selector named_selector on_channel
+plain_read total (selected.Name text at) ts well placed over =
+    let is : at ≡ total - suc (length ts) = omega (arith, placed) in rw (is, over.1) refl
+plain_read total (selected.Any at) ts well placed over =
+    rw (selection_read total (selected.Any at) ts well placed over.0) refl
+plain_read total (selected.Ids (expr.Num value ext first) high at) ts well placed over =
+    rw (selection_read total (selected.Ids (expr.Num value ext first) high at) ts well placed over.0) refl
+plain_read total (selected.Ids _ high at) ts well placed over = absurd well.0
+
+-- a selector, by its channel
+channel_read : (total chan : ℕ) (what : SelWhat) (ts : List Tok) → chan ≤ 2 → IsSelection what → IsSelectionPlaced total what ts → IsOver ts
+    → selector total (spell.channel chan (spell.selection what ts)) ≡ Some (record { chan = chan; what = what }, ts)
+unfolding selector named_selector on_channel
+channel_read total zero what ts known well placed over = plain_read total what ts well placed over
+channel_read total (suc zero) what ts known well placed over = rw (selection_read total what ts well placed over.0) refl
+channel_read total (suc (suc zero)) what ts known well placed over = rw (selection_read total what ts well placed over.0) refl
+channel_read total (suc (suc (suc chan))) what ts known well placed over = absurd (omega (arith, known))
+
+-- a selector
+selector_read : (total : ℕ) (s : Sel) (ts : List Tok) → IsSelector s → IsSelectorPlaced total s ts → IsOver ts
+    → selector total (spell.selector s ts) ≡ Some (s, ts)
+selector_read total s ts well placed over = channel_read total s.chan s.what ts well.0 well.1 placed over
+
+further_over : (others : List Sel) (rest : List Tok) → IsOver rest → IsOver (further spell.selector others rest)
+further_over [] rest over = over
+further_over (s ∷ others) rest over = (refl, refl)
 
 selectors_each : (total : ℕ) (all : List Sel) (rest : List Tok) → All IsSelector all → EachBefore spell.selector (IsSelectorPlaced total) all rest
-    → begins sign.Minus rest ≡ false → EachRead (selector total) spell.selector all rest
+    → IsOver rest → EachRead (selector total) spell.selector all rest
 selectors_each total [] rest well placed over = tt
 selectors_each total (s ∷ others) rest well placed over = (
-  selector_read total s (further spell.selector others rest) (All-head IsSelector s others well) placed.0 (no_range others rest over),
+  selector_read total s (further spell.selector others rest) (All-head IsSelector s others well) placed.0 (further_over others rest over),
   selectors_each total others rest (All-tail IsSelector s others well) placed.1 over,
 )
 
@@ -179,12 +211,21 @@ function_read total None text params at false between rest here placed = signatu
 -- Heads.
 
 module _ (parts : Parts) (known : AreComplete parts) where
-  selector_longer : (s : Sel) (ts : List Tok) → length ts < length (spell.selector s ts)
-  selector_longer (sel.Any at) ts = omega arith
-  selector_longer (sel.Name text at) ts = omega arith
-  selector_longer (sel.Ids low None at) ts = known.value_longer low ts
-  selector_longer (sel.Ids low (Some high) at) ts =
+  selection_longer : (what : SelWhat) (ts : List Tok) → length ts < length (spell.selection what ts)
+  selection_longer (selected.Any at) ts = omega arith
+  selection_longer (selected.Name text at) ts = omega arith
+  selection_longer (selected.Ids low None at) ts = known.value_longer low ts
+  selection_longer (selected.Ids low (Some high) at) ts =
       omega (arith, known.value_longer high ts, known.value_longer low (tok.Sign sign.Minus ∷ expression high ts))
+
+  channel_longer : (chan : ℕ) (ts : List Tok) → length ts ≤ length (spell.channel chan ts)
+  channel_longer zero ts = omega arith
+  channel_longer (suc zero) ts = omega arith
+  channel_longer (suc (suc zero)) ts = omega arith
+  channel_longer (suc (suc (suc chan))) ts = omega arith
+
+  selector_longer : (s : Sel) (ts : List Tok) → length ts < length (spell.selector s ts)
+  selector_longer s ts = omega (arith, selection_longer s.what ts, channel_longer s.chan (spell.selection s.what ts))
 
   head_read : (voids : Voids) (of : Head) (ts : List Tok) → IsHead of → IsHeadPlaced parts.total voids of (tok.Sign sign.OpenBrace ∷ ts)
       → procedure_head parts.total (spell.procedure_head voids of (tok.Sign sign.OpenBrace ∷ ts)) ≡ Some (of, tok.Sign sign.OpenBrace ∷ ts)
@@ -195,7 +236,7 @@ module _ (parts : Parts) (known : AreComplete parts) where
   head_read voids (head.Message []) ts well placed = absurd (well.0 refl)
   head_read voids (head.Message (s ∷ others)) ts well placed =
       rw (items_complete (selector parts.total) spell.selector s others (tok.Sign sign.OpenBrace ∷ ts)
-      (selectors_each parts.total (s ∷ others) (tok.Sign sign.OpenBrace ∷ ts) well.1 placed refl) selector_longer refl) refl
+      (selectors_each parts.total (s ∷ others) (tok.Sign sign.OpenBrace ∷ ts) well.1 placed (refl, refl)) selector_longer refl) refl
   head_read voids (head.Timer text at) ts well placed =
       let is : at ≡ parts.total - suc (suc (length ts)) = omega (arith, placed) in rw is refl
   head_read voids (head.Key None) ts well placed = refl

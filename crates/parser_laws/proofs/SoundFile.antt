@@ -22,21 +22,22 @@ use Rattle.capl_tree.specs.declared.procedure.Head.{Head}
 use Rattle.capl_tree.specs.declared.procedure.Head.TheVariants as head
 use Rattle.capl_tree.specs.declared.procedure.Param.{Param}
 use Rattle.capl_tree.specs.declared.procedure.Sel.{Sel}
-use Rattle.capl_tree.specs.declared.procedure.Sel.TheVariants as sel
+use Rattle.capl_tree.specs.declared.procedure.SelWhat.{SelWhat}
+use Rattle.capl_tree.specs.declared.procedure.SelWhat.TheVariants as selected
 use Rattle.capl_tree.specs.declared.file.TopItem.{TopItem}
 use Rattle.capl_tree.specs.declared.file.TopItem.TheVariants as top
 use Rattle.capl_tree.specs.declared.file.FileTree.{FileTree}
-use Rattle.capl_tree.specs.Grammar.{IsBodyPart, IsStatement, IsDeclaration, IsNumeral, IsSelector, IsHead, IsProcedure, IsTopItem, IsFile}
+use Rattle.capl_tree.specs.Grammar.{IsBodyPart, IsStatement, IsDeclaration, IsNumeral, IsSelection, IsSelector, IsHead, IsProcedure, IsTopItem, IsFile}
 use Rattle.capl_tree.specs.Spelling.{kind_word, expression, declaration, further, separated}
 use Rattle.capl_tree.specs.Placed.{IsAt, IsPlaced, EachBefore, IsDeclarationPlaced}
 use Rattle.capl_tree.specs.FileSpelling as spell
 use Rattle.capl_tree.specs.FileSpelling.{each, braced, Voids}
-use Rattle.capl_tree.specs.FilePlaced.{EachPlaced, IsStatementPlaced, IsSelectorPlaced, IsParameterPlaced, IsHeadPlaced, IsProcedurePlaced, IsTopItemPlaced}
+use Rattle.capl_tree.specs.FilePlaced.{EachPlaced, IsStatementPlaced, IsSelectionPlaced, IsSelectorPlaced, IsParameterPlaced, IsHeadPlaced, IsProcedurePlaced, IsTopItemPlaced}
 use Rattle.capl_tree.specs.Tree.{AreInPlace}
 use Rattle.expr_parser.specs.Operators.{kind_at, kind_of}
 use Rattle.expr_parser.specs.Reading.{Read, and_then, begins, begins_word, behind, after, next_item, items_from, items}
 use Rattle.parser_laws.specs.Statement.{Parts, until, block, statement}
-use Rattle.parser_laws.specs.File.{name, included, numeral, range, one_selector, selector, key, named_event, event, parameter_of, parameter, parameters, signature, function_of, procedure_head, procedure, includes, variables, top_item, is_end, file}
+use Rattle.parser_laws.specs.File.{name, included, numeral, range, one_selection, selection, channel_named, on_channel, named_selector, selector, key, named_event, event, parameter_of, parameter, parameters, signature, function_of, procedure_head, procedure, includes, variables, top_item, is_end, file}
 use Rattle.parser_laws.proofs.Steps.{step, by_test, moved, sign_next, word_next, after_some, IsFound, IsSound, WasRead, until_read, AreFound, all_found}
 use Rattle.parser_laws.proofs.SoundStatement.{AreSound, Sits, block_sound, statement_sound}
 
@@ -137,52 +138,133 @@ numeral_sound total (_ ∷ ts) e rest fits is = absurd cc
 some_numeral : (high : Expr) → IsNumeral high → (x : Expr) → (let y : Option Expr = Some high in y) ≡ Some x → IsNumeral x
 some_numeral high well x e = let same : high ≡ x = cc in subst IsNumeral same well
 
-abbrev sel_given : Sel → List Tok → Read Sel
-sel_given s ts = Some (s, ts)
+abbrev what_given : SelWhat → List Tok → Read SelWhat
+what_given what ts = Some (what, ts)
 
-abbrev SelFound : ℕ → List Tok → Sel → List Tok → Type 0
-SelFound total ts s rest = IsFound spell.selector IsSelector (IsSelectorPlaced total) ts s rest
+abbrev WhatFound : ℕ → List Tok → SelWhat → List Tok → Type 0
+WhatFound total ts what rest = IsFound spell.selection IsSelection (IsSelectionPlaced total) ts what rest
 
-range_sound : (total : ℕ) (ts : List Tok) (low : Expr) (mid : List Tok) (s : Sel) (rest : List Tok) → length ts ≤ total → IsFound expression IsNumeral (IsPlaced total) ts low mid
-    → range total (total - length ts) low mid ≡ Some (s, rest) → SelFound total ts s rest
+range_sound : (total : ℕ) (ts : List Tok) (low : Expr) (mid : List Tok) (s : SelWhat) (rest : List Tok) → length ts ≤ total → IsFound expression IsNumeral (IsPlaced total) ts low mid
+    → range total (total - length ts) low mid ≡ Some (s, rest) → WhatFound total ts s rest
 unfolding range
 range_sound total ts low mid s rest fits first e =
     let at = total - length ts in
-    by_test (begins sign.Minus mid) (and_then (numeral total (behind mid)) (λ high ts. sel_given (sel.Ids low (Some high) at) ts)) (sel_given (sel.Ids low None at) mid) (s, rest) (SelFound total ts s rest) e
-    (λ is e. step (numeral total (behind mid)) (λ high ts. sel_given (sel.Ids low (Some high) at) ts) s rest (SelFound total ts s rest) e
+    by_test (begins sign.Minus mid) (and_then (numeral total (behind mid)) (λ high ts. what_given (selected.Ids low (Some high) at) ts)) (what_given (selected.Ids low None at) mid) (s, rest) (WhatFound total ts s rest) e
+    (λ is e. step (numeral total (behind mid)) (λ high ts. what_given (selected.Ids low (Some high) at) ts) s rest (WhatFound total ts s rest) e
     (λ high left read e.
     let minus = sign_next sign.Minus mid is in
     let second = numeral_sound total (behind mid) high left (omega (arith, first.shorter, ap length minus)) read in
     let mid_is = minus ∙ ap (λ (x : List Tok). tok.Sign sign.Minus ∷ x) second.spelled in
     let same = first.spelled ∙ ap (λ (x : List Tok). expression low x) mid_is in
-    moved (SelFound total ts) (sel.Ids low (Some high) at) s left rest e
+    moved (WhatFound total ts) (selected.Ids low (Some high) at) s left rest e
     (record {
       spelled = same;
       well = (first.well, some_numeral high second.well);
       placed = (omega (arith, ap length same), subst (λ (x : List Tok). IsPlaced total low x) mid_is first.placed, second.placed);
       shorter = omega (arith, first.shorter, ap length minus, second.shorter);
     })))
-    (λ is e. moved (SelFound total ts) (sel.Ids low None at) s mid rest e
+    (λ is e. moved (WhatFound total ts) (selected.Ids low None at) s mid rest e
     (record { spelled = first.spelled; well = (first.well, λ x e. absurd cc); placed = (omega (arith, ap length first.spelled), first.placed, tt); shorter = first.shorter }))
 
-one_selector_sound : (total : ℕ) (ts : List Tok) (s : Sel) (rest : List Tok) → length ts ≤ total → one_selector total (total - length ts) ts ≡ Some (s, rest) → SelFound total ts s rest
-unfolding one_selector
-one_selector_sound total (tok.Name text ∷ ts) s rest fits e =
-    moved (SelFound total (tok.Name text ∷ ts)) (sel.Name text (total - suc (length ts))) s ts rest e
+one_selection_sound : (total : ℕ) (ts : List Tok) (s : SelWhat) (rest : List Tok) → length ts ≤ total → one_selection total (total - length ts) ts ≡ Some (s, rest) → WhatFound total ts s rest
+unfolding one_selection
+one_selection_sound total (tok.Name text ∷ ts) s rest fits e =
+    moved (WhatFound total (tok.Name text ∷ ts)) (selected.Name text (total - suc (length ts))) s ts rest e
     (record { spelled = refl; well = tt; placed = omega arith; shorter = omega arith })
-one_selector_sound total ts s rest fits e =
-    step (numeral total ts) (λ low mid. range total (total - length ts) low mid) s rest (SelFound total ts s rest) e
+one_selection_sound total ts s rest fits e =
+    step (numeral total ts) (λ low mid. range total (total - length ts) low mid) s rest (WhatFound total ts s rest) e
     (λ low mid read e. range_sound total ts low mid s rest fits (numeral_sound total ts low mid fits read) e)
 
-selector_sound : (total : ℕ) → IsSound total (selector total) spell.selector IsSelector (IsSelectorPlaced total)
-unfolding selector
-selector_sound total ts s rest fits e =
-    by_test (begins sign.Star ts) (sel_given (sel.Any (total - length ts)) (behind ts)) (one_selector total (total - length ts) ts) (s, rest) (SelFound total ts s rest) e
+selection_sound : (total : ℕ) → IsSound total (selection total) spell.selection IsSelection (IsSelectionPlaced total)
+unfolding selection
+selection_sound total ts s rest fits e =
+    by_test (begins sign.Star ts) (what_given (selected.Any (total - length ts)) (behind ts)) (one_selection total (total - length ts) ts) (s, rest) (WhatFound total ts s rest) e
     (λ is e.
     let star = sign_next sign.Star ts is in
-    moved (SelFound total ts) (sel.Any (total - length ts)) s (behind ts) rest e
+    moved (WhatFound total ts) (selected.Any (total - length ts)) s (behind ts) rest e
     (record { spelled = star; well = tt; placed = omega (arith, ap length star); shorter = omega (arith, ap length star) }))
-    (λ is e. one_selector_sound total ts s rest fits e)
+    (λ is e. one_selection_sound total ts s rest fits e)
+
+abbrev sel_given : Sel → List Tok → Read Sel
+sel_given s ts = Some (s, ts)
+
+abbrev SelFound : ℕ → List Tok → Sel → List Tok → Type 0
+SelFound total ts s rest = IsFound spell.selector IsSelector (IsSelectorPlaced total) ts s rest
+
+-- a selector of no channel is what is selected
+plain_found : (total : ℕ) (ts : List Tok) (what : SelWhat) (rest : List Tok) → WhatFound total ts what rest
+    → SelFound total ts (record { chan = 0; what = what }) rest
+plain_found total ts what rest found =
+    record { spelled = found.spelled; well = (omega arith, found.well); placed = found.placed; shorter = found.shorter }
+
+plain_sound : (total : ℕ) (ts : List Tok) (s : Sel) (rest : List Tok) → length ts ≤ total
+    → and_then (selection total ts) (λ what ts. sel_given (record { chan = 0; what = what }) ts) ≡ Some (s, rest) → SelFound total ts s rest
+plain_sound total ts s rest fits e =
+    step (selection total ts) (λ what ts. sel_given (record { chan = 0; what = what }) ts) s rest (SelFound total ts s rest) e
+    (λ what left read e.
+    moved (SelFound total ts) (record { chan = 0; what = what }) s left rest e
+    (plain_found total ts what left (selection_sound total ts what left fits read)))
+
+-- equal bytes are one list
+bytes_same : (xs ys : List ℕ) → bytes_eq xs ys ≡ true → xs ≡ ys
+bytes_same xs ys e = (bytes_eq-Decides xs ys).0 e
+
+-- the name of a channel is spelled as such, before a dot and the rest
+named_as : (text name : List ℕ) (n chan : ℕ) (ts : List Tok) → bytes_eq text name ≡ true → n ≤ 2 → tok.Name name ∷ tok.Sign sign.Dot ∷ ts ≡ spell.channel n ts
+    → Some n ≡ Some chan → (chan ≤ 2) × (tok.Name text ∷ tok.Sign sign.Dot ∷ ts ≡ spell.channel chan ts)
+named_as text name n chan ts same least spelled e =
+    let is : n ≡ chan = cc in
+    subst (λ (m : ℕ). (m ≤ 2) × (tok.Name text ∷ tok.Sign sign.Dot ∷ ts ≡ spell.channel m ts)) is
+    (least, ap (λ (x : List ℕ). tok.Name x ∷ tok.Sign sign.Dot ∷ ts) (bytes_same text name same) ∙ spelled)
+
+channel_spelled : (text : List ℕ) (chan : ℕ) (ts : List Tok) → channel_named text ≡ Some chan
+    → (chan ≤ 2) × (tok.Name text ∷ tok.Sign sign.Dot ∷ ts ≡ spell.channel chan ts)
+channel_spelled text chan ts e = by_name (bytes_eq text (codes "CAN1")) (bytes_eq text (codes "CAN2")) refl refl e
+  where
+    by_name : (one two : Bool) → bytes_eq text (codes "CAN1") ≡ one → bytes_eq text (codes "CAN2") ≡ two
+        → (if one then Some 1 else (if two then Some 2 else None)) ≡ Some chan
+        → (chan ≤ 2) × (tok.Name text ∷ tok.Sign sign.Dot ∷ ts ≡ spell.channel chan ts)
+    by_name true two is other e = named_as text (codes "CAN1") 1 chan ts is (omega arith) refl e
+    by_name false true is other e = named_as text (codes "CAN2") 2 chan ts other (omega arith) refl e
+    by_name false false is other e = absurd cc
+
+-- a channel comes by its name and a dot
+channel_comes : (text : List ℕ) (ts : List Tok) (chan : ℕ) → (if begins sign.Dot ts then channel_named text else None) ≡ Some chan
+    → (begins sign.Dot ts ≡ true) × (channel_named text ≡ Some chan)
+channel_comes text ts chan e = by_dot (begins sign.Dot ts) refl e
+  where
+    by_dot : (dot : Bool) → begins sign.Dot ts ≡ dot → (if dot then channel_named text else None) ≡ Some chan
+        → (begins sign.Dot ts ≡ true) × (channel_named text ≡ Some chan)
+    by_dot true is e = (is, e)
+    by_dot false is e = absurd cc
+
+on_channel_sound : (total : ℕ) (text : List ℕ) (of : Option ℕ) (ts : List Tok) (s : Sel) (rest : List Tok) → suc (length ts) ≤ total
+    → (if begins sign.Dot ts then channel_named text else None) ≡ of → on_channel total (total - suc (length ts)) text of ts ≡ Some (s, rest)
+    → SelFound total (tok.Name text ∷ ts) s rest
+unfolding on_channel
+on_channel_sound total text None ts s rest fits is e =
+    moved (SelFound total (tok.Name text ∷ ts)) (record { chan = 0; what = selected.Name text (total - suc (length ts)) }) s ts rest e
+    (record { spelled = refl; well = (omega arith, tt); placed = omega arith; shorter = omega arith })
+on_channel_sound total text (Some chan) ts s rest fits is e =
+    let comes = channel_comes text ts chan is in
+    let next = sign_next sign.Dot ts comes.0 in
+    let spelled = channel_spelled text chan (behind ts) comes.1 in
+    step (selection total (behind ts)) (λ what ts. sel_given (record { chan = chan; what = what }) ts) s rest (SelFound total (tok.Name text ∷ ts) s rest) e
+    (λ what left read e.
+    let found = selection_sound total (behind ts) what left (omega (arith, ap length next)) read in
+    moved (SelFound total (tok.Name text ∷ ts)) (record { chan = chan; what = what }) s left rest e
+    (record {
+      spelled = ap (λ (x : List Tok). tok.Name text ∷ x) next ∙ spelled.1 ∙ ap (λ (x : List Tok). spell.channel chan x) found.spelled;
+      well = (spelled.0, found.well);
+      placed = found.placed;
+      shorter = omega (arith, ap length next, found.shorter);
+    }))
+
+selector_sound : (total : ℕ) → IsSound total (selector total) spell.selector IsSelector (IsSelectorPlaced total)
+unfolding selector named_selector
+selector_sound total (tok.Name text ∷ ts) s rest fits e =
+    on_channel_sound total text (if begins sign.Dot ts then channel_named text else None) ts s rest fits refl e
+selector_sound total ts s rest fits e = plain_sound total ts s rest fits e
 
 -- Heads.
 
@@ -213,10 +295,6 @@ key_found total ts of rest e =
     let star = after_some sign.Star ts u left read in
     moved (HeadFound total (tok.Word word.On ∷ tok.Name (codes "key") ∷ ts)) (head.Key None) of left rest e
     (record { voids = no_voids; spelled = ap (λ (x : List Tok). tok.Word word.On ∷ tok.Name (codes "key") ∷ x) star; well = tt; placed = tt; shorter = omega (arith, ap length star) }))
-
--- equal bytes are one list
-bytes_same : (xs ys : List ℕ) → bytes_eq xs ys ≡ true → xs ≡ ys
-bytes_same xs ys e = (bytes_eq-Decides xs ys).0 e
 
 -- behind `on` and a name
 named_found : (total : ℕ) (text : List ℕ) (ts : List Tok) (of : Head) (rest : List Tok) → named_event text ts ≡ Some (of, rest)

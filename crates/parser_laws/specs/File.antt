@@ -16,7 +16,8 @@ use Rattle.capl_tree.specs.declared.procedure.Head.{Head}
 use Rattle.capl_tree.specs.declared.procedure.Head.TheVariants as head
 use Rattle.capl_tree.specs.declared.procedure.Param.{Param}
 use Rattle.capl_tree.specs.declared.procedure.Sel.{Sel}
-use Rattle.capl_tree.specs.declared.procedure.Sel.TheVariants as sel
+use Rattle.capl_tree.specs.declared.procedure.SelWhat.{SelWhat}
+use Rattle.capl_tree.specs.declared.procedure.SelWhat.TheVariants as selected
 use Rattle.capl_tree.specs.declared.file.TopItem.{TopItem}
 use Rattle.capl_tree.specs.declared.file.TopItem.TheVariants as top
 use Rattle.expr_parser.specs.Operators.{kind_at}
@@ -39,22 +40,44 @@ numeral total (tok.Num value ext ∷ ts) = Some (expr.Num value ext (total - suc
 numeral total _ = None
 
 -- behind the first number of a selector at this place
-unfoldable pub range : ℕ → ℕ → Expr → List Tok → Read Sel
+unfoldable pub range : ℕ → ℕ → Expr → List Tok → Read SelWhat
 range total at low ts =
     if begins sign.Minus ts
-    then and_then (numeral total (behind ts)) (λ high ts. Some (sel.Ids low (Some high) at, ts))
-    else Some (sel.Ids low None at, ts)
+    then and_then (numeral total (behind ts)) (λ high ts. Some (selected.Ids low (Some high) at, ts))
+    else Some (selected.Ids low None at, ts)
 
--- a selector that is no `*`, at this place
-unfoldable pub one_selector : ℕ → ℕ → List Tok → Read Sel
-one_selector total at (tok.Name text ∷ ts) = Some (sel.Name text at, ts)
-one_selector total at ts = and_then (numeral total ts) (λ low ts. range total at low ts)
+-- which frames of a channel, where it is no `*`, at this place
+unfoldable pub one_selection : ℕ → ℕ → List Tok → Read SelWhat
+one_selection total at (tok.Name text ∷ ts) = Some (selected.Name text at, ts)
+one_selection total at ts = and_then (numeral total ts) (λ low ts. range total at low ts)
+
+-- which frames of a channel
+unfoldable pub selection : ℕ → List Tok → Read SelWhat
+selection total ts =
+    if begins sign.Star ts then Some (selected.Any (total - length ts), behind ts)
+    else one_selection total (total - length ts) ts
+
+-- the channel of this name
+abbrev pub channel_named : List ℕ → Option ℕ
+channel_named text =
+    if bytes_eq text (codes "CAN1") then Some 1 else (if bytes_eq text (codes "CAN2") then Some 2 else None)
+
+-- behind a name at this place, which is that of this channel and has a dot behind it, or that of a message
+unfoldable pub on_channel : ℕ → ℕ → List ℕ → Option ℕ → List Tok → Read Sel
+on_channel total at text None ts = Some (record { chan = 0; what = selected.Name text at }, ts)
+on_channel total at text (Some chan) ts =
+    and_then (selection total (behind ts)) (λ what ts. Some (record { chan = chan; what = what }, ts))
+
+-- behind a name at this place: a dot makes one of a channel the channel
+unfoldable pub named_selector : ℕ → ℕ → List ℕ → List Tok → Read Sel
+named_selector total at text ts =
+    on_channel total at text (if begins sign.Dot ts then channel_named text else None) ts
 
 -- a selector
 unfoldable pub selector : ℕ → List Tok → Read Sel
+selector total (tok.Name text ∷ ts) = named_selector total (total - suc (length ts)) text ts
 selector total ts =
-    if begins sign.Star ts then Some (sel.Any (total - length ts), behind ts)
-    else one_selector total (total - length ts) ts
+    and_then (selection total ts) (λ what ts. Some (record { chan = 0; what = what }, ts))
 
 -- behind `on key`
 unfoldable pub key : List Tok → Read Head
