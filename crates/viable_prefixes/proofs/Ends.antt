@@ -46,6 +46,7 @@ shortest goal.Includes rest = tok.Sign sign.CloseBrace ∷ rest
 shortest goal.Variables rest = tok.Sign sign.CloseBrace ∷ rest
 shortest goal.Event rest = tok.Name (codes "start") ∷ rest
 shortest goal.Selector rest = tok.Sign sign.Star ∷ rest
+shortest goal.Selection rest = tok.Sign sign.Star ∷ rest
 shortest goal.Number rest = tok.Num (Some 0) false ∷ rest
 shortest goal.Key rest = tok.Sign sign.Star ∷ rest
 shortest goal.Name rest = tok.Name (codes "x") ∷ rest
@@ -84,6 +85,8 @@ abbrev pub fits : Goal → List Tok → Bool
 fits goal.File rest = are_none rest
 fits goal.Event rest = begin_quietly rest
 fits goal.Selector rest = begin_quietly rest
+fits goal.Channel rest = begin_quietly rest
+fits goal.Selection rest = begin_quietly rest
 fits goal.FurtherSelectors rest = begin_quietly rest
 fits goal.Range rest = begin_quietly rest
 fits goal.Declarator rest = begin_quietly rest
@@ -174,6 +177,7 @@ goal_ends : (g : Goal) (stack : Stack) (rest : List Tok) → fits g rest ≡ tru
 goal_ends goal.File stack rest fit = file_ends stack rest fit
 goal_ends goal.FurtherSelectors stack rest fit =
     adds_nothing goal.FurtherSelectors stack rest (refl, refl, refl, refl, refl, refl, refl) fit
+goal_ends goal.Channel stack rest fit = adds_nothing goal.Channel stack rest (refl, refl, refl, refl, refl, refl, refl) fit
 goal_ends goal.Range stack rest fit = adds_nothing goal.Range stack rest (refl, refl, refl, refl, refl, refl, refl) fit
 goal_ends goal.Declarator stack rest fit = declarator_ends stack rest fit
 goal_ends goal.Size stack rest fit = adds_nothing goal.Size stack rest (refl, refl, refl, refl, refl, refl, refl) fit

@@ -1,5 +1,5 @@
 -- The goals of a procedure's head go the way of its readers.
-use Rattle.std.proofs.Common.{◌≡◌, ℕ, ◌+◌, ◌≤◌, ◌<◌, Bool, true, false, if◌then◌else◌, List, [], ◌∷◌, length, Option, Some, None, refl, sym, ◌∙◌, arith}
+use Rattle.std.proofs.Common.{◌≡◌, ℕ, suc, ◌+◌, ◌-◌, ◌≤◌, ◌<◌, Bool, true, false, if◌then◌else◌, List, [], ◌∷◌, ◌++◌, length, Option, Some, None, refl, sym, ◌∙◌, arith}
 use Rattle.std.specs.Prelude.{◌||◌, is_some, codes}
 use Rattle.std.specs.Str.{bytes_eq}
 use Rattle.int_kinds.specs.declared.kinds.Kind.{Kind}
@@ -11,10 +11,12 @@ use Rattle.capl_tree.specs.declared.expr.Expr.{Expr}
 use Rattle.capl_tree.specs.declared.procedure.Head.{Head}
 use Rattle.capl_tree.specs.declared.procedure.Head.TheVariants as head
 use Rattle.capl_tree.specs.declared.procedure.Param.{Param}
-use Rattle.capl_tree.specs.declared.procedure.Sel.TheVariants as sel
+use Rattle.capl_tree.specs.declared.procedure.Sel.{Sel}
+use Rattle.capl_tree.specs.declared.procedure.SelWhat.{SelWhat}
+use Rattle.capl_tree.specs.declared.procedure.SelWhat.TheVariants as selected
 use Rattle.expr_parser.specs.Reading.{Read, and_then, begins, behind, after, items}
 use Rattle.expr_parser.specs.Operators.{kind_of}
-use Rattle.parser_laws.specs.File.{name, numeral, range, one_selector, selector, key, named_event, event, parameter_of, parameter, parameters, signature}
+use Rattle.parser_laws.specs.File.{name, numeral, range, one_selection, selection, channel_named, on_channel, named_selector, selector, key, named_event, event, parameter_of, parameter, parameters, signature}
 use Rattle.parser_laws.proofs.Steps.{step}
 use Rattle.viable_prefixes.specs.declared.goal.Goal.{Goal}
 use Rattle.viable_prefixes.specs.declared.goal.Goal.TheVariants as goal
@@ -40,18 +42,73 @@ numeral_goes total (_ ∷ ts) = reads_none (λ stack. refl)
 -- behind the first number of a selector
 range_goes : (total at : ℕ) (low : Expr) (ts : List Tok) → Goes (goal.Range ∷ []) (range total at low ts) ts 0
 unfolding range
-range_goes total at low [] = record { same = λ stack. refl; less = (gives (sel.Ids low None at) []).less }
+range_goes total at low [] = record { same = λ stack. refl; less = (gives (selected.Ids low None at) []).less }
 range_goes total at low (tok.Sign sign.Minus ∷ ts) =
-    goes_least 0 (omega arith) (goes_behind (λ stack. refl) (goes_then (numeral_goes total ts) (λ high ts less. gives (sel.Ids low (Some high) at) ts)))
-range_goes total at low (t ∷ ts) = record { same = λ stack. refl; less = (gives (sel.Ids low None at) (t ∷ ts)).less }
+    goes_least 0 (omega arith) (goes_behind (λ stack. refl) (goes_then (numeral_goes total ts) (λ high ts less. gives (selected.Ids low (Some high) at) ts)))
+range_goes total at low (t ∷ ts) = record { same = λ stack. refl; less = (gives (selected.Ids low None at) (t ∷ ts)).less }
+
+-- which frames of a channel
+selection_goes : (total : ℕ) (ts : List Tok) → Goes (goal.Selection ∷ []) (selection total ts) ts 1
+unfolding selection one_selection
+selection_goes total [] = reads_none (λ stack. refl)
+selection_goes total (tok.Sign sign.Star ∷ ts) = goes_behind (λ stack. refl) (gives _ ts)
+selection_goes total (tok.Name text ∷ ts) = goes_behind (λ stack. refl) (gives _ ts)
+selection_goes total (tok.Num value ext ∷ ts) = goes_behind (λ stack. refl) (range_goes total _ _ ts)
+selection_goes total (_ ∷ ts) = reads_none (λ stack. refl)
+
+-- a selector of a channel
+abbrev on : ℕ → SelWhat → Sel
+on chan what = record { chan = chan; what = what }
+
+-- which frames of this channel, as a selector
+channel_goes : (total chan : ℕ) (ts : List Tok)
+    → Goes (goal.Selection ∷ []) (and_then (selection total ts) (λ what ts. read_here (on chan what) ts)) ts 1
+channel_goes total chan ts = goes_then (selection_goes total ts) (λ what ts less. gives (on chan what) ts)
+
+-- behind the name of this channel, which may be a message's
+behind_channel : (total at chan : ℕ) (text : List ℕ) (ts : List Tok)
+    → Goes (goal.Channel ∷ []) (on_channel total at text (if begins sign.Dot ts then Some chan else None) ts) ts 0
+unfolding on_channel
+behind_channel total at chan text [] = record { same = λ stack. refl; less = (gives (on 0 (selected.Name text at)) []).less }
+behind_channel total at chan text (tok.Sign sign.Dot ∷ ts) = goes_least 0 (omega arith) (goes_behind (λ stack. refl) (channel_goes total chan ts))
+behind_channel total at chan text (t ∷ ts) =
+    record { same = λ stack. refl; less = (gives (on 0 (selected.Name text at)) (t ∷ ts)).less }
+
+-- behind any other name
+behind_message : (total at : ℕ) (text : List ℕ) (dot : Bool) (ts : List Tok)
+    → Goes [] (on_channel total at text (if dot then None else None) ts) ts 0
+unfolding on_channel
+behind_message total at text true ts = gives _ ts
+behind_message total at text false ts = gives _ ts
+
+-- behind a name, by which of the channels' names it is
+behind_name : (total at : ℕ) (text : List ℕ) (one two : Bool) (ts : List Tok)
+    → Goes (if one || two then goal.Channel ∷ [] else [])
+    (on_channel total at text (if begins sign.Dot ts then (if one then Some 1 else (if two then Some 2 else None)) else None) ts) ts 0
+behind_name total at text true two ts = behind_channel total at 1 text ts
+behind_name total at text false true ts = behind_channel total at 2 text ts
+behind_name total at text false false ts = behind_message total at text (begins sign.Dot ts) ts
+
+-- a selector that begins with a name
+named_goes : (total at : ℕ) (text : List ℕ) (ts : List Tok)
+    → Goes (if from.names_channel text then goal.Channel ∷ [] else []) (named_selector total at text ts) ts 0
+unfolding named_selector
+named_goes total at text ts = behind_name total at text (bytes_eq text (codes "CAN1")) (bytes_eq text (codes "CAN2")) ts
+
+-- the goals behind a name, before those of a stack
+goals_behind : (named : Bool) (stack : Stack) (ts : List Tok)
+    → accepts (if named then goal.Channel ∷ stack else stack) ts ≡ accepts ((if named then goal.Channel ∷ [] else []) ++ stack) ts
+goals_behind true stack ts = refl
+goals_behind false stack ts = refl
 
 -- a selector
 selector_goes : (total : ℕ) (ts : List Tok) → Goes (goal.Selector ∷ []) (selector total ts) ts 1
-unfolding selector one_selector
+unfolding selector selection one_selection
 selector_goes total [] = reads_none (λ stack. refl)
+selector_goes total (tok.Name text ∷ ts) =
+    goes_behind (λ stack. goals_behind (from.names_channel text) stack ts) (named_goes total (total - suc (length ts)) text ts)
 selector_goes total (tok.Sign sign.Star ∷ ts) = goes_behind (λ stack. refl) (gives _ ts)
-selector_goes total (tok.Name text ∷ ts) = goes_behind (λ stack. refl) (gives _ ts)
-selector_goes total (tok.Num value ext ∷ ts) = goes_behind (λ stack. refl) (range_goes total _ _ ts)
+selector_goes total (tok.Num value ext ∷ ts) = goes_behind (λ stack. refl) (goes_then (range_goes total _ _ ts) (λ what ts less. gives _ ts))
 selector_goes total (_ ∷ ts) = reads_none (λ stack. refl)
 
 -- a reader whose goal takes at least a token of any tokens

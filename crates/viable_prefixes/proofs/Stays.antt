@@ -250,10 +250,22 @@ event_stays (tok.Name name) stack sound =
     event_named_stays name stack (sound_behind stack sound)
 event_stays _ stack sound = refl
 
+selection_stays : (t : Tok) (stack : Stack) → is_sound (goal.Selection ∷ stack) ≡ true
+    → stay (file.selection_from t stack) ≡ true
+selection_stays (tok.Sign sign.Star) stack sound = sound_behind stack sound
+selection_stays (tok.Name name) stack sound = sound_behind stack sound
+selection_stays (tok.Num value ext) stack sound = sound
+selection_stays _ stack sound = refl
+
+channel_stays : (named : Bool) (stack : Stack) → is_sound (goal.Selector ∷ stack) ≡ true
+    → is_sound (if named then goal.Channel ∷ stack else stack) ≡ true
+channel_stays true stack sound = sound
+channel_stays false stack sound = sound_behind stack sound
+
 selector_stays : (t : Tok) (stack : Stack) → is_sound (goal.Selector ∷ stack) ≡ true
     → stay (file.selector_from t stack) ≡ true
+selector_stays (tok.Name name) stack sound = channel_stays (file.names_channel name) stack sound
 selector_stays (tok.Sign sign.Star) stack sound = sound_behind stack sound
-selector_stays (tok.Name name) stack sound = sound_behind stack sound
 selector_stays (tok.Num value ext) stack sound = sound
 selector_stays _ stack sound = refl
 
@@ -277,6 +289,9 @@ taken_stays goal.Includes t stack sound = includes_stay t stack sound
 taken_stays goal.Variables t stack sound = variables_stay t stack sound
 taken_stays goal.Event t stack sound = event_stays t stack sound
 taken_stays goal.Selector t stack sound = selector_stays t stack sound
+taken_stays goal.Channel t stack sound =
+    when_stays (is_sign sign.Dot t) (goal.Selection ∷ stack) sound
+taken_stays goal.Selection t stack sound = selection_stays t stack sound
 taken_stays goal.FurtherSelectors t stack sound =
     when_stays (is_sign sign.Comma t) (goal.Selector ∷ goal.FurtherSelectors ∷ stack)
     (twice (begin_quietly (ended stack)) (is_sound stack) sound)

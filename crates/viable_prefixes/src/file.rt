@@ -117,9 +117,26 @@ fn event_named(name: &[u8], stack: &mut Vec<Goal>) -> Result<bool, NoMemory>
     Ok(false)
 }
 
+/// Whether the name is that of a channel.
+fn names_channel(name: &[u8]) -> bool
+    ensures { result ≡ spec.names_channel name.now }
+{
+    name == b"CAN1".as_slice() || name == b"CAN2".as_slice()
+}
+
 /// The first token of a selector.
 pub(crate) fn selector(token: &Tok, stack: &mut Vec<Goal>) -> Result<bool, NoMemory>
     ensures { Takes (spec.selector_from token.now (reverse stack.old.items)) result stack.new.items }
+{
+    match token {
+        Tok::Name(name) if names_channel(name.bytes()) => come(stack, &[Goal::Channel]),
+        _ => selection(token, stack),
+    }
+}
+
+/// The first token of which frames of a channel.
+pub(crate) fn selection(token: &Tok, stack: &mut Vec<Goal>) -> Result<bool, NoMemory>
+    ensures { Takes (spec.selection_from token.now (reverse stack.old.items)) result stack.new.items }
 {
     match token {
         Tok::Sign(Sign::Star) | Tok::Name(_) => Ok(true),

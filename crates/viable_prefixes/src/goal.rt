@@ -22,6 +22,10 @@ pub(crate) enum Goal {
     Event,
     /// A selector.
     Selector,
+    /// Behind `CAN1` or `CAN2`: `.` and which frames of that channel, or nothing.
+    Channel,
+    /// Which frames of a channel.
+    Selection,
     /// Selectors, each behind a comma, or nothing.
     FurtherSelectors,
     /// `-` and a number, or nothing.

@@ -60,6 +60,7 @@ fn ends_before(goal: Goal, token: &Tok) -> bool
         Goal::First => !is_sign(Sign::Assign, token),
         Goal::Else => !is_word(Word::Else, token),
         Goal::Range => !is_sign(Sign::Minus, token),
+        Goal::Channel => !is_sign(Sign::Dot, token),
         Goal::FurtherSelectors => !is_sign(Sign::Comma, token),
         _ => false,
     }
@@ -151,6 +152,8 @@ fn take_in_file(goal: Goal, token: &Tok, stack: &mut Vec<Goal>) -> Result<bool, 
         Goal::Variables => file::variables(token, stack),
         Goal::Event => file::event(token, stack),
         Goal::Selector => file::selector(token, stack),
+        Goal::Channel => come_where(is_sign(Sign::Dot, token), &[Goal::Selection], stack),
+        Goal::Selection => file::selection(token, stack),
         Goal::FurtherSelectors => {
             come_where(is_sign(Sign::Comma, token), &[Goal::Selector, goal], stack)
         }

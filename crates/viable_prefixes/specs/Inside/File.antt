@@ -61,12 +61,21 @@ event_from (tok.Word word.Timer) stack = Some (goal.Name ∷ stack)
 event_from (tok.Name name) stack = event_named name stack
 event_from _ stack = None
 
--- behind the first token of a selector
+-- behind the first token of which frames of a channel
+abbrev pub selection_from : Tok → Stack → Option Stack
+selection_from (tok.Sign sign.Star) stack = Some stack
+selection_from (tok.Name name) stack = Some stack
+selection_from (tok.Num value ext) stack = Some (goal.Range ∷ stack)
+selection_from _ stack = None
+
+-- whether the name is that of a channel
+abbrev pub names_channel : List ℕ → Bool
+names_channel name = bytes_eq name (codes "CAN1") || bytes_eq name (codes "CAN2")
+
+-- behind the first token of a selector; a dot may come behind the name of a channel
 abbrev pub selector_from : Tok → Stack → Option Stack
-selector_from (tok.Sign sign.Star) stack = Some stack
-selector_from (tok.Name name) stack = Some stack
-selector_from (tok.Num value ext) stack = Some (goal.Range ∷ stack)
-selector_from _ stack = None
+selector_from (tok.Name name) stack = Some (if names_channel name then goal.Channel ∷ stack else stack)
+selector_from t stack = selection_from t stack
 
 -- whether it is a number
 abbrev pub is_number : Tok → Bool

@@ -26,6 +26,7 @@ ends_before goal.Size t = not (is_sign sign.OpenBracket t)
 ends_before goal.First t = not (is_sign sign.Assign t)
 ends_before goal.Else t = not (is_word word.Else t)
 ends_before goal.Range t = not (is_sign sign.Minus t)
+ends_before goal.Channel t = not (is_sign sign.Dot t)
 ends_before goal.FurtherSelectors t = not (is_sign sign.Comma t)
 ends_before _ t = false
 
@@ -38,6 +39,7 @@ may_end goal.Size = true
 may_end goal.First = true
 may_end goal.Else = true
 may_end goal.Range = true
+may_end goal.Channel = true
 may_end goal.FurtherSelectors = true
 may_end goal.File = true
 may_end _ = false
@@ -49,6 +51,8 @@ taken_in_file goal.Includes t stack = file.includes_from t stack
 taken_in_file goal.Variables t stack = file.variables_from t stack
 taken_in_file goal.Event t stack = file.event_from t stack
 taken_in_file goal.Selector t stack = file.selector_from t stack
+taken_in_file goal.Channel t stack = when (is_sign sign.Dot t) (goal.Selection ∷ stack)
+taken_in_file goal.Selection t stack = file.selection_from t stack
 taken_in_file goal.FurtherSelectors t stack =
     when (is_sign sign.Comma t) (goal.Selector ∷ goal.FurtherSelectors ∷ stack)
 taken_in_file goal.Range t stack = when (is_sign sign.Minus t) (goal.Number ∷ stack)
