@@ -5,9 +5,10 @@
 ghost use Rattle.std.specs.Prelude.{◌≡◌};
 ghost use Rattle.expr_parser.specs.Reading.{Gives, items};
 ghost use Rattle.parser_laws.specs.File as read;
+ghost use Rattle.parser_laws.specs.File.{channel_named};
 
 use capl_lexer::{Sign, Tok, Word};
-use capl_tree::{Expr, Head, Param, Sel};
+use capl_tree::{Expr, Head, Param, Sel, SelWhat};
 use expr_parser::{Cursor, Refusal};
 use int_kinds::Kind;
 use items::Items;
@@ -186,20 +187,84 @@ fn selector(cursor: &mut Cursor<'_>, total: u32) -> Result<Sel, Refusal>
     ensures { Gives (read.selector total cursor.old) result cursor.new }
 {
     let at = cursor.place(total);
-    if cursor.eat(Sign::Star) {
-        return Ok(Sel::Any { at });
+    if let Some(Tok::Name(name)) = cursor.peek() {
+        cursor.skip();
+        return named_selector(cursor, total, at, name);
     }
-    one_selector(cursor, total, at)
+    let what = selection(cursor, total)?;
+    Ok(Sel { chan: 0, what })
 }
 
-/// A selector that is no `*`, at this place.
-#[tactic(auto, unfolding(parser_laws::specs::File::one_selector))]
-fn one_selector(cursor: &mut Cursor<'_>, total: u32, at: u32) -> Result<Sel, Refusal>
-    ensures { Gives (read.one_selector total at cursor.old) result cursor.new }
+/// Behind a name at this place: a selector on its channel where a dot follows, or the message of the name.
+#[tactic(auto, unfolding(parser_laws::specs::File::named_selector))]
+fn named_selector(cursor: &mut Cursor<'_>, total: u32, at: u32, name: &Text) -> Result<Sel, Refusal>
+    ensures { Gives (read.named_selector total at name.now cursor.old) result cursor.new }
+{
+    let chan = if cursor.is_at(Sign::Dot) {
+        channel_named(name.bytes())
+    } else {
+        None
+    };
+    on_channel(cursor, total, at, name, chan)
+}
+
+/// The channel of this name.
+fn channel_named(name: &[u8]) -> Option<u8>
+    ensures { result ≡ channel_named name.now }
+{
+    if name == b"CAN1".as_slice() {
+        return Some(1);
+    }
+    if name == b"CAN2".as_slice() {
+        return Some(2);
+    }
+    None
+}
+
+/// Behind a name at this place, which is that of this channel and has a dot behind it, or that of a
+/// message: the selector.
+#[tactic(auto, unfolding(parser_laws::specs::File::on_channel))]
+fn on_channel(
+    cursor: &mut Cursor<'_>,
+    total: u32,
+    at: u32,
+    name: &Text,
+    chan: Option<u8>,
+) -> Result<Sel, Refusal>
+    ensures { Gives (read.on_channel total at name.now chan cursor.old) result cursor.new }
+{
+    let Some(chan) = chan else {
+        let name = Text::make(cursor.alloc(), name.bytes())?;
+        return Ok(Sel {
+            chan: 0,
+            what: SelWhat::Name { name, at },
+        });
+    };
+    cursor.skip();
+    let what = selection(cursor, total)?;
+    Ok(Sel { chan, what })
+}
+
+/// Which frames of a channel.
+#[tactic(auto, unfolding(parser_laws::specs::File::selection))]
+fn selection(cursor: &mut Cursor<'_>, total: u32) -> Result<SelWhat, Refusal>
+    ensures { Gives (read.selection total cursor.old) result cursor.new }
+{
+    let at = cursor.place(total);
+    if cursor.eat(Sign::Star) {
+        return Ok(SelWhat::Any { at });
+    }
+    one_selection(cursor, total, at)
+}
+
+/// Which frames of a channel, where it is no `*`, at this place.
+#[tactic(auto, unfolding(parser_laws::specs::File::one_selection))]
+fn one_selection(cursor: &mut Cursor<'_>, total: u32, at: u32) -> Result<SelWhat, Refusal>
+    ensures { Gives (read.one_selection total at cursor.old) result cursor.new }
 {
     if let Some(Tok::Name(name)) = cursor.peek() {
         cursor.skip();
-        return Ok(Sel::Name {
+        return Ok(SelWhat::Name {
             name: Text::make(cursor.alloc(), name.bytes())?,
             at,
         });
@@ -210,18 +275,18 @@ fn one_selector(cursor: &mut Cursor<'_>, total: u32, at: u32) -> Result<Sel, Ref
 
 /// Behind the first number of a selector at this place: the last, where there is one.
 #[tactic(auto, unfolding(parser_laws::specs::File::range))]
-fn range(cursor: &mut Cursor<'_>, total: u32, at: u32, low: Expr) -> Result<Sel, Refusal>
+fn range(cursor: &mut Cursor<'_>, total: u32, at: u32, low: Expr) -> Result<SelWhat, Refusal>
     ensures { Gives (read.range total at low cursor.old) result cursor.new }
 {
     if !cursor.eat(Sign::Minus) {
-        return Ok(Sel::Ids {
+        return Ok(SelWhat::Ids {
             low,
             high: None,
             at,
         });
     }
     let high = numeral(cursor, total)?;
-    Ok(Sel::Ids {
+    Ok(SelWhat::Ids {
         low,
         high: Some(high),
         at,
