@@ -9,7 +9,7 @@ use std::test::Fail;
 mod text_form;
 
 /// Sources with their trees.
-static TREES: [(&str, &str); 19] = [
+static TREES: [(&str, &str); 20] = [
     ("", ""),
     (
         "includes { #include \"a.cin\" #include \"b/c.cin\" } includes {}",
@@ -36,6 +36,11 @@ static TREES: [(&str, &str); 19] = [
     (
         "on message *, Lamp, 1, 2 - 0x7ffx {}",
         "(Proc@0 (Message Any@2 Lamp@4 (Ids@6 1@6 -) (Ids@8 2@8 2047x@10)))",
+    ),
+    (
+        "on message CAN1.0x100, CAN2.*, CAN1.Lamp, CAN1, CAN1.CAN2, CAN2.1 - 2x {}",
+        "(Proc@0 (Message (Channel1 (Ids@4 256@4 -)) (Channel2 Any@8) (Channel1 Lamp@12) \
+         CAN1@14 (Channel1 CAN2@18) (Channel2 (Ids@22 1@22 2x@24))))",
     ),
     (
         "f() {} void g(void) {} int64 h(char a, qword b) {} void i() {}",
@@ -115,7 +120,7 @@ static TREES: [(&str, &str); 19] = [
 ];
 
 /// Sources that spell no tree, with the number of their first wrong token.
-static UNSPELLED: [(&str, u32); 60] = [
+static UNSPELLED: [(&str, u32); 68] = [
     ("a", 1),
     ("{}", 0),
     (";", 0),
@@ -141,6 +146,14 @@ static UNSPELLED: [(&str, u32); 60] = [
     ("on message 1 - {}", 4),
     ("on message Lamp - 1 {}", 3),
     ("on message *, {}", 4),
+    ("on message CAN1. {}", 4),
+    ("on message CAN1.CAN2.1 {}", 5),
+    ("on message CAN1 - 1 {}", 3),
+    ("on message CAN2.1 - {}", 6),
+    ("on message CAN3.1 {}", 3),
+    ("on message can1.1 {}", 3),
+    ("on message Lamp.1 {}", 3),
+    ("variables { message CAN1.1 m; }", 4),
     ("f {}", 1),
     ("f(a) {}", 2),
     ("f(byte) {}", 3),

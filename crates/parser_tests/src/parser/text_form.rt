@@ -2,7 +2,7 @@
 
 use capl_tree::{
     Arm, Decl, DeclType, Declr, Expr, Field, FileTree, Group, Head, Init, Item, Label, Param, Proc,
-    Sel, Stmt, TopItem,
+    Sel, SelWhat, Stmt, TopItem,
 };
 use int_kinds::BinOp;
 use items::Boxed;
@@ -381,22 +381,33 @@ fn show_group(out: &mut String, group: &Group) -> Result<(), Fail> {
     show_body(out, group.body.as_slice())
 }
 
-/// Which frames a procedure is for.
-fn show_selector(out: &mut String, selector: &Sel) -> Result<(), Fail> {
-    match selector {
-        Sel::Any { at } => write!(out, " Any@{at}")?,
-        Sel::Name { name, at } => {
+/// Which frames of a channel.
+fn show_selection(out: &mut String, what: &SelWhat) -> Result<(), Fail> {
+    match what {
+        SelWhat::Any { at } => write!(out, " Any@{at}")?,
+        SelWhat::Name { name, at } => {
             out.push_str(" ")?;
             show_text(out, name)?;
             write!(out, "@{at}")?;
         }
-        Sel::Ids { low, high, at } => {
+        SelWhat::Ids { low, high, at } => {
             write!(out, " (Ids@{at}")?;
             show_part(out, low)?;
             show_maybe(out, high)?;
             out.push_str(")")?;
         }
     }
+    Ok(())
+}
+
+/// Which frames a procedure is for.
+fn show_selector(out: &mut String, selector: &Sel) -> Result<(), Fail> {
+    if selector.chan == 0 {
+        return show_selection(out, &selector.what);
+    }
+    write!(out, " (Channel{}", selector.chan)?;
+    show_selection(out, &selector.what)?;
+    out.push_str(")")?;
     Ok(())
 }
 
