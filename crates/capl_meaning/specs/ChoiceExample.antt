@@ -14,13 +14,13 @@ use Rattle.capl_tree.specs.declared.expr.Field.TheVariants.{Named}
 use Rattle.capl_tree.specs.declared.file.TopItem.TheVariants as top
 use Rattle.capl_tree.specs.declared.file.Program.{Program}
 use Rattle.capl_tree.specs.declared.procedure.Head.TheVariants as head
-use Rattle.capl_tree.specs.declared.procedure.Sel.TheVariants as sel
+use Rattle.capl_tree.specs.declared.procedure.SelWhat.TheVariants as selected
 use Rattle.capl_tree.specs.declared.statement.Stmt.{Stmt, end_of-Stmt, more_of-Stmt}
 use Rattle.capl_tree.specs.declared.statement.Stmt.TheBlock.{end_of-Group, more_of-Group}
 use Rattle.capl_tree.specs.declared.statement.Stmt.TheVariants as stmt
 use Rattle.capl_tree.specs.Forms as tree
 use Rattle.capl_meaning.specs.Offences.{offences_of}
-use Rattle.capl_meaning.specs.Example.{declares, file_of, number, on_start, plain, procedure}
+use Rattle.capl_meaning.specs.Example.{declares, file_of, number, on_any_channel, on_start, plain, procedure}
 
 -- the tokens and the rules of what a program with a database breaks
 abbrev pub broken_with : List DbcMessage → Program → List (ℕ × ℕ)
@@ -79,7 +79,7 @@ direction_assigned = with_message (stmt.Expr (tree.Assign None
 -- `variables { message * m; } on message * { m = this; this.dlc = 1; }`
 abbrev pub this_copied : Program
 this_copied = file_of (top.Variables (declares 2 decl_type.Any (codes "m") 4 None None ∷ [])
-    ∷ procedure 7 (head.Message (sel.Any 9 ∷ []))
+    ∷ procedure 7 (head.Message (on_any_channel (selected.Any 9) ∷ []))
     (stmt.Expr (tree.Assign None (expr.Name (codes "m") 11) (expr.This 13) 11)
     ∷ stmt.Expr (tree.Assign None (tree.Member (expr.This 15) (Named (codes "dlc") 17) 15) (number 1 19) 15)
     ∷ []) ∷ [])
@@ -125,8 +125,21 @@ needed_division = behind_global (declares 5 (plain Long) (codes "c") 6 None
 
 -- `on message 5 - 5 { } on message 5 { }`
 abbrev pub equal_ends : Program
-equal_ends = file_of (procedure 0 (head.Message (sel.Ids (number 5 2) (Some (number 5 4)) 2 ∷ [])) []
-    ∷ procedure 7 (head.Message (sel.Ids (number 5 9) None 9 ∷ [])) [] ∷ [])
+equal_ends = file_of
+    (procedure 0 (head.Message (on_any_channel (selected.Ids (number 5 2) (Some (number 5 4)) 2) ∷ [])) []
+    ∷ procedure 7 (head.Message (on_any_channel (selected.Ids (number 5 9) None 9) ∷ [])) [] ∷ [])
+
+-- `on message CAN1.5 { } on message CAN2.5 { }`
+abbrev pub one_on_each_channel : Program
+one_on_each_channel = file_of
+    (procedure 0 (head.Message (record { chan = 1; what = selected.Ids (number 5 4) None 4 } ∷ [])) []
+    ∷ procedure 7 (head.Message (record { chan = 2; what = selected.Ids (number 5 11) None 11 } ∷ [])) [] ∷ [])
+
+-- `on message 5 { } on message CAN2.5 { }`
+abbrev pub one_channel_of_both : Program
+one_channel_of_both = file_of
+    (procedure 0 (head.Message (on_any_channel (selected.Ids (number 5 2) None 2) ∷ [])) []
+    ∷ procedure 5 (head.Message (record { chan = 2; what = selected.Ids (number 5 9) None 9 } ∷ [])) [] ∷ [])
 
 -- `void f() { g(); } void g() { f(1); }`
 abbrev pub far_recursion : Program

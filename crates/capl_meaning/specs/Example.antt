@@ -16,7 +16,9 @@ use Rattle.capl_tree.specs.declared.file.TopItem.TheVariants as top
 use Rattle.capl_tree.specs.declared.file.Program.{Program}
 use Rattle.capl_tree.specs.declared.procedure.Head.{Head}
 use Rattle.capl_tree.specs.declared.procedure.Head.TheVariants as head
-use Rattle.capl_tree.specs.declared.procedure.Sel.TheVariants as sel
+use Rattle.capl_tree.specs.declared.procedure.Sel.{Sel}
+use Rattle.capl_tree.specs.declared.procedure.SelWhat.{SelWhat}
+use Rattle.capl_tree.specs.declared.procedure.SelWhat.TheVariants as selected
 use Rattle.capl_tree.specs.declared.statement.Stmt.{Stmt, end_of-Stmt, more_of-Stmt}
 use Rattle.capl_tree.specs.declared.statement.Stmt.TheBlock.{end_of-Arm, more_of-Arm, end_of-Group, more_of-Group}
 use Rattle.capl_tree.specs.declared.statement.Stmt.TheVariants as stmt
@@ -47,6 +49,10 @@ declares at what name name_at size init = record {
   at = at;
 }
 
+-- a selector of no channel
+abbrev pub on_any_channel : SelWhat → Sel
+on_any_channel what = record { chan = 0; what = what }
+
 -- a number that is not `const`
 abbrev pub plain : Kind → DeclType
 plain kind = decl_type.Number kind false
@@ -66,7 +72,7 @@ name_twice = file_of (top.Variables (declares 2 (plain Long) (codes "a") 3 None 
 
 -- `on message Nope { }`
 abbrev pub unknown_message : Program
-unknown_message = file_of (procedure 0 (head.Message (sel.Name (codes "Nope") 2 ∷ [])) [] ∷ [])
+unknown_message = file_of (procedure 0 (head.Message (on_any_channel (selected.Name (codes "Nope") 2) ∷ [])) [] ∷ [])
 
 -- `variables { byte a[0]; }`
 abbrev pub empty_array : Program
@@ -118,7 +124,8 @@ label_twice = on_start (stmt.Switch' (number 1 5) (tt ∷ []) (more_of-Group
 
 -- `on message 0x800 { }`
 abbrev pub identifier_too_great : Program
-identifier_too_great = file_of (procedure 0 (head.Message (sel.Ids (number 2048 2) None 2 ∷ [])) [] ∷ [])
+identifier_too_great =
+    file_of (procedure 0 (head.Message (on_any_channel (selected.Ids (number 2048 2) None 2) ∷ [])) [] ∷ [])
 
 -- `on start { break; }`
 abbrev pub break_outside : Program

@@ -10,7 +10,8 @@ use Rattle.capl_tree.specs.declared.procedure.Head.{Head}
 use Rattle.capl_tree.specs.declared.procedure.Head.TheVariants as head
 use Rattle.capl_tree.specs.declared.procedure.Param.{Param}
 use Rattle.capl_tree.specs.declared.procedure.Sel.{Sel}
-use Rattle.capl_tree.specs.declared.procedure.Sel.TheVariants as sel
+use Rattle.capl_tree.specs.declared.procedure.SelWhat.{SelWhat}
+use Rattle.capl_tree.specs.declared.procedure.SelWhat.TheVariants as selected
 use Rattle.capl_tree.specs.declared.file.Program.{Program}
 use Rattle.capl_meaning.specs.declared.builtin.Builtin.{Builtin}
 use Rattle.capl_meaning.specs.declared.builtin.Builtin.TheVariants as builtin
@@ -72,9 +73,14 @@ abbrev pub signals_by : Option DbcMessage → List DbcSignal
 signals_by None = []
 signals_by (Some m) = m.signals
 
+-- the signals that `this` has for one selector, on whichever channel: those of a name
+abbrev pub signals_of_selection : List DbcMessage → SelWhat → Option (List DbcSignal)
+signals_of_selection base (selected.Name name at) = Some (signals_by (message_named base name))
+signals_of_selection base _ = None
+
 -- the signals that `this` has for these selectors: those of one name alone
 abbrev pub signals_of_selectors : List DbcMessage → List Sel → Option (List DbcSignal)
-signals_of_selectors base (sel.Name name at ∷ []) = Some (signals_by (message_named base name))
+signals_of_selectors base (one ∷ []) = signals_of_selection base one.what
 signals_of_selectors base _ = None
 
 -- what `this` is in a procedure with this head

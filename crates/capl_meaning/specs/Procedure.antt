@@ -1,6 +1,6 @@
 -- What the procedures of a program mean (CAPL manual, functions, event procedures). The limit of turns is
 -- this project's own.
-use Rattle.std.specs.Prelude.{ℕ, ◌-◌, Bool, List, [], ◌∷◌, filter_map, flat_map, Option, Some, None}
+use Rattle.std.specs.Prelude.{ℕ, ◌-◌, Bool, List, [], ◌∷◌, flat_map, Option, Some, None}
 use Rattle.std.specs.Option.{option_map_or}
 use Rattle.run_effects.specs.Effect.{Effect}
 use Rattle.run_effects.specs.declared.event.Event.{Event}
@@ -16,7 +16,7 @@ use Rattle.capl_tree.specs.declared.procedure.Head.TheVariants as head
 use Rattle.capl_tree.specs.declared.statement.Stmt.{Stmt}
 use Rattle.capl_meaning.specs.Variable.{Part, Globals, Procedure, parts_of}
 use Rattle.capl_meaning.specs.Names.{Function, Names, Scope, global, inside, inside_function, names_of}
-use Rattle.capl_meaning.specs.ProcedureRules.{selector_of}
+use Rattle.capl_meaning.specs.ProcedureRules.{ranges_of}
 use Rattle.capl_meaning.specs.Calls.{function_numbered}
 use Rattle.capl_meaning.specs.Store.{This, timer_number}
 use Rattle.capl_meaning.specs.Expression.{Memory, Setting}
@@ -77,7 +77,7 @@ event_of names head.PreStart = Some event.PreStart
 event_of names head.Start = Some event.Start
 event_of names head.Stop = Some event.Stop
 event_of names (head.Message selectors) =
-    Some (event.Message (filter_map (selector_of names.base) selectors))
+    Some (event.Message (flat_map (ranges_of names.base) selectors))
 event_of names (head.Timer name at) = Some (event.Timer (timer_named names name))
 event_of names (head.Key value) = Some (event.Key value)
 event_of names (head.Function kind name parameters at) = None

@@ -1,6 +1,6 @@
 -- The rules that the heads of procedures and the names of declarations break (CAPL manual, event procedures,
 -- functions, variables).
-use Rattle.std.specs.Prelude.{ℕ, ◌+◌, ◌^◌, ◌==◌, Bool, true, false, not, ◌&&◌, if◌then◌else◌, nat_le, List, [], ◌∷◌, ◌++◌, flat_map, filter, filter_map, map, is_some, Option, Some, None}
+use Rattle.std.specs.Prelude.{ℕ, ◌+◌, ◌-◌, ◌^◌, ◌==◌, Bool, true, false, not, ◌&&◌, ◌||◌, if◌then◌else◌, nat_le, List, [], ◌∷◌, ◌++◌, flat_map, filter, filter_map, map, is_some, Option, Some, None}
 use Rattle.std.specs.Option.{option_and_then, option_map, option_map_or}
 use Rattle.std.specs.Str.{bytes_eq}
 use Rattle.run_effects.specs.declared.event.Selector.{Selector}
@@ -11,7 +11,8 @@ use Rattle.capl_tree.specs.declared.expr.Expr.TheVariants as expr
 use Rattle.capl_tree.specs.declared.procedure.Head.{Head}
 use Rattle.capl_tree.specs.declared.procedure.Head.TheVariants as head
 use Rattle.capl_tree.specs.declared.procedure.Sel.{Sel}
-use Rattle.capl_tree.specs.declared.procedure.Sel.TheVariants as sel
+use Rattle.capl_tree.specs.declared.procedure.SelWhat.{SelWhat}
+use Rattle.capl_tree.specs.declared.procedure.SelWhat.TheVariants as selected
 use Rattle.capl_meaning.specs.declared.offence.Offence.{Offence}
 use Rattle.capl_meaning.specs.Rule.{E09, E10, E21, E25}
 use Rattle.capl_meaning.specs.Variable.{Form, Timer, Misfit, Part, Globals, Procedure, Variable, is_timer, message_named}
@@ -73,22 +74,93 @@ selector_of_numbers low (Some high) =
 abbrev pub selector_of_message : DbcMessage → Option Selector
 selector_of_message m = if is_in_range m.id then keys_between 0 (Some m.id) (Some m.id) else None
 
--- what a selector selects: `*` all keys, a message by name or a single identifier one, a range those in it
-abbrev pub selector_of : List DbcMessage → Sel → Option Selector
-selector_of base (sel.Any at) = keys_between 2 (Some 0) (Some 0xFFFFFFFF)
-selector_of base (sel.Name name at) = option_and_then selector_of_message (message_named base name)
-selector_of base (sel.Ids low high at) = selector_of_numbers low high
+-- what is selected, whichever the channel: `*` all keys, a message by name or a single identifier one, a range
+-- those in it
+abbrev pub selector_of : List DbcMessage → SelWhat → Option Selector
+selector_of base (selected.Any at) = keys_between 2 (Some 0) (Some 0xFFFFFFFF)
+selector_of base (selected.Name name at) = option_and_then selector_of_message (message_named base name)
+selector_of base (selected.Ids low high at) = selector_of_numbers low high
+
+-- the channels that a selector is for
+pub data Channels : Type 0 where
+  Both : Channels
+  First : Channels
+  Second : Channels
+
+-- those of a number, which is 1, 2, or 0 where no channel is named
+abbrev pub channels_of : ℕ → Channels
+channels_of chan = if chan == 1 then First else (if chan == 2 then Second else Both)
+
+-- the first channel is among them
+abbrev pub hold_first : Channels → Bool
+hold_first Second = false
+hold_first _ = true
+
+-- the second channel is among them
+abbrev pub hold_second : Channels → Bool
+hold_second First = false
+hold_second _ = true
+
+-- two selectors are for a channel in common: their channels are equal, or one of them has none
+abbrev pub share_channel : Channels → Channels → Bool
+share_channel First Second = false
+share_channel Second First = false
+share_channel _ _ = true
+
+-- the same identifiers on the second channel: bit 30 of a selection key marks it
+abbrev pub on_second : Selector → Selector
+on_second keys = record { rank = keys.rank; low = keys.low + 2 ^ 30; high = keys.high + 2 ^ 30 }
+
+-- the selection keys of identifiers on channels
+abbrev pub identifiers_on : Channels → Selector → List Selector
+identifiers_on channels keys =
+    (if hold_first channels then keys ∷ [] else []) ++ (if hold_second channels then on_second keys ∷ [] else [])
+
+-- the selection keys of `*` on channels: of standard identifiers, and of extended ones
+abbrev pub all_on : Channels → List Selector
+all_on Both = record { rank = 2; low = 0; high = 0xFFFFFFFF } ∷ []
+all_on First = record { rank = 2; low = 0; high = 0x3FFFFFFF }
+    ∷ record { rank = 2; low = 0x80000000; high = 0xBFFFFFFF } ∷ []
+all_on Second = record { rank = 2; low = 0x40000000; high = 0x7FFFFFFF }
+    ∷ record { rank = 2; low = 0xC0000000; high = 0xFFFFFFFF } ∷ []
+
+-- the selection keys on channels of what is selected, which is `*` where its rank is 2
+abbrev pub keys_on : Channels → Selector → List Selector
+keys_on channels keys = if keys.rank == 2 then all_on channels else identifiers_on channels keys
+
+-- the selection keys of a selector, by which the procedure of a frame is chosen; none where it breaks a rule
+abbrev pub ranges_of : List DbcMessage → Sel → List Selector
+ranges_of base s = option_map_or (keys_on (channels_of s.chan)) (selector_of base s.what) []
+
+-- the token of what is selected
+abbrev pub selection_place : SelWhat → ℕ
+selection_place (selected.Any at) = at
+selection_place (selected.Name name at) = at
+selection_place (selected.Ids low high at) = at
+
+-- a selector names a channel
+abbrev pub names_channel : ℕ → Bool
+names_channel chan = chan == 1 || chan == 2
+
+-- the first token of a selector, which with a channel stands two before what is selected
+abbrev pub selector_place : Sel → ℕ
+selector_place s = if names_channel s.chan then selection_place s.what - 2 else selection_place s.what
 
 -- E21: an identifier of a selector is none; a range mixes both forms or falls
 abbrev pub numbers_rule : Scope → ℕ → Expr → Option Expr → List Offence
 numbers_rule s at low None = broken_where (not (names_identifier (number_in low))) s at E21
 numbers_rule s at low (Some high) = broken_where (not (is_range (number_in low) (number_in high))) s at E21
 
--- what a selector breaks by itself: E11 and E23 of a name, E21 of numbers
+-- what is selected, in a selector that begins at a token, breaks by itself: E11 and E23 of a name, at the name,
+-- and E21 of numbers, at the selector
+abbrev pub selection_offences : Scope → ℕ → SelWhat → List Offence
+selection_offences s first (selected.Any at) = []
+selection_offences s first (selected.Name name at) = message_name_rule s at name
+selection_offences s first (selected.Ids low high at) = numbers_rule s first low high
+
+-- what a selector breaks by itself
 abbrev pub selector_offences : Scope → Sel → List Offence
-selector_offences s (sel.Any at) = []
-selector_offences s (sel.Name name at) = message_name_rule s at name
-selector_offences s (sel.Ids low high at) = numbers_rule s at low high
+selector_offences s one = selection_offences s (selector_place one) one.what
 
 -- ---- heads
 
@@ -109,13 +181,14 @@ head_offences s (head.Message selectors) = flat_map (selector_offences s) select
 head_offences s (head.Timer name at) = timer_rule s at (global s.names name)
 head_offences s _ = []
 
--- what event procedures are for, of which no two may be: frames of a selector, a timer by its name, a key
+-- what event procedures are for, of which no two may be: frames of a selector on channels, a timer by its name,
+-- a key
 pub data Purpose : Type 0 where
-  ForFrames : Selector → Purpose
+  ForFrames : Channels → Selector → Purpose
   ForTimer : List ℕ → Purpose
   ForKey : Option ℕ → Purpose
 
--- two selectors of one rank overlap: they have a key in common
+-- two selectors of one rank overlap: they hold the same identifier of the same form
 abbrev pub overlap : Selector → Selector → Bool
 overlap a b = a.rank == b.rank && (nat_le a.low b.high && nat_le b.low a.high)
 
@@ -127,7 +200,7 @@ same_key _ _ = false
 
 -- no two procedures may be for both
 abbrev pub collide : Purpose → Purpose → Bool
-collide (ForFrames a) (ForFrames b) = overlap a b
+collide (ForFrames here a) (ForFrames there b) = share_channel here there && overlap a b
 collide (ForTimer a) (ForTimer b) = bytes_eq a b
 collide (ForKey a) (ForKey b) = same_key a b
 collide _ _ = false
@@ -138,17 +211,14 @@ pub record Told : Type 0 where
   pub token : ℕ
   pub purpose : Purpose
 
--- the token of a selector
-abbrev pub selector_place : Sel → ℕ
-selector_place (sel.Any at) = at
-selector_place (sel.Name name at) = at
-selector_place (sel.Ids low high at) = at
-
 -- what a selector tells
 abbrev pub told_by_selector : List DbcMessage → ℕ → Sel → Option Told
 told_by_selector base file selector =
-    option_map (λ keys. record { file = file; token = selector_place selector; purpose = ForFrames keys })
-    (selector_of base selector)
+    option_map (λ keys. record {
+      file = file;
+      token = selector_place selector;
+      purpose = ForFrames (channels_of selector.chan) keys;
+    }) (selector_of base selector.what)
 
 -- a name is that of a global timer
 abbrev pub names_timer : Names → List ℕ → Bool
@@ -169,7 +239,7 @@ told_by_part names (Globals file declarations) = []
 told_by_part names (Procedure number file procedure) =
     told_by_head names file procedure.at procedure.head
 
--- E25: two selectors of one rank overlap; two procedures are for one timer or one key
+-- E25: two selectors of one rank overlap and share a channel; two procedures are for one timer or one key
 abbrev pub purpose_offences : Names → List Part → List Offence
 purpose_offences names parts =
     map (λ told. record { file = told.file; token = told.token; rule = E25 })

@@ -75,7 +75,8 @@ E23 = source_rule 23
 abbrev pub E24 : Rule
 E24 = source_rule 24
 
--- two selectors of one rank overlap; two procedures are for one timer or one key
+-- two selectors of one rank hold the same identifier of the same form, and their channels are equal or one of
+-- them has none; two procedures are for one timer or one key
 abbrev pub E25 : Rule
 E25 = source_rule 25
 

@@ -9,7 +9,7 @@ ghost use Rattle.capl_meaning.specs.Example.{broken, argument_missing, array_as_
 ghost use Rattle.std.specs.Prelude.{codes, neg_ℤ, pos, Some};
 ghost use Rattle.run_effects.specs.declared.outcome.Outcome.TheVariants.{Cut, Done, Trapped};
 ghost use Rattle.run_effects.specs.declared.outcome.TrapKind.TheVariants.{Index, ZeroDivisor};
-ghost use Rattle.capl_meaning.specs.ChoiceExample.{added_to_message, broken_with, constant_assigned, constant_of_itself, direction_assigned, equal_ends, far_recursion, inner_block, labels_that_wrap, local_beside_function, long_message, message_added, message_stepped, message_too_long, mixed_case, needed_division, number_too_great_for_a_size, one_for_an_array, text_assigned, text_in_parentheses, this_copied, unknown_in_size, unknown_to_message, unneeded_division, variable_in_size};
+ghost use Rattle.capl_meaning.specs.ChoiceExample.{added_to_message, broken_with, constant_assigned, constant_of_itself, direction_assigned, equal_ends, far_recursion, inner_block, labels_that_wrap, local_beside_function, long_message, message_added, message_stepped, message_too_long, mixed_case, needed_division, number_too_great_for_a_size, one_channel_of_both, one_for_an_array, one_on_each_channel, text_assigned, text_in_parentheses, this_copied, unknown_in_size, unknown_to_message, unneeded_division, variable_in_size};
 ghost use Rattle.capl_meaning.specs.RunExample.{counts, divides_by_zero, fills, keeps_its_local, left, needs_one_side, passes_the_end, puts_signals, ran, signals_put, two_messages, wraps, wrote};
 
 /// A program has one first offence at most: two of them have the same file, token and rule number.
@@ -66,6 +66,8 @@ pub fn sources_at_the_edges()
     ensures unneeded_division { broken unneeded_division ≡ [] }
     ensures needed_division { broken needed_division ≡ (8, 19) ∷ [] }
     ensures equal_ends { broken equal_ends ≡ [] }
+    ensures one_on_each_channel { broken one_on_each_channel ≡ [] }
+    ensures one_channel_of_both { broken one_channel_of_both ≡ (7, 25) ∷ [] }
     ensures far_recursion { broken far_recursion ≡ (5, 26) ∷ (15, 16) ∷ (15, 26) ∷ [] }
     ensures text_in_parentheses { broken text_in_parentheses ≡ [] }
     ensures labels_that_wrap { broken labels_that_wrap ≡ (15, 20) ∷ [] }
