@@ -30,7 +30,7 @@ use Rattle.capl_meaning.specs.Variable.{Part, Globals, Procedure, parts_of, part
 use Rattle.capl_meaning.specs.Names.{Function, Names, Scope, function_by, function_of_part, inside, inside_function, names_of}
 use Rattle.capl_meaning.specs.Calls.{function_numbered}
 use Rattle.capl_meaning.specs.Procedure.{Handler, event_of, handlers_of, handlers_of_part, timer_named}
-use Rattle.capl_meaning.specs.ProcedureRules.{selector_of}
+use Rattle.capl_meaning.specs.ProcedureRules.{ranges_of}
 use Rattle.typed_source.specs.Statement.{formats_of, statement_of}
 use Rattle.typed_source.specs.Program.{HasNoOther, body_of, formats_of_body, formats_of_function, formats_of_functions, function_of, functions_of, typed_handlers, typed_program}
 use Rattle.typed_source.proofs.StatementSizes.{small}
@@ -115,7 +115,7 @@ module _ (names : Names) where
       go head.PreStart = one_handler event.PreStart
       go head.Start = one_handler event.Start
       go head.Stop = one_handler event.Stop
-      go (head.Message selectors) = one_handler (event.Message (filter_map (selector_of names.base) selectors))
+      go (head.Message selectors) = one_handler (event.Message (flat_map (ranges_of names.base) selectors))
       go (head.Timer name at) = one_handler (event.Timer (timer_named names name))
       go (head.Key value) = one_handler (event.Key value)
 
