@@ -9,10 +9,11 @@ use Rattle.capl_tree.specs.declared.procedure.Head.{Head}
 use Rattle.capl_tree.specs.declared.procedure.Head.TheVariants as head
 use Rattle.capl_tree.specs.declared.procedure.Proc.{Proc}
 use Rattle.capl_tree.specs.declared.procedure.Sel.{Sel}
-use Rattle.capl_tree.specs.declared.procedure.Sel.TheVariants as sel
+use Rattle.capl_tree.specs.declared.procedure.SelWhat.{SelWhat}
+use Rattle.capl_tree.specs.declared.procedure.SelWhat.TheVariants as selected
 use Rattle.capl_meaning.specs.DeclarationRules.{type_rules}
 use Rattle.capl_meaning.specs.Names.{Names, global, inside, outside}
-use Rattle.capl_meaning.specs.ProcedureRules.{head_offences, numbers_rule, selector_offences, timer_form_rule, timer_rule}
+use Rattle.capl_meaning.specs.ProcedureRules.{head_offences, numbers_rule, selection_offences, selector_offences, selector_place, timer_form_rule, timer_rule}
 use Rattle.capl_meaning.specs.Variable.{Form, Timer, Misfit, Number, Array, Message, Variable, declarations_in}
 use Rattle.check_names.specs.Named.{procedure_head_and_types, types_offences}
 use Rattle.check_names.proofs.IsIn.{flat_same}
@@ -32,11 +33,16 @@ numbers_same : (names : Names) (number file : ℕ) (h : Head) (at : ℕ) (low : 
 numbers_same names number file h at low None = refl
 numbers_same names number file h at low (Some high) = refl
 
+-- what is selected
+selection_same : (names : Names) (number file : ℕ) (h : Head) (first : ℕ) (what : SelWhat)
+    → selection_offences (outside names file) first what ≡ selection_offences (inside names number file h) first what
+selection_same names number file h first (selected.Any at) = refl
+selection_same names number file h first (selected.Name name at) = refl
+selection_same names number file h first (selected.Ids low high at) = numbers_same names number file h first low high
+
 -- a selector
 selector_same : (names : Names) (number file : ℕ) (h : Head) (one : Sel) → selector_offences (outside names file) one ≡ selector_offences (inside names number file h) one
-selector_same names number file h (sel.Any at) = refl
-selector_same names number file h (sel.Name name at) = refl
-selector_same names number file h (sel.Ids low high at) = numbers_same names number file h at low high
+selector_same names number file h one = selection_same names number file h (selector_place one) one.what
 
 -- a timer
 timer_same : (names : Names) (number file : ℕ) (h : Head) (at : ℕ) (v : Option Variable)

@@ -16,9 +16,9 @@ use crate::global::{names_misfit, names_timer};
 use crate::names::Names;
 use crate::part::ProgramPart;
 use crate::rule::{NO_IDENTIFIER, NO_MESSAGE, NO_TIMER, UNUSABLE, note_where};
-use crate::selector::{is_identifier, is_in_range, is_range, number_in};
+use crate::selector::{is_identifier, is_in_range, is_range, number_in, selector_place};
 use capl_meaning::Offence;
-use capl_tree::{Decl, DeclType, Expr, Head, Proc, Sel};
+use capl_tree::{Decl, DeclType, Expr, Head, Proc, Sel, SelWhat};
 use std::alloc::Global;
 use texts::NoMemory;
 
@@ -61,10 +61,12 @@ fn note_numbers(
 fn note_selector(names: &Names, file: u32, selector: &Sel, first: &mut Option<Offence>)
     ensures { first.new ≡ noted first.old (selector_offences (outside names.now file) selector.now) }
 {
-    match selector {
-        Sel::Any { .. } => {}
-        Sel::Name { name, at } => note_message_name(names, file, name.bytes(), *at, first),
-        Sel::Ids { low, high, at } => note_numbers(names, file, *at, low, high, first),
+    match &selector.what {
+        SelWhat::Any { .. } => {}
+        SelWhat::Name { name, at } => note_message_name(names, file, name.bytes(), *at, first),
+        SelWhat::Ids { low, high, .. } => {
+            note_numbers(names, file, selector_place(selector), low, high, first);
+        }
     }
 }
 

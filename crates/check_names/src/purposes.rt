@@ -1,11 +1,12 @@
 // Procedures that are for what an earlier one is for.
 
-ghost use Rattle.std.specs.Prelude.{◌≡◌, ◌++◌, ◌∷◌, [], All, List, IfOk, OnOk, filter_map, flat_map, map};
+ghost use Rattle.std.specs.Prelude.{◌≡◌, ◌≤◌, ◌++◌, ◌∷◌, [], ℕ, All, List, IfOk, OnOk, filter_map, flat_map, map};
 ghost use Rattle.std.specs.List.{list_any};
-ghost use Rattle.capl_meaning.specs.ProcedureRules.{Told, collide, purpose_offences, selector_place, told_by_head, told_by_part, told_by_selector};
+ghost use Rattle.capl_meaning.specs.ProcedureRules.{Told, channels_of, collide, purpose_offences, told_by_head, told_by_part, told_by_selector};
 ghost use Rattle.capl_meaning.specs.StatementRules.{repeated};
 ghost use Rattle.check_names.specs.First.{noted};
-ghost use Rattle.check_names.specs.Inside.Purpose.{IsOrdinary, IsOrdinaryTelling, Knows, number_of, number_of_key, purpose_of, purpose_offence, same_purpose, told_at};
+ghost use Rattle.check_names.specs.Inside.Purpose.{IsOrdinary, IsOrdinaryTelling, Knows, any_meet, number_of, number_of_key, numbers_at, numbers_on, purpose_of, purpose_offence, same_purpose, told_at};
+ghost use Rattle.check_names.specs.Inside.Ranges.{AreRanges, meet};
 ghost use Rattle.check_names.specs.Part.{part_in, parts_in};
 
 use crate::global::names_timer;
@@ -14,7 +15,7 @@ use crate::part::ProgramPart;
 use crate::ranges::Ranges;
 use crate::rule::{SAME_PURPOSE, note_where};
 use crate::seed::Seed;
-use crate::selector::selector_of;
+use crate::selector::{holds_first, holds_second, selector_of, selector_place};
 use crate::table::NameTable;
 use capl_meaning::Offence;
 use capl_tree::{Head, Sel};
@@ -25,8 +26,8 @@ use texts::{NoMemory, Text};
 /// What a procedure is for.
 #[derive(Clone, Copy, Debug)]
 enum Purpose<'p> {
-    /// Frames of a selector.
-    Frames(Selector),
+    /// Frames of a selector, on its channel, 0 being both.
+    Frames { chan: u8, keys: Selector },
     /// A timer, by its name.
     Timer(&'p Text),
     /// A key, or those that have no procedure.
@@ -53,15 +54,6 @@ struct Purposes {
     timers: NameTable,
 }
 
-/// The token of a selector.
-fn selector_place(selector: &Sel) -> u32
-    ensures { result ≡ selector_place selector.now }
-{
-    match selector {
-        Sel::Any { at } | Sel::Name { at, .. } | Sel::Ids { at, .. } => *at,
-    }
-}
-
 /// Appends what selectors tell.
 fn list_selectors<'p>(
     names: &Names,
@@ -75,11 +67,14 @@ fn list_selectors<'p>(
         OnOk result (All IsOrdinaryTelling into.new.items) }
 {
     for selector in selectors {
-        if let Some(keys) = selector_of(names, selector) {
+        if let Some(keys) = selector_of(names, &selector.what) {
             into.push(Telling {
                 file,
                 token: selector_place(selector),
-                purpose: Purpose::Frames(keys),
+                purpose: Purpose::Frames {
+                    chan: selector.chan,
+                    keys,
+                },
             })?;
         }
     }
@@ -154,11 +149,11 @@ fn tellings<'p>(
     Ok(all)
 }
 
-/// The number that stands for a selection key of a rank.
-fn number_of(rank: u8, key: u32) -> u64
-    ensures { result ≡ number_of rank key }
+/// The number that stands for a selection key of a rank, on the first channel (0) or the second (1).
+fn number_of(channel: u8, rank: u8, key: u32) -> u64
+    ensures { result ≡ number_of channel rank key }
 {
-    rank as u64 * 0x1_0000_0000 + key as u64
+    (2 * rank as u64 + channel as u64) * 0x1_0000_0000 + key as u64
 }
 
 /// The number that stands for a key that is pressed, or for those that have no procedure.
@@ -166,8 +161,8 @@ fn number_of_key(key: Option<u8>) -> u64
     ensures { result ≡ number_of_key key }
 {
     match key {
-        None => 0x3_0000_0000,
-        Some(key) => 0x3_0000_0001 + key as u64,
+        None => 0x6_0000_0000,
+        Some(key) => 0x6_0000_0001 + key as u64,
     }
 }
 
@@ -182,6 +177,58 @@ impl Purposes {
         }
     }
 
+    /// Whether some procedure so far has a number in common with these keys on one channel.
+    fn meets_on(&self, channel: u8, keys: Selector) -> bool
+        requires { keys.low ≤ keys.high }
+        ensures { (all : List (ℕ × ℕ)) → AreRanges self.now.ranges all →
+            result ≡ list_any (meet (numbers_at channel keys)) all }
+    {
+        self.ranges.meets(
+            number_of(channel, keys.rank, keys.low),
+            number_of(channel, keys.rank, keys.high),
+        )
+    }
+
+    /// Whether some procedure so far has a number in common with these keys on a channel, 0 being both.
+    fn know_frames(&self, chan: u8, keys: Selector) -> bool
+        requires { keys.low ≤ keys.high }
+        ensures { (all : List (ℕ × ℕ)) → AreRanges self.now.ranges all →
+            result ≡ any_meet (numbers_on (channels_of chan) keys) all }
+    {
+        let first = holds_first(chan) && self.meets_on(0, keys);
+        let second = holds_second(chan) && self.meets_on(1, keys);
+        first || second
+    }
+
+    /// Takes these keys on one channel.
+    fn add_on(&mut self, channel: u8, keys: Selector) -> Result<(), NoMemory>
+        requires { keys.low ≤ keys.high }
+        ensures ranges { (all : List (ℕ × ℕ)) → AreRanges self.old.ranges all →
+            OnOk result (AreRanges self.new.ranges (numbers_at channel keys ∷ all)) }
+        ensures timers { self.new.timers ≡ self.old.timers }
+    {
+        self.ranges.add(
+            number_of(channel, keys.rank, keys.low),
+            number_of(channel, keys.rank, keys.high),
+        )
+    }
+
+    /// Takes these keys on a channel, 0 being both.
+    fn add_frames(&mut self, chan: u8, keys: Selector) -> Result<(), NoMemory>
+        requires { keys.low ≤ keys.high }
+        ensures ranges { (all : List (ℕ × ℕ)) → AreRanges self.old.ranges all →
+            OnOk result (AreRanges self.new.ranges (numbers_on (channels_of chan) keys ++ all)) }
+        ensures timers { OnOk result (self.new.timers ≡ self.old.timers) }
+    {
+        if holds_second(chan) {
+            self.add_on(1, keys)?;
+        }
+        if holds_first(chan) {
+            self.add_on(0, keys)?;
+        }
+        Ok(())
+    }
+
     /// Whether some procedure so far is for what this one is for. Takes time logarithmic in the
     /// selectors and keys, and linear in the name of a timer.
     fn know(&self, purpose: Purpose) -> bool
@@ -190,10 +237,7 @@ impl Purposes {
             result ≡ list_any (λ told. collide (purpose_of purpose.entry) told.purpose) earlier }
     {
         match purpose {
-            Purpose::Frames(keys) => self.ranges.meets(
-                number_of(keys.rank, keys.low),
-                number_of(keys.rank, keys.high),
-            ),
+            Purpose::Frames { chan, keys } => self.know_frames(chan, keys),
             Purpose::Timer(name) => self.timers.number(name.bytes()).is_some(),
             Purpose::Key(key) => self.ranges.meets(number_of_key(key), number_of_key(key)),
         }
@@ -206,10 +250,7 @@ impl Purposes {
             Knows self.old earlier → OnOk result (Knows self.new (told ∷ earlier)) }
     {
         match purpose {
-            Purpose::Frames(keys) => self.ranges.add(
-                number_of(keys.rank, keys.low),
-                number_of(keys.rank, keys.high),
-            )?,
+            Purpose::Frames { chan, keys } => self.add_frames(chan, keys)?,
             Purpose::Timer(name) => self.timers.note(alloc, name.bytes(), 0)?,
             Purpose::Key(key) => self.ranges.add(number_of_key(key), number_of_key(key))?,
         }
@@ -237,7 +278,7 @@ fn note_collisions(
     Ok(())
 }
 
-/// Notes where two selectors of one rank overlap, and where two procedures are for one timer or one
+/// Notes where two selectors of one rank overlap on a channel, and where two procedures are for one timer or one
 /// key. Takes time n log n in the selectors and procedures.
 pub(crate) fn note_purposes(
     alloc: Global,

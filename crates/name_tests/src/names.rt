@@ -1,8 +1,8 @@
 // What check_names says that names mean, and noted offences.
 
 use capl_meaning::Offence;
-use capl_tree::{DeclType, Expr, Program, Sel};
-use check_names::{Names, laws, note, note_type, selector_of};
+use capl_tree::{DeclType, Expr, Program, Sel, SelWhat};
+use check_names::{Names, laws, note, note_type, push_ranges};
 use dbc_reader::{Database, read};
 use parser_tests::sources::program;
 use run_effects::Selector;
@@ -63,19 +63,36 @@ fn number(value: u64) -> Expr {
     }
 }
 
-/// Selectors have keys.
-fn check_selectors(rt: &impl Abort, names: &Names) {
-    let range = Sel::Ids {
-        low: number(1),
-        high: Some(number(2)),
-        at: 1,
-    };
+/// Selectors have keys, on each channel for which they are.
+fn check_selectors(rt: &impl Abort, alloc: Global, names: &Names) -> Result<(), Fail> {
     let keys = Selector {
         rank: 1,
         low: 0x8000_0001,
         high: 0x8000_0002,
     };
-    assert_eq!(rt; selector_of(names, &range), Some(keys));
+    let others = Selector {
+        rank: 1,
+        low: 0xC000_0001,
+        high: 0xC000_0002,
+    };
+    let both = [keys, others];
+    let first = [keys];
+    let second = [others];
+    for (chan, wanted) in [
+        (0, both.as_slice()),
+        (1, first.as_slice()),
+        (2, second.as_slice()),
+    ] {
+        let what = SelWhat::Ids {
+            low: number(1),
+            high: Some(number(2)),
+            at: 3,
+        };
+        let mut found = Vec::new(alloc);
+        push_ranges(names, &Sel { chan, what }, &mut found)?;
+        assert_eq!(rt; found.as_slice(), wanted);
+    }
+    Ok(())
 }
 
 /// An identifier without a mark has 11 bits.
@@ -96,7 +113,7 @@ fn names_mean_what_is_declared_before(rt: HostRuntime) -> Result<(), Fail> {
     let names = Names::build(rt.alloc(), &program, None)?;
     check_meanings(&rt, &names);
     check_variables(&rt, &names);
-    check_selectors(&rt, &names);
+    check_selectors(&rt, rt.alloc(), &names)?;
     check_types(&rt, &names);
     Ok(())
 }
