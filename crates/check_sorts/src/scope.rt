@@ -2,7 +2,7 @@
 
 ghost use Rattle.std.specs.Prelude.{◌≡◌, MatchOption, None, slice_get};
 ghost use Rattle.std.specs.Option.{option_and_then};
-ghost use Rattle.capl_meaning.specs.Names.{callee, inside, kind_given, means, outside, signals_of_selectors, this_form};
+ghost use Rattle.capl_meaning.specs.Names.{callee, inside, kind_given, means, outside, signals_of_selection, signals_of_selectors, this_form};
 ghost use Rattle.check_sorts.specs.Form.{signals_in};
 ghost use Rattle.check_sorts.specs.Scope.{IsMeaning, callee_in, scope_in, this_in};
 
@@ -10,7 +10,7 @@ use crate::form::{Form, form_of};
 use crate::signals::DeclaredSignals;
 use crate::words::builtin_named;
 use capl_meaning::Builtin;
-use capl_tree::{Head, Sel};
+use capl_tree::{Head, Sel, SelWhat};
 use check_names::Names;
 use int_kinds::Kind;
 
@@ -60,12 +60,22 @@ pub enum Callee {
     Unknown,
 }
 
+/// The signals that `this` has for one selector, on whichever channel: those of a name.
+fn signals_of_selection<'p>(names: &Names<'p>, what: &SelWhat) -> DeclaredSignals<'p>
+    ensures { signals_in result ≡ signals_of_selection names.now.base what.now }
+{
+    match what {
+        SelWhat::Name { name, .. } => DeclaredSignals::Named(names.message(name.bytes())),
+        SelWhat::Any { .. } | SelWhat::Ids { .. } => DeclaredSignals::Unnamed,
+    }
+}
+
 /// The signals that `this` has for these selectors: those of one name alone.
 fn signals_of_selectors<'p>(names: &Names<'p>, selectors: &[Sel]) -> DeclaredSignals<'p>
     ensures { signals_in result ≡ signals_of_selectors names.now.base selectors.now }
 {
     match selectors {
-        [Sel::Name { name, .. }] => DeclaredSignals::Named(names.message(name.bytes())),
+        [one] => signals_of_selection(names, &one.what),
         _ => DeclaredSignals::Unnamed,
     }
 }
