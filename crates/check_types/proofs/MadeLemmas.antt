@@ -122,21 +122,6 @@ handler_formats_more f old formats after all i x within is listed new =
     ∙ ap (λ l. old ++ l) (sym (ap formats_of_handlers (flat_map_take f all i x within is)
     ∙ flat_map-append (λ h. formats_of_body h.scope h.body) done (f x)))
 
--- one more of a list that is kept
-pub kept_more : {X Y : Type 0} (f : X → Option Y) (all : List X) (i : ℕ) (x : X) (y : Y) → i < length all → x ≡ get_or all i x →
-    f x ≡ Some y → filter_map f (take (i + 1) all) ≡ filter_map f (take i all) ++ y ∷ []
-kept_more f all i x y within is some =
-    ap (filter_map f) (take_more all i x within ∙ ap (λ z. take i all ++ z ∷ []) (sym is))
-    ∙ filter_map-append f (take i all) (x ∷ []) ∙ ap (λ o. filter_map f (take i all) ++ cons_option o []) some
-
--- one more of a list that is not
-pub none_more : {X Y : Type 0} (f : X → Option Y) (all : List X) (i : ℕ) (x : X) → i < length all → x ≡ get_or all i x →
-    f x ≡ None → filter_map f (take (i + 1) all) ≡ filter_map f (take i all)
-none_more f all i x within is none =
-    ap (filter_map f) (take_more all i x within ∙ ap (λ z. take i all ++ z ∷ []) (sym is))
-    ∙ filter_map-append f (take i all) (x ∷ []) ∙ ap (λ o. filter_map f (take i all) ++ cons_option o []) none
-    ∙ append-nil (filter_map f (take i all))
-
 -- one more of a list that each item is made from
 pub map_more : {X Y : Type 0} (f : X → Y) (all : List X) (i : ℕ) (x : X) → i < length all → x ≡ get_or all i x →
     map f (take (i + 1) all) ≡ map f (take i all) ++ f x ∷ []

@@ -1,13 +1,13 @@
 // What event procedures react to.
 
-ghost use Rattle.std.specs.Prelude.{◌≡◌, IfOk, filter_map};
+ghost use Rattle.std.specs.Prelude.{◌≡◌, IfOk, flat_map};
 ghost use Rattle.capl_meaning.specs.Procedure.{event_of, timer_named};
-ghost use Rattle.capl_meaning.specs.ProcedureRules.{selector_of};
+ghost use Rattle.capl_meaning.specs.ProcedureRules.{ranges_of};
 ghost use Rattle.type_expressions.specs.Layout.{IsLayoutOf};
 ghost use Rattle.typed_laws.specs.Laid.{AreDistinct};
 
 use capl_tree::{Head, Sel};
-use check_names::{Names, selector_of};
+use check_names::{Names, push_ranges};
 use items::Items;
 use run_effects::{Event, Selector};
 use std::alloc::Global;
@@ -20,13 +20,11 @@ fn selectors_of(
     names: &Names,
     selectors: &[Sel],
 ) -> Result<Items<Selector>, NoMemory>
-    ensures { IfOk result (λ all. all ≡ filter_map (selector_of names.now.base) selectors.now) }
+    ensures { IfOk result (λ all. all ≡ flat_map (ranges_of names.now.base) selectors.now) }
 {
     let mut all = Vec::new(alloc);
     for selector in selectors {
-        if let Some(keys) = selector_of(names, selector) {
-            all.push(keys)?;
-        }
+        push_ranges(names, selector, &mut all)?;
     }
     Ok(Items::from_list(all))
 }
