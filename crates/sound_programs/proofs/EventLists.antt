@@ -20,17 +20,18 @@ use Rattle.capl_meaning.specs.Variable.{Form, Number, Array, Message, Timer, Mis
 use Rattle.capl_meaning.specs.Names.{Names, Scope, global, inside, is_global, names_of}
 use Rattle.capl_meaning.specs.Offences.{offences_of, part_offences}
 use Rattle.capl_meaning.specs.Procedure.{Handler, event_of, handlers_of, handlers_of_part, timer_named}
-use Rattle.capl_meaning.specs.ProcedureRules.{ForFrames, ForKey, ForTimer, Told, collide, head_offences, names_timer, outer_name_offences, purpose_offences, selector_of, timer_rule, told_by_head, told_by_part, told_by_selector}
+use Rattle.capl_meaning.specs.ProcedureRules.{ForFrames, ForKey, ForTimer, Purpose, Told, collide, head_offences, names_timer, outer_name_offences, purpose_offences, ranges_of, timer_rule, told_by_head, told_by_part, told_by_selector}
 use Rattle.typed_laws.specs.Laid.{HasForm}
 use Rattle.typed_laws.proofs.Declared.{all_append}
 use Rattle.typed_laws.proofs.Places.{found_among}
 use Rattle.typed_source.specs.Program.{typed_handlers, typed_program}
 use Rattle.typed_source.specs.Sound.{HasTables}
 use Rattle.sound_programs.specs.Given.{HaveForms}
+use Rattle.sound_programs.proofs.ChannelKeys.{AreAllApart, IsFormed, cross_apart, far_from_none, own_apart, ranked}
 use Rattle.sound_programs.proofs.Declarations.{have_forms, parts_clean}
 use Rattle.sound_programs.proofs.Empty.{back, front, full, unmapped}
-use Rattle.sound_programs.proofs.Events.{frames_apart, frames_in, frames_told, key_in, keys_differ, others_untold, ranked, timer_exists, timer_in, timers_differ, told_as}
-use Rattle.sound_programs.proofs.Repeated.{Apart, kept_all, kept_apart, not_repeated, pairs}
+use Rattle.sound_programs.proofs.Events.{formed_told, frames_in, frames_of_told, frames_told, key_in, keys_differ, others_untold, timer_exists, timer_in, timers_differ, told_as}
+use Rattle.sound_programs.proofs.Repeated.{Apart, kept_all, kept_apart, lists_all, lists_apart, not_repeated, pairs}
 
 -- ---- heads
 
@@ -71,14 +72,14 @@ module _ (names : Names) (forms : HaveForms names) where
       go (Some v) is none = by v is v.form refl none
 
   module _ (number file token : ℕ) (body : List Stmt) where
-    frames_head : (form : Head) → selectors_in (handlers_by names number file token form body) ≡ told_as frames_in (told_by_head names file token form)
+    frames_head : (form : Head) → selectors_in (handlers_by names number file token form body) ≡ frames_of_told (told_by_head names file token form)
     frames_head head.PreStart = refl
     frames_head head.Start = refl
     frames_head head.Stop = refl
-    frames_head (head.Message selectors) = append-nil (filter_map (selector_of names.base) selectors) ∙ frames_told names.base file selectors
+    frames_head (head.Message selectors) = append-nil (flat_map (ranges_of names.base) selectors) ∙ frames_told names.base file selectors
     frames_head (head.Timer name at) = go (names_timer names name)
       where
-        go : (b : Bool) → [] ≡ told_as frames_in (if b then record { file = file; token = token; purpose = ForTimer name } ∷ [] else [])
+        go : (b : Bool) → [] ≡ frames_of_told (if b then record { file = file; token = token; purpose = ForTimer name } ∷ [] else [])
         go true = refl
         go false = refl
     frames_head (head.Key value) = refl
@@ -88,7 +89,7 @@ module _ (names : Names) (forms : HaveForms names) where
     timers_head head.PreStart none = refl
     timers_head head.Start none = refl
     timers_head head.Stop none = refl
-    timers_head (head.Message selectors) none = sym (others_untold names.base file (timer_in names) (λ keys. refl) selectors)
+    timers_head (head.Message selectors) none = sym (others_untold names.base file (timer_in names) (λ channels keys. refl) selectors)
     timers_head (head.Timer name at) none = go (names_timer names name) (timer_fine (inside names number file (head.Timer name at)) at name none)
       where
         told : names_timer names name ≡ true → timer_named names name ∷ [] ≡ told_as (timer_in names) (record { file = file; token = token; purpose = ForTimer name } ∷ [])
@@ -103,7 +104,7 @@ module _ (names : Names) (forms : HaveForms names) where
     keys_head head.PreStart = refl
     keys_head head.Start = refl
     keys_head head.Stop = refl
-    keys_head (head.Message selectors) = sym (others_untold names.base file key_in (λ keys. refl) selectors)
+    keys_head (head.Message selectors) = sym (others_untold names.base file key_in (λ channels keys. refl) selectors)
     keys_head (head.Timer name at) = go (names_timer names name)
       where
         go : (b : Bool) → [] ≡ told_as key_in (if b then record { file = file; token = token; purpose = ForTimer name } ∷ [] else [])
@@ -112,28 +113,31 @@ module _ (names : Names) (forms : HaveForms names) where
     keys_head (head.Key value) = refl
     keys_head (head.Function kind name parameters at) = refl
 
-    ranks_head : (form : Head) → AllByRecursion (λ (keys : Selector). keys.rank ≤ 2) (selectors_in (handlers_by names number file token form body))
-    ranks_head head.PreStart = tt
-    ranks_head head.Start = tt
-    ranks_head head.Stop = tt
-    ranks_head (head.Message selectors) =
-        subst (λ l. AllByRecursion (λ (keys : Selector). keys.rank ≤ 2) l) (sym (append-nil (filter_map (selector_of names.base) selectors)))
-        (kept_all (selector_of names.base) (λ (keys : Selector). keys.rank ≤ 2) (λ selector keys is. ranked names.base selector keys is) selectors)
-    ranks_head (head.Timer name at) = tt
-    ranks_head (head.Key value) = tt
-    ranks_head (head.Function kind name parameters at) = tt
+    -- what heads tell is formed as what is selected
+    formed_head : (form : Head) → AllByRecursion (λ (told : Told). IsFormed told.purpose) (told_by_head names file token form)
+    formed_head head.PreStart = tt
+    formed_head head.Start = tt
+    formed_head head.Stop = tt
+    formed_head (head.Message selectors) = formed_told names.base file selectors
+    formed_head (head.Timer name at) = go (names_timer names name)
+      where
+        go : (b : Bool) → AllByRecursion (λ (told : Told). IsFormed told.purpose) (if b then record { file = file; token = token; purpose = ForTimer name } ∷ [] else [])
+        go true = (tt, tt)
+        go false = tt
+    formed_head (head.Key value) = (tt, tt)
+    formed_head (head.Function kind name parameters at) = tt
 
   -- ---- parts
 
   -- the lists of a program's event procedures are those that are told
-  frames_parts : (parts : List Part) → selectors_in (flat_map (handlers_of_part names) parts) ≡ told_as frames_in (flat_map (told_by_part names) parts)
+  frames_parts : (parts : List Part) → selectors_in (flat_map (handlers_of_part names) parts) ≡ frames_of_told (flat_map (told_by_part names) parts)
   frames_parts [] = refl
   frames_parts (Globals file declarations ∷ parts) = frames_parts parts
   frames_parts (Procedure number file procedure ∷ parts) =
       flat_map-append (λ (h : Handler). selectors_of h.event) (handlers_of_part names (Procedure number file procedure)) (flat_map (handlers_of_part names) parts)
       ∙ ap (λ l. l ++ selectors_in (flat_map (handlers_of_part names) parts)) (frames_head number file procedure.at procedure.body procedure.head)
-      ∙ ap (λ l. told_as frames_in (told_by_head names file procedure.at procedure.head) ++ l) (frames_parts parts)
-      ∙ sym (filter_map-append (λ (told : Told). frames_in told.purpose) (told_by_head names file procedure.at procedure.head) (flat_map (told_by_part names) parts))
+      ∙ ap (λ l. frames_of_told (told_by_head names file procedure.at procedure.head) ++ l) (frames_parts parts)
+      ∙ sym (flat_map-append (λ (told : Told). frames_in told.purpose) (told_by_head names file procedure.at procedure.head) (flat_map (told_by_part names) parts))
 
   timers_parts : (parts : List Part) → flat_map (part_offences names) parts ≡ [] → timers_in (flat_map (handlers_of_part names) parts) ≡ told_as (timer_in names) (flat_map (told_by_part names) parts)
   timers_parts [] none = refl
@@ -154,13 +158,12 @@ module _ (names : Names) (forms : HaveForms names) where
       ∙ ap (λ l. told_as key_in (told_by_head names file procedure.at procedure.head) ++ l) (keys_parts parts)
       ∙ sym (filter_map-append (λ (told : Told). key_in told.purpose) (told_by_head names file procedure.at procedure.head) (flat_map (told_by_part names) parts))
 
-  ranks_parts : (parts : List Part) → AllByRecursion (λ (keys : Selector). keys.rank ≤ 2) (selectors_in (flat_map (handlers_of_part names) parts))
-  ranks_parts [] = tt
-  ranks_parts (Globals file declarations ∷ parts) = ranks_parts parts
-  ranks_parts (Procedure number file procedure ∷ parts) =
-      subst (λ l. AllByRecursion (λ (keys : Selector). keys.rank ≤ 2) l) (sym (flat_map-append (λ (h : Handler). selectors_of h.event) (handlers_of_part names (Procedure number file procedure)) (flat_map (handlers_of_part names) parts)))
-      (all_append (λ (keys : Selector). keys.rank ≤ 2) (selectors_in (handlers_of_part names (Procedure number file procedure))) (selectors_in (flat_map (handlers_of_part names) parts))
-      (ranks_head number file procedure.at procedure.body procedure.head) (ranks_parts parts))
+  formed_parts : (parts : List Part) → AllByRecursion (λ (told : Told). IsFormed told.purpose) (flat_map (told_by_part names) parts)
+  formed_parts [] = tt
+  formed_parts (Globals file declarations ∷ parts) = formed_parts parts
+  formed_parts (Procedure number file procedure ∷ parts) =
+      all_append (λ (told : Told). IsFormed told.purpose) (told_by_head names file procedure.at procedure.head) (flat_map (told_by_part names) parts)
+      (formed_head number file procedure.at procedure.body procedure.head) (formed_parts parts)
 
 -- ---- typed event procedures
 
@@ -190,15 +193,40 @@ module _ (base : List DbcMessage) (program : Program) (order : List ℕ) (line :
       not_repeated (λ (a b : Told). collide a.purpose b.purpose) all_told
       (unmapped _ _ (front (purpose_offences names (parts_of program)) _ (back (outer_name_offences (parts_of program)) _ none)))
 
+  -- the keys of one purpose are apart, and those of two that do not collide
+  frames_own : (told : Told) → IsFormed told.purpose → Apart AreApart (frames_in told.purpose)
+  frames_own told formed = go told.purpose formed
+    where
+      go : (a : Purpose) → IsFormed a → Apart AreApart (frames_in a)
+      go (ForFrames channels keys) formed = own_apart channels keys formed
+      go (ForTimer name) formed = tt
+      go (ForKey key) formed = tt
+
+  frames_far : (a b : Purpose) → IsFormed a → IsFormed b → collide b a ≡ false → AreAllApart (frames_in a) (frames_in b)
+  frames_far (ForFrames here x) (ForFrames there y) one other none = cross_apart here there x y one other none
+  frames_far (ForFrames here x) (ForTimer name) one other none = far_from_none (frames_in (ForFrames here x))
+  frames_far (ForFrames here x) (ForKey key) one other none = far_from_none (frames_in (ForFrames here x))
+  frames_far (ForTimer name) b one other none = tt
+  frames_far (ForKey key) b one other none = tt
+
+  frames_ranked : (a : Purpose) → IsFormed a → AllByRecursion (λ (keys : Selector). keys.rank ≤ 2) (frames_in a)
+  frames_ranked (ForFrames channels keys) formed = ranked channels keys formed
+  frames_ranked (ForTimer name) formed = tt
+  frames_ranked (ForKey key) formed = tt
+
   -- the selectors are of known ranks and apart
   pub selectors_kept : KeepsSelectors (all_selectors (typed_program base program order line).handlers)
   selectors_kept =
       let forms = have_forms base program none in
-      let are = typed_selectors order line _ (handlers_of names program) in
+      let are = typed_selectors order line _ (handlers_of names program) ∙ frames_parts names forms (parts_of program) in
+      let formed = formed_parts names forms (parts_of program) in
       record {
-        ranks = subst (λ l. All (λ (keys : Selector). keys.rank ≤ 2) l) (sym are) (All-from_recursion (λ (keys : Selector). keys.rank ≤ 2) _ (ranks_parts names forms (parts_of program)));
-        apart = subst (λ l. AllPairs AreApart l) (sym (are ∙ frames_parts names forms (parts_of program)))
-            (pairs AreApart (told_as frames_in all_told) (kept_apart (λ (told : Told). frames_in told.purpose) (λ (a b : Told). collide b.purpose a.purpose ≡ false) AreApart (λ a b x y. frames_apart a.purpose b.purpose x y) all_told told_apart));
+        ranks = subst (λ l. All (λ (keys : Selector). keys.rank ≤ 2) l) (sym are) (All-from_recursion (λ (keys : Selector). keys.rank ≤ 2) _
+            (lists_all (λ (told : Told). frames_in told.purpose) (λ (told : Told). IsFormed told.purpose) (λ (keys : Selector). keys.rank ≤ 2)
+            (λ told is. frames_ranked told.purpose is) all_told formed));
+        apart = subst (λ l. AllPairs AreApart l) (sym are)
+            (pairs AreApart (frames_of_told all_told) (lists_apart (λ (told : Told). frames_in told.purpose) (λ (told : Told). IsFormed told.purpose)
+            (λ (a b : Told). collide b.purpose a.purpose ≡ false) AreApart frames_own (λ a b one other none. frames_far a.purpose b.purpose one other none) all_told formed told_apart));
       }
 
   -- the timers exist and differ

@@ -20,7 +20,8 @@ use Rattle.capl_tree.specs.declared.expr.Expr.{Expr}
 use Rattle.capl_tree.specs.declared.procedure.Head.{Head}
 use Rattle.capl_tree.specs.declared.procedure.Head.TheVariants as head
 use Rattle.capl_tree.specs.declared.procedure.Sel.{Sel}
-use Rattle.capl_tree.specs.declared.procedure.Sel.TheVariants as sel
+use Rattle.capl_tree.specs.declared.procedure.SelWhat.{SelWhat}
+use Rattle.capl_tree.specs.declared.procedure.SelWhat.TheVariants as selected
 use Rattle.capl_tree.specs.declared.statement.Stmt.{Stmt}
 use Rattle.typed_tree.specs.declared.program.THandler.{THandler}
 use Rattle.typed_tree.specs.declared.program.Typed.{Typed}
@@ -33,7 +34,7 @@ use Rattle.capl_meaning.specs.ExpressionRules.{offence}
 use Rattle.capl_meaning.specs.Offences.{part_offences}
 use Rattle.capl_meaning.specs.Procedure.{Handler, event_of, handlers_of_part, timer_named}
 use Rattle.capl_meaning.specs.ProcedureRules as rules
-use Rattle.capl_meaning.specs.ProcedureRules.{ForFrames, ForKey, ForTimer, Purpose, Told, collide, head_offences, keys_between, names_timer, overlap, selector_of, selector_of_message, selector_of_numbers, selector_place, told_by_head, told_by_part, told_by_selector}
+use Rattle.capl_meaning.specs.ProcedureRules.{Channels, ForFrames, ForKey, ForTimer, Purpose, Told, channels_of, collide, head_offences, keys_on, names_timer, ranges_of, selector_of, selector_place, told_by_head, told_by_part, told_by_selector}
 use Rattle.capl_meaning.specs.Store.{same_key, timer_number}
 use Rattle.capl_meaning.specs.Store as store
 use Rattle.typed_laws.specs.Laid.{HasForm, IsAmong}
@@ -43,16 +44,17 @@ use Rattle.typed_laws.proofs.Places.{found_among}
 use Rattle.typed_source.specs.Program.{typed_handlers}
 use Rattle.typed_source.specs.Sound.{HasTables}
 use Rattle.sound_programs.specs.Given.{HaveForms}
+use Rattle.sound_programs.proofs.ChannelKeys.{IsFormed, selected_formed}
 use Rattle.sound_programs.proofs.Empty.{back, front, full}
 use Rattle.sound_programs.proofs.Repeated.{Apart, kept_all, kept_apart, pairs}
 use Rattle.sound_programs.proofs.Written.{and_both}
 
 -- ---- what is told
 
--- the frames that a purpose is for
-abbrev pub frames_in : Purpose → Option Selector
-frames_in (ForFrames selector) = Some selector
-frames_in _ = None
+-- the selection keys of the frames that a purpose is for
+abbrev pub frames_in : Purpose → List Selector
+frames_in (ForFrames channels keys) = keys_on channels keys
+frames_in _ = []
 
 -- the key
 abbrev pub key_in : Purpose → Option (Option ℕ)
@@ -68,51 +70,40 @@ timer_in names _ = None
 abbrev pub told_as : {X : Type 0} → (Purpose → Option X) → List Told → List X
 told_as p all = filter_map (λ (told : Told). p told.purpose) all
 
+-- the selection keys of all that is told
+abbrev pub frames_of_told : List Told → List Selector
+frames_of_told all = flat_map (λ (told : Told). frames_in told.purpose) all
+
 -- selectors tell what they select, and nothing else
 module _ (base : List DbcMessage) (file : ℕ) where
-  pub frames_told : (selectors : List Sel) → filter_map (selector_of base) selectors ≡ told_as frames_in (filter_map (told_by_selector base file) selectors)
+  pub frames_told : (selectors : List Sel) → flat_map (ranges_of base) selectors ≡ frames_of_told (filter_map (told_by_selector base file) selectors)
   frames_told [] = refl
-  frames_told (selector ∷ rest) = go (selector_of base selector) (frames_told rest)
+  frames_told (selector ∷ rest) = go (selector_of base selector.what) (frames_told rest)
     where
-      go : (o : Option Selector) → filter_map (selector_of base) rest ≡ told_as frames_in (filter_map (told_by_selector base file) rest) → cons_option o (filter_map (selector_of base) rest) ≡
-          told_as frames_in (cons_option (option_map (λ keys. record { file = file; token = selector_place selector; purpose = ForFrames keys }) o) (filter_map (told_by_selector base file) rest))
+      go : (o : Option Selector) → flat_map (ranges_of base) rest ≡ frames_of_told (filter_map (told_by_selector base file) rest)
+          → option_map_or (keys_on (channels_of selector.chan)) o [] ++ flat_map (ranges_of base) rest
+          ≡ frames_of_told (cons_option (option_map (λ keys. record { file = file; token = selector_place selector; purpose = ForFrames (channels_of selector.chan) keys }) o) (filter_map (told_by_selector base file) rest))
       go None e = e
-      go (Some keys) e = ap (λ l. keys ∷ l) e
+      go (Some keys) e = ap (λ l. keys_on (channels_of selector.chan) keys ++ l) e
 
-  pub others_untold : {X : Type 0} (p : Purpose → Option X) → ((keys : Selector) → p (ForFrames keys) ≡ None) → (selectors : List Sel) → told_as p (filter_map (told_by_selector base file) selectors) ≡ []
+  pub others_untold : {X : Type 0} (p : Purpose → Option X) → ((channels : Channels) (keys : Selector) → p (ForFrames channels keys) ≡ None) → (selectors : List Sel) → told_as p (filter_map (told_by_selector base file) selectors) ≡ []
   others_untold p none [] = refl
-  others_untold p none (selector ∷ rest) = go (selector_of base selector) (others_untold p none rest)
+  others_untold p none (selector ∷ rest) = go (selector_of base selector.what) (others_untold p none rest)
     where
       go : (o : Option Selector) → told_as p (filter_map (told_by_selector base file) rest) ≡ [] →
-          told_as p (cons_option (option_map (λ keys. record { file = file; token = selector_place selector; purpose = ForFrames keys }) o) (filter_map (told_by_selector base file) rest)) ≡ []
+          told_as p (cons_option (option_map (λ keys. record { file = file; token = selector_place selector; purpose = ForFrames (channels_of selector.chan) keys }) o) (filter_map (told_by_selector base file) rest)) ≡ []
       go None e = e
-      go (Some keys) e = ap (λ o. cons_option o (told_as p (filter_map (told_by_selector base file) rest))) (none keys) ∙ e
+      go (Some keys) e = ap (λ o. cons_option o (told_as p (filter_map (told_by_selector base file) rest))) (none (channels_of selector.chan) keys) ∙ e
 
--- ---- ranks
-
-between : (rank : ℕ) (low high : Option ℕ) (keys : Selector) → keys_between rank low high ≡ Some keys → keys.rank ≡ rank
-between rank None high keys is = absurd (let f : None ≡ Some keys = is in cc)
-between rank (Some least) None keys is = absurd (let f : None ≡ Some keys = is in cc)
-between rank (Some least) (Some most) keys is = ap (λ (o : Option Selector). option_map_or (λ (k : Selector). k.rank) o rank) (sym is)
-
--- a selector selects at a known rank
-pub ranked : (base : List DbcMessage) (selector : Sel) (keys : Selector) → selector_of base selector ≡ Some keys → keys.rank ≤ 2
-ranked base (sel.Any at) keys is = let e : keys.rank ≡ 2 = between 2 (Some 0) (Some 0xFFFFFFFF) keys is in omega (arith, e)
-ranked base (sel.Name name at) keys is = go (message_named base name) is
-  where
-    by : (m : DbcMessage) (b : Bool) → (if b then keys_between 0 (Some m.id) (Some m.id) else None) ≡ Some keys → keys.rank ≤ 2
-    by m true e = let f : keys.rank ≡ 0 = between 0 (Some m.id) (Some m.id) keys e in omega (arith, f)
-    by m false e = absurd (let f : None ≡ Some keys = e in cc)
-
-    go : (o : Option DbcMessage) → option_and_then selector_of_message o ≡ Some keys → keys.rank ≤ 2
-    go None e = absurd (let f : None ≡ Some keys = e in cc)
-    go (Some m) e = by m (is_in_range m.id) e
-ranked base (sel.Ids low None at) keys is = let e : keys.rank ≡ 0 = between 0 (rules.key_of (rules.number_in low)) (rules.key_of (rules.number_in low)) keys is in omega (arith, e)
-ranked base (sel.Ids low (Some high) at) keys is = go (rules.is_range (rules.number_in low) (rules.number_in high)) is
-  where
-    go : (b : Bool) → (if b then keys_between 1 (rules.key_of (rules.number_in low)) (rules.key_of (rules.number_in high)) else None) ≡ Some keys → keys.rank ≤ 2
-    go true e = let f : keys.rank ≡ 1 = between 1 (rules.key_of (rules.number_in low)) (rules.key_of (rules.number_in high)) keys e in omega (arith, f)
-    go false e = absurd (let f : None ≡ Some keys = e in cc)
+  -- what they tell is formed as what is selected
+  pub formed_told : (selectors : List Sel) → AllByRecursion (λ (told : Told). IsFormed told.purpose) (filter_map (told_by_selector base file) selectors)
+  formed_told [] = tt
+  formed_told (selector ∷ rest) = go (selector_of base selector.what) refl (formed_told rest)
+    where
+      go : (o : Option Selector) → selector_of base selector.what ≡ o → AllByRecursion (λ (told : Told). IsFormed told.purpose) (filter_map (told_by_selector base file) rest)
+          → AllByRecursion (λ (told : Told). IsFormed told.purpose) (cons_option (option_map (λ keys. record { file = file; token = selector_place selector; purpose = ForFrames (channels_of selector.chan) keys }) o) (filter_map (told_by_selector base file) rest))
+      go None is all = all
+      go (Some keys) is all = (selected_formed base selector.what keys is, all)
 
 -- ---- positions
 
@@ -228,9 +219,9 @@ module _ (names : Names) where
       let others : timer_number names v.variable ≡ n = sym (ap (λ o. option_map_or (timer_number names) o 0) v.is) ∙ second.1 in
       let name : y ≡ x = v.same ∙ sym (one_timer names u.variable v.variable u.unit v.unit u.form v.form (number ∙ same ∙ sym others)) ∙ sym u.same in
       let e : true ≡ false = sym ((bytes_eq-Decides y x).1 name) ∙ apart in cc
-  timers_differ (ForTimer x) (ForFrames keys) m n apart one other same = let f : None ≡ Some n = other in cc
+  timers_differ (ForTimer x) (ForFrames channels keys) m n apart one other same = let f : None ≡ Some n = other in cc
   timers_differ (ForTimer x) (ForKey key) m n apart one other same = let f : None ≡ Some n = other in cc
-  timers_differ (ForFrames keys) b m n apart one other same = let f : None ≡ Some m = one in cc
+  timers_differ (ForFrames channels keys) b m n apart one other same = let f : None ≡ Some m = one in cc
   timers_differ (ForKey key) b m n apart one other same = let f : None ≡ Some m = one in cc
 
   -- the timer of a procedure exists
@@ -240,39 +231,10 @@ module _ (names : Names) where
       let u = timer_there names x given.0 in
       let number : timer_number names u.variable ≡ n = sym (ap (λ o. option_map_or (timer_number names) o 0) u.is) ∙ given.1 in
       subst (λ n. n < length typed.timers) number (tables.timers u.variable u.unit u.form)
-  timer_exists typed tables (ForFrames keys) n is = absurd (let f : None ≡ Some n = is in cc)
+  timer_exists typed tables (ForFrames channels keys) n is = absurd (let f : None ≡ Some n = is in cc)
   timer_exists typed tables (ForKey key) n is = absurd (let f : None ≡ Some n = is in cc)
 
--- ---- frames and keys
-
-is_no_more : (m n : ℕ) → m ≤ n → nat_le m n ≡ true
-is_no_more m n h = go (leb_tells m n)
-  where
-    go : ((nat_le m n ≡ true) × (m ≤ n)) ⊎ ((nat_le m n ≡ false) × (n < m)) → nat_le m n ≡ true
-    go (inl is) = is.0
-    go (inr is) = absurd (omega (arith, h, is.1))
-
--- the selectors of two procedures are apart
-pub frames_apart : (a b : Purpose) (x y : Selector) → collide b a ≡ false → frames_in a ≡ Some x → frames_in b ≡ Some y → AreApart x y
-frames_apart (ForFrames u) (ForFrames v) x y apart one other rank key here there =
-    let is : u ≡ x = let f : Some u ≡ Some x = one in cc in
-    let same : v ≡ y = let f : Some v ≡ Some y = other in cc in
-    let ranks : v.rank == u.rank ≡ true = subst (λ n. v.rank == n ≡ true) (ap (λ (k : Selector). k.rank) same ∙ sym rank ∙ sym (ap (λ (k : Selector). k.rank) is)) (nat_eq_equiv.refl v.rank) in
-    let low : v.low ≡ y.low = ap (λ (k : Selector). k.low) same in
-    let high : v.high ≡ y.high = ap (λ (k : Selector). k.high) same in
-    let first : u.low ≡ x.low = ap (λ (k : Selector). k.low) is in
-    let last : u.high ≡ x.high = ap (λ (k : Selector). k.high) is in
-    let a = here.from in
-    let b = here.to in
-    let c = there.from in
-    let d = there.to in
-    let left : nat_le v.low u.high ≡ true = is_no_more v.low u.high (omega (arith, low, last, b, c)) in
-    let right : nat_le u.low v.high ≡ true = is_no_more u.low v.high (omega (arith, first, high, a, d)) in
-    let e : true ≡ false = sym (ap (λ p. p && (nat_le v.low u.high && nat_le u.low v.high)) ranks ∙ ap (λ p. p && nat_le u.low v.high) left ∙ right) ∙ apart in cc
-frames_apart (ForFrames u) (ForTimer name) x y apart one other rank key here there = absurd (let f : None ≡ Some y = other in cc)
-frames_apart (ForFrames u) (ForKey told) x y apart one other rank key here there = absurd (let f : None ≡ Some y = other in cc)
-frames_apart (ForTimer name) b x y apart one other rank key here there = absurd (let f : None ≡ Some x = one in cc)
-frames_apart (ForKey told) b x y apart one other rank key here there = absurd (let f : None ≡ Some x = one in cc)
+-- ---- keys
 
 -- the keys of two procedures differ
 pub keys_differ : (a b : Purpose) (x y : Option ℕ) → collide b a ≡ false → key_in a ≡ Some x → key_in b ≡ Some y → x ≢ y
@@ -285,9 +247,9 @@ keys_differ (ForKey (Some m)) (ForKey (Some n)) x y apart one other same =
     let number : m ≡ n = cc in
     let h : n == m ≡ true = subst (λ k. n == k ≡ true) (sym number) (nat_eq_equiv.refl n) in
     let e : true ≡ false = sym h ∙ apart in cc
-keys_differ (ForKey (Some m)) (ForFrames keys) x y apart one other same = let f : None ≡ Some y = other in cc
-keys_differ (ForKey None) (ForFrames keys) x y apart one other same = let f : None ≡ Some y = other in cc
+keys_differ (ForKey (Some m)) (ForFrames channels keys) x y apart one other same = let f : None ≡ Some y = other in cc
+keys_differ (ForKey None) (ForFrames channels keys) x y apart one other same = let f : None ≡ Some y = other in cc
 keys_differ (ForKey (Some m)) (ForTimer name) x y apart one other same = let f : None ≡ Some y = other in cc
 keys_differ (ForKey None) (ForTimer name) x y apart one other same = let f : None ≡ Some y = other in cc
-keys_differ (ForFrames keys) b x y apart one other same = let f : None ≡ Some x = one in cc
+keys_differ (ForFrames channels keys) b x y apart one other same = let f : None ≡ Some x = one in cc
 keys_differ (ForTimer name) b x y apart one other same = let f : None ≡ Some x = one in cc

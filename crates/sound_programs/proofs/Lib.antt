@@ -14,6 +14,7 @@ pub mod Declarations
 pub mod Formats
 pub mod Texts
 pub mod Parts
+pub mod ChannelKeys
 pub mod Events
 pub mod EventLists
 pub mod Parameters

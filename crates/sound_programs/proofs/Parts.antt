@@ -1,5 +1,5 @@
 -- What is known of the procedures of a program that breaks no rule.
-use Rattle.std.proofs.Common.{◌≡◌, ℕ, suc, ◌≤◌, ◌<◌, ◌^◌, inl, inr, Bool, true, false, List, [], ◌∷◌, ◌++◌, length, Option, Some, None, refl, sym, ap, ◌∙◌, subst, arith}
+use Rattle.std.proofs.Common.{◌≡◌, ℕ, suc, ◌*◌, ◌≤◌, ◌<◌, ◌^◌, length-append, inl, inr, Bool, true, false, List, [], ◌∷◌, ◌++◌, length, Option, Some, None, refl, sym, ap, ◌∙◌, subst, arith}
 use Rattle.std.specs.Prelude.{⊤, ◌==◌, All, filter_map, find, flat_map, is_some}
 use Rattle.std.specs.List.{AllByRecursion, cons_option}
 use Rattle.std.specs.Option.{option_map_or}
@@ -23,7 +23,7 @@ use Rattle.capl_meaning.specs.Names.{Function, Names, Scope, function_by, functi
 use Rattle.capl_meaning.specs.Calls.{function_numbered}
 use Rattle.capl_meaning.specs.Offences.{part_offences}
 use Rattle.capl_meaning.specs.Procedure.{Handler, event_of, handlers_of, handlers_of_part}
-use Rattle.capl_meaning.specs.ProcedureRules.{head_offences, inner_name_offences, selector_of}
+use Rattle.capl_meaning.specs.ProcedureRules.{Both, Channels, First, Second, all_on, channels_of, head_offences, identifiers_on, inner_name_offences, keys_on, ranges_of, selector_of}
 use Rattle.capl_meaning.specs.StatementRules.{in_body, statement_offences}
 use Rattle.typed_laws.specs.Laid.{IsAmong}
 use Rattle.typed_laws.proofs.Declared.{all_append}
@@ -112,13 +112,29 @@ pub record IsGoodHandler (names : Names) (h : Handler) : Type 0 where
   pub gives : is_some h.scope.gives ≡ false
   pub body : IsGoodBody h.scope h.body
 
-few_selected : (base : List DbcMessage) (selectors : List Sel) → length (filter_map (selector_of base) selectors) ≤ length selectors
-few_selected base [] = omega arith
-few_selected base (selector ∷ rest) = go (selector_of base selector) (few_selected base rest)
+-- a selector stands for two ranges at most
+few_on : (channels : Channels) (keys : Selector) → length (keys_on channels keys) ≤ 2
+few_on channels keys = go (keys.rank == 2) channels
   where
-    go : (o : Option Selector) → length (filter_map (selector_of base) rest) ≤ length rest → length (cons_option o (filter_map (selector_of base) rest)) ≤ suc (length rest)
-    go None h = omega (arith, h)
-    go (Some keys) h = omega (arith, h)
+    go : (b : Bool) (channels : Channels) → length (if b then all_on channels else identifiers_on channels keys) ≤ 2
+    go true Both = omega arith
+    go true First = omega arith
+    go true Second = omega arith
+    go false Both = omega arith
+    go false First = omega arith
+    go false Second = omega arith
+
+few_selected : (base : List DbcMessage) (selectors : List Sel) → length (flat_map (ranges_of base) selectors) ≤ 2 * length selectors
+few_selected base [] = omega arith
+few_selected base (selector ∷ rest) =
+    let one : length (ranges_of base selector) ≤ 2 = go (selector_of base selector.what) in
+    let more = few_selected base rest in
+    let both = length-append (ranges_of base selector) (flat_map (ranges_of base) rest) in
+    omega (arith, one, more, both)
+  where
+    go : (o : Option Selector) → length (option_map_or (keys_on (channels_of selector.chan)) o []) ≤ 2
+    go None = omega arith
+    go (Some keys) = few_on (channels_of selector.chan) keys
 
 good_handler : (names : Names) (number file token : ℕ) (form : Head) (body : List Stmt) → IsSmallHead form → IsGoodBody (inside names number file form) body →
     AllByRecursion (IsGoodHandler names) (option_map_or (λ (e : Event). record {
@@ -133,7 +149,7 @@ good_handler names number file token head.PreStart body few good = (record { nam
 good_handler names number file token head.Start body few good = (record { named = refl; few = omega arith; gives = refl; body = good }, tt)
 good_handler names number file token head.Stop body few good = (record { named = refl; few = omega arith; gives = refl; body = good }, tt)
 good_handler names number file token (head.Message selectors) body few good =
-    (record { named = refl; few = (let most : length (filter_map (selector_of names.base) selectors) ≤ length selectors = few_selected names.base selectors in omega (arith, most, few)); gives = refl; body = good }, tt)
+    (record { named = refl; few = (let most : length (flat_map (ranges_of names.base) selectors) ≤ 2 * length selectors = few_selected names.base selectors in omega (arith, most, few)); gives = refl; body = good }, tt)
 good_handler names number file token (head.Timer name at) body few good = (record { named = refl; few = omega arith; gives = refl; body = good }, tt)
 good_handler names number file token (head.Key value) body few good = (record { named = refl; few = omega arith; gives = refl; body = good }, tt)
 

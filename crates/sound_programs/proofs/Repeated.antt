@@ -1,6 +1,6 @@
 -- Things of which none is the same as an earlier one.
 use Rattle.std.proofs.Common.{◌≡◌, ◌≢◌, ℕ, zero, suc, ◌<◌, Bool, true, false, List, [], ◌∷◌, ◌++◌, length, Option, Some, None, refl, sym, ap, ◌∙◌, arith}
-use Rattle.std.specs.Prelude.{⊤, AllPairs, filter_map, if◌then◌else◌}
+use Rattle.std.specs.Prelude.{⊤, AllPairs, filter_map, flat_map, if◌then◌else◌}
 use Rattle.std.specs.List.{AllByRecursion, cons_option, list_any}
 use Rattle.std.proofs.lemmas.List.Elements.{All-from_recursion, recursion_from_All}
 use Rattle.capl_meaning.specs.StatementRules.{repeated}
@@ -89,3 +89,47 @@ module _ {A X : Type 0} (p : A → Option X) where
       go : (o : Option X) → p a ≡ o → AllByRecursion P (filter_map p rest) → AllByRecursion P (cons_option o (filter_map p rest))
       go None e others = others
       go (Some x) e others = (each a x e, others)
+
+-- ---- lists that are made of things
+
+-- what holds of all of two lists holds of all of both
+all_of_both : {X : Type 0} (P : X → Type 0) (xs ys : List X) → AllByRecursion P xs → AllByRecursion P ys → AllByRecursion P (xs ++ ys)
+all_of_both P [] ys some others = others
+all_of_both P (x ∷ xs) ys some others = (some.0, all_of_both P xs ys some.1 others)
+
+-- things that are apart, before others that are apart and from which they are
+apart_both : {X : Type 0} (R : X → X → Type 0) (xs ys : List X) → Apart R xs → Apart R ys → AllByRecursion (λ x. AllByRecursion (λ y. R x y) ys) xs → Apart R (xs ++ ys)
+apart_both R [] ys some others far = others
+apart_both R (x ∷ xs) ys some others far = (all_of_both (λ y. R x y) xs ys some.0 far.0, apart_both R xs ys some.1 others far.1)
+
+module _ {A X : Type 0} (p : A → List X) where
+  abbrev FarFrom : (X → X → Type 0) → List X → List X → Type 0
+  FarFrom R xs ys = AllByRecursion (λ x. AllByRecursion (λ y. R x y) ys) xs
+
+  far_from_none : (R : X → X → Type 0) (xs : List X) → FarFrom R xs []
+  far_from_none R [] = tt
+  far_from_none R (x ∷ xs) = (tt, far_from_none R xs)
+
+  far_from_both : (R : X → X → Type 0) (xs ys zs : List X) → FarFrom R xs ys → FarFrom R xs zs → FarFrom R xs (ys ++ zs)
+  far_from_both R [] ys zs one other = tt
+  far_from_both R (x ∷ xs) ys zs one other = (all_of_both (λ y. R x y) ys zs one.0 other.0, far_from_both R xs ys zs one.1 other.1)
+
+  far_from_later : (P : A → Type 0) (S : A → A → Type 0) (R : X → X → Type 0) → ((a b : A) → P a → P b → S a b → FarFrom R (p a) (p b))
+      → (a : A) → P a → (bs : List A) → AllByRecursion P bs → AllByRecursion (λ b. S a b) bs → FarFrom R (p a) (flat_map p bs)
+  far_from_later P S R far a is [] all apart = far_from_none R (p a)
+  far_from_later P S R far a is (b ∷ bs) all apart =
+      far_from_both R (p a) (p b) (flat_map p bs) (far a b is all.0 apart.0) (far_from_later P S R far a is bs all.1 apart.1)
+
+  -- things that are apart make lists whose items are
+  pub lists_apart : (P : A → Type 0) (S : A → A → Type 0) (R : X → X → Type 0) → ((a : A) → P a → Apart R (p a))
+      → ((a b : A) → P a → P b → S a b → AllByRecursion (λ x. AllByRecursion (λ y. R x y) (p b)) (p a))
+      → (xs : List A) → AllByRecursion P xs → Apart S xs → Apart R (flat_map p xs)
+  lists_apart P S R own far [] all apart = tt
+  lists_apart P S R own far (a ∷ rest) all apart =
+      apart_both R (p a) (flat_map p rest) (own a all.0) (lists_apart P S R own far rest all.1 apart.1)
+      (far_from_later P S R far a all.0 rest all.1 apart.0)
+
+  -- what holds of all items
+  pub lists_all : (P : A → Type 0) (Q : X → Type 0) → ((a : A) → P a → AllByRecursion Q (p a)) → (xs : List A) → AllByRecursion P xs → AllByRecursion Q (flat_map p xs)
+  lists_all P Q each [] all = tt
+  lists_all P Q each (a ∷ rest) all = all_of_both Q (p a) (flat_map p rest) (each a all.0) (lists_all P Q each rest all.1)

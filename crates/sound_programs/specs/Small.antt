@@ -1,5 +1,5 @@
 -- Parts of a source whose numbers, characters, texts and lists, as far as a typed program keeps them as they
--- are, fit: numbers below 2^64, bytes, and fewer than 2^32 items.
+-- are, fit: numbers below 2^64, bytes, fewer than 2^32 items, and fewer than 2^31 selectors of a procedure.
 use Rattle.std.specs.Prelude.{ℕ, ◌<◌, ◌^◌, List, length, IfSome, ⊤}
 use Rattle.std.specs.List.{AllByRecursion}
 use Rattle.capl_tree.specs.declared.expr.Expr.{Expr, Row_of-Expr, end_of-Expr, more_of-Expr, items-the_row-Expr}
@@ -102,9 +102,9 @@ abbrev mutual
   AreSmallGroups (more_of-Group labels shape body rest) =
       IsShortList labels × IsShortList (items-the_row-Stmt _ body) × AreSmallStmts body × AreSmallGroups rest
 
--- the head of a procedure
+-- the head of a procedure; a selector may stand for two ranges of selection keys
 abbrev pub IsSmallHead : Head → Type 0
-IsSmallHead (head.Message selectors) = IsShortList selectors
+IsSmallHead (head.Message selectors) = length selectors < 2 ^ 31
 IsSmallHead (head.Function kind name parameters at) = IsShortList parameters
 IsSmallHead _ = ⊤
 
