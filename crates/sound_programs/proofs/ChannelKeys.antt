@@ -1,11 +1,10 @@
 -- The selection keys of selectors on channels: those of one selector are apart, and those of two that do not
 -- collide.
-use Rattle.std.proofs.Common.{◌≡◌, ◌≢◌, ℕ, ◌+◌, ◌-◌, ◌≤◌, ◌<◌, ◌^◌, inl, inr, Bool, true, false, ◌&&◌, ◌⊎◌, List, [], ◌∷◌, ◌++◌, Option, Some, None, refl, sym, ap, ◌∙◌, subst, arith}
+use Rattle.std.proofs.Common.{◌≡◌, ◌≢◌, ℕ, ◌+◌, ◌-◌, ◌≤◌, ◌<◌, ◌^◌, inl, inr, Bool, true, false, ◌&&◌, ◌⊎◌, List, [], ◌∷◌, Option, Some, None, refl, sym, ap, ◌∙◌, subst, arith}
 use Rattle.std.specs.Prelude.{⊤, ◌==◌, if◌then◌else◌, nat_le}
 use Rattle.std.specs.List.{AllByRecursion}
 use Rattle.std.specs.Option.{option_and_then, option_map}
-use Rattle.std.proofs.lemmas.Bool.{eqb-true}
-use Rattle.std.proofs.lemmas.Bool.Decides.{leb_tells}
+use Rattle.std.proofs.lemmas.Bool.{eqb-true, le-leb, leb-true}
 use Rattle.std.proofs.lemmas.Cmp.{nat_eq_equiv}
 use Rattle.run_effects.specs.declared.event.Selector.{Selector}
 use Rattle.run_effects.specs.Event.{AreApart, IsWithin}
@@ -13,7 +12,7 @@ use Rattle.dbc_reader.specs.declared.message.DbcMessage.{DbcMessage}
 use Rattle.capl_tree.specs.declared.procedure.SelWhat.{SelWhat}
 use Rattle.capl_tree.specs.declared.procedure.SelWhat.TheVariants as selected
 use Rattle.capl_meaning.specs.DeclarationRules.{is_identifier, is_in_range}
-use Rattle.capl_meaning.specs.ProcedureRules.{Both, Channels, First, ForFrames, ForKey, ForTimer, Number, Purpose, Second, all_on, collide, does_not_fall, identifiers_on, is_range, key_of, keys_between, keys_on, names_identifier, number_in, on_second, overlap, same_form, selector_of, selector_of_message, share_channel}
+use Rattle.capl_meaning.specs.ProcedureRules.{Both, Channels, First, ForFrames, Number, Purpose, Second, all_on, does_not_fall, identifiers_on, is_range, key_of, keys_between, keys_on, names_identifier, number_in, on_second, overlap, same_form, selector_of, selector_of_message, share_channel}
 use Rattle.capl_meaning.specs.Variable.{message_named}
 use Rattle.sound_programs.proofs.Repeated.{Apart}
 use Rattle.sound_programs.proofs.Written.{and_both}
@@ -61,18 +60,19 @@ key_formed : (value : Option ℕ) (extended : Bool) (key : ℕ)
     → (if is_identifier value extended then option_map (λ id. if extended then 2 ^ 31 + id else id) value else None) ≡ Some key
     → IsKey extended key
 key_formed None extended key is = absurd (let f : None ≡ Some key = is in cc)
-key_formed (Some id) true key is = go (leb_tells id 0x1FFFFFFF)
+key_formed (Some id) true key is = go (nat_le id 0x1FFFFFFF) refl is
   where
-    go : ((nat_le id 0x1FFFFFFF ≡ true) × (id ≤ 0x1FFFFFFF)) ⊎ ((nat_le id 0x1FFFFFFF ≡ false) × (0x1FFFFFFF < id)) → IsKey true key
-    go (inl yes) =
-        let same : 2 ^ 31 + id ≡ key = some_key (2 ^ 31 + id) key (sym (ap (λ b. if b then Some (2 ^ 31 + id) else None) yes.0) ∙ is) in
-        (omega (arith, same), omega (arith, same, yes.1))
-    go (inr no) = absurd (let f : None ≡ Some key = sym (ap (λ b. if b then Some (2 ^ 31 + id) else None) no.0) ∙ is in cc)
-key_formed (Some id) false key is = go (leb_tells id 0x7FF)
+    go : (b : Bool) → nat_le id 0x1FFFFFFF ≡ b → (if b then Some (2 ^ 31 + id) else None) ≡ Some key → IsKey true key
+    go true fits e =
+        let same = some_key (2 ^ 31 + id) key e in
+        let small = leb-true id 0x1FFFFFFF fits in
+        (omega (arith, same), omega (arith, same, small))
+    go false fits e = absurd (let f : None ≡ Some key = e in cc)
+key_formed (Some id) false key is = go (nat_le id 0x7FF) refl is
   where
-    go : ((nat_le id 0x7FF ≡ true) × (id ≤ 0x7FF)) ⊎ ((nat_le id 0x7FF ≡ false) × (0x7FF < id)) → IsKey false key
-    go (inl yes) = let same : id ≡ key = some_key id key (sym (ap (λ b. if b then Some id else None) yes.0) ∙ is) in omega (arith, same, yes.1)
-    go (inr no) = absurd (let f : None ≡ Some key = sym (ap (λ b. if b then Some id else None) no.0) ∙ is in cc)
+    go : (b : Bool) → nat_le id 0x7FF ≡ b → (if b then Some id else None) ≡ Some key → IsKey false key
+    go true fits e = omega (arith, some_key id key e, leb-true id 0x7FF fits)
+    go false fits e = absurd (let f : None ≡ Some key = e in cc)
 
 both_keys : (extended : Bool) (low high : ℕ) → IsKey extended low → IsKey extended high → AreIdentifiers low high
 both_keys true low high least most = inr (least.0, most.1)
@@ -94,41 +94,25 @@ numbers_formed rank low high keys lesser same is =
     inr (omega (arith, made.rank_is, lesser), both_keys high.extended keys.low keys.high (subst (λ e. IsKey e keys.low) same least) most)
 
 -- a message of the database
+in_range_formed : (id : ℕ) → is_in_range id ≡ true → AreIdentifiers id id
+in_range_formed id ranged = go (nat_le (2 ^ 31) id) refl ranged
+  where
+    go : (b : Bool) → nat_le (2 ^ 31) id ≡ b → (if b then nat_le (id - 2 ^ 31) 0x1FFFFFFF else nat_le id 0x7FF) ≡ true → AreIdentifiers id id
+    go true great fits =
+        let least = leb-true (2 ^ 31) id great in
+        inr (least, omega (arith, least, leb-true (id - 2 ^ 31) 0x1FFFFFFF fits))
+    go false small fits = inl (omega (arith, leb-true id 0x7FF fits))
+
 message_formed : (id : ℕ) (keys : Selector) → (if is_in_range id then keys_between 0 (Some id) (Some id) else None) ≡ Some keys → IsSelected keys
 message_formed id keys is = go (is_in_range id) refl is
   where
-    standard : (b : Bool) → nat_le id 0x7FF ≡ b → b ≡ true → id ≤ 0x7FF
-    standard b e yes = by (leb_tells id 0x7FF)
-      where
-        by : ((nat_le id 0x7FF ≡ true) × (id ≤ 0x7FF)) ⊎ ((nat_le id 0x7FF ≡ false) × (0x7FF < id)) → id ≤ 0x7FF
-        by (inl is) = is.1
-        by (inr is) = absurd (let f : false ≡ true = sym is.0 ∙ e ∙ yes in cc)
-
-    extended : (b : Bool) → nat_le (id - 2 ^ 31) 0x1FFFFFFF ≡ b → b ≡ true → id - 2 ^ 31 ≤ 0x1FFFFFFF
-    extended b e yes = by (leb_tells (id - 2 ^ 31) 0x1FFFFFFF)
-      where
-        by : ((nat_le (id - 2 ^ 31) 0x1FFFFFFF ≡ true) × (id - 2 ^ 31 ≤ 0x1FFFFFFF)) ⊎ ((nat_le (id - 2 ^ 31) 0x1FFFFFFF ≡ false) × (0x1FFFFFFF < id - 2 ^ 31)) → id - 2 ^ 31 ≤ 0x1FFFFFFF
-        by (inl is) = is.1
-        by (inr is) = absurd (let f : false ≡ true = sym is.0 ∙ e ∙ yes in cc)
-
-    ranged : is_in_range id ≡ true → AreIdentifiers id id
-    ranged yes = by (leb_tells (2 ^ 31) id)
-      where
-        by : ((nat_le (2 ^ 31) id ≡ true) × (2 ^ 31 ≤ id)) ⊎ ((nat_le (2 ^ 31) id ≡ false) × (id < 2 ^ 31)) → AreIdentifiers id id
-        by (inl great) =
-            let fits = extended _ refl (sym (ap (λ b. if b then nat_le (id - 2 ^ 31) 0x1FFFFFFF else nat_le id 0x7FF) great.0) ∙ yes) in
-            inr (great.1, omega (arith, fits, great.1))
-        by (inr small) =
-            let fits = standard _ refl (sym (ap (λ b. if b then nat_le (id - 2 ^ 31) 0x1FFFFFFF else nat_le id 0x7FF) small.0) ∙ yes) in
-            inl (omega (arith, fits))
-
     go : (b : Bool) → is_in_range id ≡ b → (if b then keys_between 0 (Some id) (Some id) else None) ≡ Some keys → IsSelected keys
-    go true yes e =
+    go true ranged e =
         let made = between 0 (Some id) (Some id) keys e in
         let low = some_key id keys.low made.from in
         let high = some_key id keys.high made.to in
-        inr (omega (arith, made.rank_is), subst (λ h. AreIdentifiers keys.low h) high (subst (λ l. AreIdentifiers l id) low (ranged yes)))
-    go false yes e = absurd (let f : None ≡ Some keys = e in cc)
+        inr (omega (arith, made.rank_is), subst (λ h. AreIdentifiers keys.low h) high (subst (λ l. AreIdentifiers l id) low (in_range_formed id ranged)))
+    go false ranged e = absurd (let f : None ≡ Some keys = e in cc)
 
 -- what a selector selects is formed so
 pub selected_formed : (base : List DbcMessage) (what : SelWhat) (keys : Selector) → selector_of base what ≡ Some keys → IsSelected keys
@@ -145,12 +129,12 @@ selected_formed base (selected.Ids low (Some high) at) keys is = go (is_range (n
   where
     go : (b : Bool) → is_range (number_in low) (number_in high) ≡ b
         → (if b then keys_between 1 (key_of (number_in low)) (key_of (number_in high)) else None) ≡ Some keys → IsSelected keys
-    go true yes e =
-        let identifiers = and_both (names_identifier (number_in low)) _ yes in
+    go true range e =
+        let identifiers = and_both (names_identifier (number_in low)) _ range in
         let others = and_both (names_identifier (number_in high)) _ identifiers.1 in
         let forms = and_both (same_form (number_in low).extended (number_in high).extended) (does_not_fall (number_in low).value (number_in high).value) others.1 in
         numbers_formed 1 (number_in low) (number_in high) keys (omega arith) (one_form (number_in low).extended (number_in high).extended forms.0) e
-    go false yes e = absurd (let f : None ≡ Some keys = e in cc)
+    go false range e = absurd (let f : None ≡ Some keys = e in cc)
 
 -- ---- the keys of one selector
 
@@ -238,13 +222,6 @@ by_rank : (m n : ℕ) (some others : List Selector) → m ≢ n → AreOfRank m 
 by_rank m n [] others differ ranks are = tt
 by_rank m n (one ∷ some) others differ ranks are = (one_by_rank m n one others differ ranks.0 are, by_rank m n some others differ ranks.1 are)
 
-is_no_more : (m n : ℕ) → m ≤ n → nat_le m n ≡ true
-is_no_more m n h = go (leb_tells m n)
-  where
-    go : ((nat_le m n ≡ true) × (m ≤ n)) ⊎ ((nat_le m n ≡ false) × (n < m)) → nat_le m n ≡ true
-    go (inl is) = is.0
-    go (inr is) = absurd (omega (arith, h, is.1))
-
 -- two that have a key in common overlap
 common_key : (a b : Selector) (key : ℕ) → a.rank ≡ b.rank → IsWithin a key → IsWithin b key → overlap b a ≡ true
 common_key a b key rank here there =
@@ -253,8 +230,8 @@ common_key a b key rank here there =
     let to_a = here.to in
     let from_b = there.from in
     let to_b = there.to in
-    let left : nat_le b.low a.high ≡ true = is_no_more b.low a.high (omega (arith, from_b, to_a)) in
-    let right : nat_le a.low b.high ≡ true = is_no_more a.low b.high (omega (arith, from_a, to_b)) in
+    let left : nat_le b.low a.high ≡ true = le-leb b.low a.high (omega (arith, from_b, to_a)) in
+    let right : nat_le a.low b.high ≡ true = le-leb a.low b.high (omega (arith, from_a, to_b)) in
     ap (λ p. p && (nat_le b.low a.high && nat_le a.low b.high)) ranks ∙ ap (λ p. p && nat_le a.low b.high) left ∙ right
 
 -- those that do not overlap are apart, on either channel

@@ -1,6 +1,6 @@
 -- The selectors, timers and keys of the typed program of a program that breaks no rule.
 use Rattle.std.proofs.Common.{◌≡◌, ◌≢◌, ℕ, ◌+◌, ◌≤◌, ◌<◌, Bool, true, false, List, [], ◌∷◌, ◌++◌, length, Option, Some, None, refl, sym, ap, ◌∙◌, subst}
-use Rattle.std.specs.Prelude.{⊤, All, AllPairs, filter_map, flat_map, if◌then◌else◌}
+use Rattle.std.specs.Prelude.{All, AllPairs, filter_map, flat_map, if◌then◌else◌}
 use Rattle.std.specs.List.{AllByRecursion, cons_option}
 use Rattle.std.specs.Option.{option_map_or}
 use Rattle.std.proofs.lemmas.Grind.{flat_map-append}
@@ -20,8 +20,7 @@ use Rattle.capl_meaning.specs.Variable.{Form, Number, Array, Message, Timer, Mis
 use Rattle.capl_meaning.specs.Names.{Names, Scope, global, inside, is_global, names_of}
 use Rattle.capl_meaning.specs.Offences.{offences_of, part_offences}
 use Rattle.capl_meaning.specs.Procedure.{Handler, event_of, handlers_of, handlers_of_part, timer_named}
-use Rattle.capl_meaning.specs.ProcedureRules.{ForFrames, ForKey, ForTimer, Purpose, Told, collide, head_offences, names_timer, outer_name_offences, purpose_offences, ranges_of, timer_rule, told_by_head, told_by_part, told_by_selector}
-use Rattle.typed_laws.specs.Laid.{HasForm}
+use Rattle.capl_meaning.specs.ProcedureRules.{ForFrames, ForKey, ForTimer, Purpose, Told, collide, head_offences, names_timer, outer_name_offences, purpose_offences, ranges_of, timer_rule, told_by_head, told_by_part}
 use Rattle.typed_laws.proofs.Declared.{all_append}
 use Rattle.typed_laws.proofs.Places.{found_among}
 use Rattle.typed_source.specs.Program.{typed_handlers, typed_program}

@@ -1,52 +1,28 @@
 -- The event procedures of a program that breaks no rule are for different events.
-use Rattle.std.proofs.Common.{◌≡◌, ◌≢◌, ℕ, zero, suc, ◌+◌, ◌≤◌, ◌<◌, inl, inr, Bool, true, false, not, ◌&&◌, ◌⊎◌, cond, List, [], ◌∷◌, ◌++◌, length, map, Option, Some, None, get_or, refl, sym, ap, ◌∙◌, subst, arith}
-use Rattle.std.specs.Prelude.{⊤, ◌==◌, All, AllPairs, filter, filter_map, find, flat_map, if◌then◌else◌, nat_le, nat_lt, position, unwrap_or}
+use Rattle.std.proofs.Common.{◌≡◌, ◌≢◌, ℕ, suc, ◌+◌, ◌≤◌, ◌<◌, inl, inr, Bool, true, false, not, cond, List, [], ◌∷◌, ◌++◌, length, Option, Some, None, get_or, refl, sym, ap, ◌∙◌, subst, arith}
+use Rattle.std.specs.Prelude.{◌==◌, filter, filter_map, find, flat_map, if◌then◌else◌, nat_lt, position, unwrap_or}
 use Rattle.std.specs.List.{AllByRecursion, cons_option, position_or_len}
-use Rattle.std.specs.Option.{option_and_then, option_map, option_map_or}
+use Rattle.std.specs.Option.{option_map, option_map_or}
 use Rattle.std.specs.Str.{bytes_eq}
-use Rattle.std.proofs.lemmas.Bool.{eqb-true, ltb-false, ltb-true}
-use Rattle.std.proofs.lemmas.Bool.Decides.{leb_tells}
+use Rattle.std.proofs.lemmas.Bool.{ltb-false}
 use Rattle.std.proofs.lemmas.Cmp.{nat_eq_equiv}
-use Rattle.std.proofs.lemmas.Grind.{flat_map-append}
-use Rattle.std.proofs.lemmas.List.{append-nil}
-use Rattle.std.proofs.lemmas.List.Elements.{All-from_recursion, filter_map-append}
 use Rattle.std.proofs.lemmas.List.Quantifiers.{position-Some}
 use Rattle.std.proofs.lemmas.Slice.Eq.{bytes_eq-Decides}
-use Rattle.run_effects.specs.declared.event.Event.{Event}
 use Rattle.run_effects.specs.declared.event.Selector.{Selector}
-use Rattle.run_effects.specs.Event.{AreApart, IsWithin, KeepsSelectors, KeepsTimers, key_of, selectors_of, timer_of}
 use Rattle.dbc_reader.specs.declared.message.DbcMessage.{DbcMessage}
-use Rattle.capl_tree.specs.declared.expr.Expr.{Expr}
-use Rattle.capl_tree.specs.declared.procedure.Head.{Head}
-use Rattle.capl_tree.specs.declared.procedure.Head.TheVariants as head
 use Rattle.capl_tree.specs.declared.procedure.Sel.{Sel}
-use Rattle.capl_tree.specs.declared.procedure.SelWhat.{SelWhat}
-use Rattle.capl_tree.specs.declared.procedure.SelWhat.TheVariants as selected
-use Rattle.capl_tree.specs.declared.statement.Stmt.{Stmt}
-use Rattle.typed_tree.specs.declared.program.THandler.{THandler}
 use Rattle.typed_tree.specs.declared.program.Typed.{Typed}
-use Rattle.typed_tree.specs.Sound.{all_keys, all_selectors, all_timers}
-use Rattle.capl_meaning.specs.Rule.{E09}
-use Rattle.capl_meaning.specs.Variable.{Form, Number, Array, Message, Timer, Misfit, Part, Globals, Procedure, Variable, is_timer, message_named}
-use Rattle.capl_meaning.specs.Names.{Names, Scope, global, inside, is_global}
-use Rattle.capl_meaning.specs.DeclarationRules.{is_in_range}
-use Rattle.capl_meaning.specs.ExpressionRules.{offence}
-use Rattle.capl_meaning.specs.Offences.{part_offences}
-use Rattle.capl_meaning.specs.Procedure.{Handler, event_of, handlers_of_part, timer_named}
-use Rattle.capl_meaning.specs.ProcedureRules as rules
-use Rattle.capl_meaning.specs.ProcedureRules.{Channels, ForFrames, ForKey, ForTimer, Purpose, Told, channels_of, collide, head_offences, keys_on, names_timer, ranges_of, selector_of, selector_place, told_by_head, told_by_part, told_by_selector}
+use Rattle.capl_meaning.specs.Variable.{Form, Number, Array, Message, Timer, Misfit, Variable, is_timer}
+use Rattle.capl_meaning.specs.Names.{Names, global, is_global}
+use Rattle.capl_meaning.specs.Procedure.{timer_named}
+use Rattle.capl_meaning.specs.ProcedureRules.{Channels, ForFrames, ForKey, ForTimer, Purpose, Told, channels_of, collide, keys_on, names_timer, ranges_of, selector_of, selector_place, told_by_selector}
 use Rattle.capl_meaning.specs.Store.{same_key, timer_number}
 use Rattle.capl_meaning.specs.Store as store
 use Rattle.typed_laws.specs.Laid.{HasForm, IsAmong}
-use Rattle.typed_laws.proofs.Declared.{all_append}
 use Rattle.typed_laws.proofs.Parts.{key_self}
 use Rattle.typed_laws.proofs.Places.{found_among}
-use Rattle.typed_source.specs.Program.{typed_handlers}
 use Rattle.typed_source.specs.Sound.{HasTables}
-use Rattle.sound_programs.specs.Given.{HaveForms}
 use Rattle.sound_programs.proofs.ChannelKeys.{IsFormed, selected_formed}
-use Rattle.sound_programs.proofs.Empty.{back, front, full}
-use Rattle.sound_programs.proofs.Repeated.{Apart, kept_all, kept_apart, pairs}
 use Rattle.sound_programs.proofs.Written.{and_both}
 
 -- ---- what is told

@@ -1,6 +1,6 @@
 -- What is known of the procedures of a program that breaks no rule.
-use Rattle.std.proofs.Common.{◌≡◌, ℕ, suc, ◌*◌, ◌≤◌, ◌<◌, ◌^◌, length-append, inl, inr, Bool, true, false, List, [], ◌∷◌, ◌++◌, length, Option, Some, None, refl, sym, ap, ◌∙◌, subst, arith}
-use Rattle.std.specs.Prelude.{⊤, ◌==◌, All, filter_map, find, flat_map, is_some}
+use Rattle.std.proofs.Common.{◌≡◌, ℕ, suc, ◌*◌, ◌≤◌, ◌<◌, ◌^◌, length-append, inl, inr, Bool, true, false, List, [], ◌∷◌, length, Option, Some, None, refl, subst, arith}
+use Rattle.std.specs.Prelude.{⊤, ◌==◌, if◌then◌else◌, filter_map, flat_map, is_some}
 use Rattle.std.specs.List.{AllByRecursion, cons_option}
 use Rattle.std.specs.Option.{option_map_or}
 use Rattle.std.proofs.lemmas.List.Elements.{recursion_from_All}
@@ -29,7 +29,7 @@ use Rattle.typed_laws.specs.Laid.{IsAmong}
 use Rattle.typed_laws.proofs.Declared.{all_append}
 use Rattle.typed_laws.proofs.Places.{found_among}
 use Rattle.sound_programs.specs.Given.{IsReadable}
-use Rattle.sound_programs.specs.Small.{IsShortList, IsSmallHead, IsSmallItem, IsSmallProcedure, IsSmallStmt}
+use Rattle.sound_programs.specs.Small.{IsSmallHead, IsSmallItem, IsSmallProcedure, IsSmallStmt}
 use Rattle.sound_programs.proofs.Empty.{back, front}
 
 -- ---- parts

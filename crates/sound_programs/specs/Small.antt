@@ -1,6 +1,6 @@
 -- Parts of a source whose numbers, characters, texts and lists, as far as a typed program keeps them as they
 -- are, fit: numbers below 2^64, bytes, fewer than 2^32 items, and fewer than 2^31 selectors of a procedure.
-use Rattle.std.specs.Prelude.{ℕ, ◌<◌, ◌^◌, List, length, IfSome, ⊤}
+use Rattle.std.specs.Prelude.{◌<◌, ◌^◌, List, length, IfSome, ⊤}
 use Rattle.std.specs.List.{AllByRecursion}
 use Rattle.capl_tree.specs.declared.expr.Expr.{Expr, Row_of-Expr, end_of-Expr, more_of-Expr, items-the_row-Expr}
 use Rattle.capl_tree.specs.declared.expr.Expr.TheVariants as expr
