@@ -1,5 +1,5 @@
 -- Lists have no more items than there are tokens that spell them.
-use Rattle.std.proofs.Common.{◌+◌, ◌≤◌, ◌<◌, true, false, List, [], ◌∷◌, length, Option, Some, None, arith}
+use Rattle.std.proofs.Common.{◌+◌, ◌*◌, ◌≤◌, ◌<◌, true, false, List, [], ◌∷◌, length, Option, Some, None, arith}
 use Rattle.capl_lexer.specs.declared.token.Tok.{Tok}
 use Rattle.capl_lexer.specs.declared.token.Tok.TheVariants as tok
 use Rattle.capl_lexer.specs.declared.token.Sign.TheVariants as sign
@@ -19,7 +19,7 @@ IsLonger {A} one = (x : A) (ts : List Tok) → length ts < length (one x ts)
 
 module _ {A : Type 0} (one : A → List Tok → List Tok) (longer : IsLonger one) where
   -- items, each behind a comma
-  pub further_longer : (xs : List A) (ts : List Tok) → length xs + length ts ≤ length (further one xs ts)
+  pub further_longer : (xs : List A) (ts : List Tok) → 2 * length xs + length ts ≤ length (further one xs ts)
   further_longer [] ts = omega arith
   further_longer (x ∷ xs) ts = omega (arith, longer x (further one xs ts), further_longer xs ts)
 
@@ -27,6 +27,11 @@ module _ {A : Type 0} (one : A → List Tok → List Tok) (longer : IsLonger one
   pub separated_longer : (xs : List A) (ts : List Tok) → length xs + length ts ≤ length (separated one xs ts)
   separated_longer [] ts = omega arith
   separated_longer (x ∷ xs) ts = omega (arith, longer x (further one xs ts), further_longer xs ts)
+
+  -- a comma stands before each of them but the first
+  pub separated_with_commas : (xs : List A) (ts : List Tok) → 2 * length xs + length ts ≤ length (separated one xs ts) + 1
+  separated_with_commas [] ts = omega arith
+  separated_with_commas (x ∷ xs) ts = omega (arith, longer x (further one xs ts), further_longer xs ts)
 
   -- items, one after another
   pub each_longer : (xs : List A) (ts : List Tok) → length xs + length ts ≤ length (each one xs ts)

@@ -1,5 +1,5 @@
 -- A file that small tokens spell is small, and it is light.
-use Rattle.std.proofs.Common.{◌≡◌, ℕ, ◌+◌, ◌*◌, ◌≤◌, Bool, true, false, List, [], ◌∷◌, length, Option, Some, None, ap, subst, arith}
+use Rattle.std.proofs.Common.{◌≡◌, ℕ, zero, suc, ◌+◌, ◌*◌, ◌≤◌, Bool, true, false, List, [], ◌∷◌, length, Option, Some, None, ap, subst, arith}
 use Rattle.std.specs.Prelude.{⊤, sum_by}
 use Rattle.std.specs.List.{AllByRecursion, AllZip}
 use Rattle.std.proofs.lemmas.List.Elements.{recursion_from_All}
@@ -14,7 +14,8 @@ use Rattle.capl_tree.specs.declared.procedure.Proc.{Proc}
 use Rattle.capl_tree.specs.declared.procedure.Head.{Head}
 use Rattle.capl_tree.specs.declared.procedure.Head.TheVariants as head
 use Rattle.capl_tree.specs.declared.procedure.Param.{Param}
-use Rattle.capl_tree.specs.declared.procedure.Sel.TheVariants as sel
+use Rattle.capl_tree.specs.declared.procedure.SelWhat.{SelWhat}
+use Rattle.capl_tree.specs.declared.procedure.SelWhat.TheVariants as selected
 use Rattle.capl_tree.specs.declared.file.TopItem.{TopItem}
 use Rattle.capl_tree.specs.declared.file.TopItem.TheVariants as top
 use Rattle.capl_tree.specs.declared.file.FileTree.{FileTree}
@@ -27,7 +28,7 @@ use Rattle.capl_tree.specs.Weight.{file_weight, procedure_weight, statement_weig
 use Rattle.sound_programs.specs.Small.{IsShortList, IsSmallDecl, IsSmallHead, IsSmallItem, IsSmallProcedure, IsSmallStmt}
 use Rattle.small_trees.specs.Tokens.{AreSmallToks, IsSmallText}
 use Rattle.small_trees.proofs.LightStatements.{statement_light, statement_longer}
-use Rattle.small_trees.proofs.Longer.{IsLonger, declaration_longer, each_longer, expression_longer, separated_longer}
+use Rattle.small_trees.proofs.Longer.{IsLonger, declaration_longer, each_longer, expression_longer, separated_longer, separated_with_commas}
 use Rattle.small_trees.proofs.SmallExpressions.{expression_small}
 use Rattle.small_trees.proofs.SmallDeclarations.{IsSmallWhere, declaration_small, each_small, separated_small}
 use Rattle.small_trees.proofs.SmallStatements.{statement_small}
@@ -39,21 +40,43 @@ range_longer : (high : Option Expr) (ts : List Tok) → length ts ≤ length (sp
 range_longer None ts = omega arith
 range_longer (Some high) ts = omega (arith, expression_longer high ts)
 
--- a selector
-selector_longer : IsLonger spell.selector
-selector_longer (sel.Any at) ts = omega arith
-selector_longer (sel.Name name at) ts = omega arith
-selector_longer (sel.Ids low high at) ts = omega (arith, expression_longer low (spell.range_end high ts), range_longer high ts)
+-- which frames of a channel
+selection_longer : IsLonger spell.selection
+selection_longer (selected.Any at) ts = omega arith
+selection_longer (selected.Name name at) ts = omega arith
+selection_longer (selected.Ids low high at) ts = omega (arith, expression_longer low (spell.range_end high ts), range_longer high ts)
 
-selector_small : IsSmallWhere spell.selector (λ selector. ⊤)
-selector_small (sel.Any at) ts short small = (tt, small.1)
-selector_small (sel.Name name at) ts short small = (tt, small.1)
-selector_small (sel.Ids low high at) ts short small = by high (omega (arith, short, expression_longer low (spell.range_end high ts)))
+selection_small : (what : SelWhat) (ts : List Tok) → IsShortList (spell.selection what ts) → AreSmallToks (spell.selection what ts) → AreSmallToks ts
+selection_small (selected.Any at) ts short small = small.1
+selection_small (selected.Name name at) ts short small = small.1
+selection_small (selected.Ids low high at) ts short small = by high (omega (arith, short, expression_longer low (spell.range_end high ts)))
     (expression_small low (spell.range_end high ts) short small).1
   where
-    by : (high : Option Expr) → IsShortList (spell.range_end high ts) → AreSmallToks (spell.range_end high ts) → ⊤ × AreSmallToks ts
-    by None short small = (tt, small)
-    by (Some high) short small = (tt, (expression_small high ts (omega (arith, short)) small.1).1)
+    by : (high : Option Expr) → IsShortList (spell.range_end high ts) → AreSmallToks (spell.range_end high ts) → AreSmallToks ts
+    by None short small = small
+    by (Some high) short small = (expression_small high ts (omega (arith, short)) small.1).1
+
+-- the channel of a selector
+channel_longer : (chan : ℕ) (ts : List Tok) → length ts ≤ length (spell.channel chan ts)
+channel_longer zero ts = omega arith
+channel_longer (suc zero) ts = omega arith
+channel_longer (suc (suc zero)) ts = omega arith
+channel_longer (suc (suc (suc n))) ts = omega arith
+
+channel_small : (chan : ℕ) (ts : List Tok) → AreSmallToks (spell.channel chan ts) → AreSmallToks ts
+channel_small zero ts small = small
+channel_small (suc zero) ts small = small.1.1
+channel_small (suc (suc zero)) ts small = small.1.1
+channel_small (suc (suc (suc n))) ts small = small
+
+-- a selector
+selector_longer : IsLonger spell.selector
+selector_longer one ts = omega (arith, selection_longer one.what ts, channel_longer one.chan (spell.selection one.what ts))
+
+selector_small : IsSmallWhere spell.selector (λ selector. ⊤)
+selector_small one ts short small =
+    let behind = spell.selection one.what ts in
+    (tt, selection_small one.what ts (omega (arith, short, channel_longer one.chan behind)) (channel_small one.chan behind small))
 
 -- a parameter
 parameter_longer : IsLonger spell.parameter
@@ -118,7 +141,7 @@ head_small voids head.PreStart ts short small = (tt, small.1.1)
 head_small voids head.Start ts short small = (tt, small.1.1)
 head_small voids head.Stop ts short small = (tt, small.1.1)
 head_small voids (head.Message selectors) ts short small = (
-  omega (arith, short, separated_longer spell.selector selector_longer selectors ts),
+  omega (arith, short, separated_with_commas spell.selector selector_longer selectors ts),
   (separated_small spell.selector (λ s. ⊤) selector_longer selector_small selectors ts (omega (arith, short)) small.1.1).1,
 )
 head_small voids (head.Timer name at) ts short small = (tt, small.1.1.1)
