@@ -31,7 +31,7 @@ const DEFAULT_TURNS: u64 = 100_000;
 const DEFAULT_INTERFACE: &[u8] = b"can0";
 
 /// What the items of a scenario say so far: None and nothing where no item has said it.
-#[derive(Debug, Drop)]
+#[derive(Drop)]
 pub(crate) struct Draft {
     is_started: bool,
     database: Option<Text>,

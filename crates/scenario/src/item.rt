@@ -10,7 +10,7 @@ use std::alloc::Global;
 use texts::{NoMemory, Text};
 
 /// What a line says. A value is None where it is none that its item may have.
-#[derive(Debug, Drop)]
+#[derive(Drop)]
 pub(crate) enum Item {
     /// `scenario VERSION`, and whether the version is 1.
     Scenario(bool),

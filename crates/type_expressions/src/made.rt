@@ -22,7 +22,7 @@ pub struct TreeTables<'t> {
 }
 
 /// What was made of an expression.
-#[derive(Debug, Drop)]
+#[derive(Drop)]
 pub struct Made {
     /// The typed tree of its value.
     pub tree: TExpr,
@@ -31,7 +31,7 @@ pub struct Made {
 }
 
 /// The place that was made of an expression.
-#[derive(Debug, Drop)]
+#[derive(Drop)]
 pub struct MadePlace {
     /// The place, if it is one.
     pub place: Option<Place>,
@@ -40,7 +40,7 @@ pub struct MadePlace {
 }
 
 /// What was made of expressions in a row.
-#[derive(Debug, Drop)]
+#[derive(Drop)]
 pub struct Row {
     /// The typed trees of their values.
     pub trees: Vec<TExpr>,
@@ -49,7 +49,7 @@ pub struct Row {
 }
 
 /// What an expression is.
-#[derive(Debug, Drop)]
+#[derive(Drop)]
 pub(crate) enum Shape {
     /// A place of a number, or None where there is none.
     Place(Option<Place>),
@@ -58,7 +58,7 @@ pub(crate) enum Shape {
 }
 
 /// What a walk over an expression made of it.
-#[derive(Debug, Drop)]
+#[derive(Drop)]
 pub(crate) struct Walked {
     /// What it is.
     pub(crate) shape: Shape,
@@ -67,7 +67,7 @@ pub(crate) struct Walked {
 }
 
 /// What was made of an expression that stands in another.
-#[derive(Debug, Drop)]
+#[derive(Drop)]
 pub(crate) struct Part {
     /// The typed tree of its value.
     pub(crate) tree: Boxed<TExpr>,

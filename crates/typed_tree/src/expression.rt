@@ -7,7 +7,7 @@ use signal_codec::Layout;
 /// Where a number stands that can be read and stored.
 ///
 /// What is stored is wrapped to the place's kind, or brought to its range by the place's write rule.
-#[derive(Debug, Drop)]
+#[derive(Drop)]
 #[cycle(expression)]
 pub enum Place {
     /// One cell: a number variable, or the direction or time of a message.
@@ -52,7 +52,7 @@ pub enum Place {
 /// An expression: it gives a number, and may change the world before.
 ///
 /// Operands are evaluated from left to right.
-#[derive(Debug, Drop)]
+#[derive(Drop)]
 #[cycle(expression)]
 pub enum TExpr {
     /// A number.

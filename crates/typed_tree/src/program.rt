@@ -7,7 +7,7 @@ use run_effects::Event;
 use write_format::Format;
 
 /// A function.
-#[derive(Debug, Drop)]
+#[derive(Drop)]
 pub struct TFun {
     /// The cells of its parameters.
     pub params: Items<u32>,
@@ -19,7 +19,7 @@ pub struct TFun {
 }
 
 /// An event procedure.
-#[derive(Debug, Drop)]
+#[derive(Drop)]
 pub struct THandler {
     /// What it reacts to.
     pub event: Event,
@@ -32,7 +32,7 @@ pub struct THandler {
 }
 
 /// A typed program.
-#[derive(Debug, Drop)]
+#[derive(Drop)]
 pub struct Typed {
     /// The functions. Each calls only earlier ones.
     pub functions: Items<TFun>,

@@ -4,7 +4,7 @@ use crate::expression::TExpr;
 use items::{Boxed, Items};
 
 /// A statement.
-#[derive(Debug, Drop)]
+#[derive(Drop)]
 #[cycle(statement)]
 pub enum TStmt {
     /// Does nothing.
@@ -103,7 +103,7 @@ pub enum TStmt {
 }
 
 /// An arm of an `if`.
-#[derive(Debug, Drop)]
+#[derive(Drop)]
 #[cycle(statement)]
 pub struct TArm {
     /// The test.
@@ -113,7 +113,7 @@ pub struct TArm {
 }
 
 /// Labels of a `switch` that stand together, and the statements after them.
-#[derive(Debug, Drop)]
+#[derive(Drop)]
 #[cycle(statement)]
 pub struct TGroup {
     /// The numbers of the labels, with `None` for `default`.
