@@ -1,12 +1,12 @@
 -- What tables have of what procedures are for.
-use Rattle.std.proofs.Common.{◌≡◌, ◌<◌, ◌≤◌, ℕ, Bool, true, false, List, [], ◌∷◌, ◌++◌, ◌∙◌, ◌&&◌, ◌||◌, Option, Some, None, arith, refl, ap, sym, subst}
-use Rattle.std.specs.Prelude.{⊤, ⊥, flat_map, is_some, if◌then◌else◌}
+use Rattle.std.proofs.Common.{◌≡◌, ◌<◌, ◌≤◌, ℕ, Bool, true, false, List, [], ◌∷◌, ◌++◌, ◌∙◌, ◌&&◌, ◌||◌, Option, Some, None, append_assoc, arith, refl, ap, sym, subst}
+use Rattle.std.specs.Prelude.{⊤, flat_map, is_some, if◌then◌else◌}
 use Rattle.std.specs.List.{AllByRecursion, list_any}
 use Rattle.std.specs.Option.{option_or}
 use Rattle.std.specs.Str.{bytes_eq}
 use Rattle.std.proofs.lemmas.Bool.Decides.{nat_tests}
 use Rattle.run_effects.specs.declared.event.Selector.{Selector}
-use Rattle.capl_meaning.specs.ProcedureRules.{Channels, Both, First, Second, Purpose, ForFrames, ForTimer, ForKey, Told, collide, overlap, same_key, share_channel}
+use Rattle.capl_meaning.specs.ProcedureRules.{Channels, Both, First, Second, Purpose, ForFrames, ForTimer, ForKey, Told, collide, hold_first, hold_second, overlap, same_key, share_channel}
 use Rattle.check_names.specs.declared.purposes.Purposes.{Purposes}
 use Rattle.check_names.specs.declared.ranges.Ranges.{Ranges}
 use Rattle.check_names.specs.declared.table.NameTable.{NameTable}
@@ -150,6 +150,14 @@ keys_meet None None = grind (arith, nat_tests)
 keys_meet None (Some n) = grind (arith, nat_tests)
 keys_meet (Some m) None = grind (arith, nat_tests)
 keys_meet (Some m) (Some n) = grind (arith, nat_tests)
+
+-- the numbers on channels are those on the first and those on the second
+pub numbers_as : (channels : Channels) (first second : Bool) (a : Selector) (all : List (ℕ × ℕ)) → hold_first channels ≡ first → hold_second channels ≡ second
+    → (if first then numbers_at 0 a ∷ [] else []) ++ ((if second then numbers_at 1 a ∷ [] else []) ++ all) ≡ numbers_on channels a ++ all
+numbers_as channels first second a all one other =
+    ap (λ (b : Bool). (if b then numbers_at 0 a ∷ [] else []) ++ ((if second then numbers_at 1 a ∷ [] else []) ++ all)) (sym one)
+    ∙ ap (λ (b : Bool). (if hold_first channels then numbers_at 0 a ∷ [] else []) ++ ((if b then numbers_at 1 a ∷ [] else []) ++ all)) (sym other)
+    ∙ sym (append_assoc (if hold_first channels then numbers_at 0 a ∷ [] else []) (if hold_second channels then numbers_at 1 a ∷ [] else []) all)
 
 -- ---- what is told
 

@@ -14,7 +14,7 @@ pub use function::{DeclaredFunction, declared_functions};
 pub use head::note_type;
 pub use names::Names;
 pub use part::{ProgramPart, program_parts};
-pub use selector::{push_ranges, selector_of};
+pub use selector::push_ranges;
 pub use variable::{Declared, Place, Source, declared_variables};
 
 mod declaration;

@@ -1,6 +1,7 @@
 // What selectors select, and the identifiers of messages.
 
-ghost use Rattle.std.specs.Prelude.{◌≡◌, ◌≤◌, ◌<◌, ◌++◌, IfSome, OnOk, OnTrue};
+ghost use Rattle.std.specs.Prelude.{◌≡◌, ◌≤◌, ◌<◌, ◌++◌, IfSome, OnOk};
+ghost use Rattle.std.specs.Bool.{OnTrue};
 ghost use Rattle.std.specs.Option.{option_map};
 ghost use Rattle.capl_meaning.specs.DeclarationRules.{is_identifier, is_in_range};
 ghost use Rattle.capl_meaning.specs.ProcedureRules.{all_on, channels_of, hold_first, hold_second, identifiers_on, is_range, key_of, number_in, on_second, ranges_of, selection_place, selector_of, selector_of_message, selector_of_numbers, selector_place};
@@ -141,7 +142,7 @@ fn selector_of_message(message: &DbcMessage) -> Option<Selector>
 }
 
 /// What is selected, whichever the channel, or None where it breaks a rule.
-pub fn selector_of(names: &Names, what: &SelWhat) -> Option<Selector>
+pub(crate) fn selector_of(names: &Names, what: &SelWhat) -> Option<Selector>
     ensures value { result ≡ selector_of names.now.base what.now }
     ensures proper { IfSome result IsProper }
 {

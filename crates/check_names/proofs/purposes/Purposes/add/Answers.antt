@@ -3,7 +3,6 @@ use Rattle.std.proofs.Common.{◌≡◌, ◌∙◌, ◌∷◌, ℕ, List, ap, re
 use Rattle.std.specs.Prelude.{flat_map}
 use Rattle.capl_meaning.specs.ProcedureRules.{ForFrames, ForKey, Told, channels_of}
 use Rattle.capl_meaning.specs.ProcedureRules as meant
-use Rattle.check_names.specs.declared.purposes.Purpose.{Purpose}
 use Rattle.check_names.specs.Inside.Purpose.{IsOrdinary, number_of_key, numbers_of, purpose_of}
 use Rattle.check_names.specs.Inside.Ranges.{AreRanges}
 use Rattle.check_names.proofs.PurposeLemmas.{more_numbers, more_timers}
@@ -27,7 +26,7 @@ returns-in_ok-add-in-Key c = λ earlier told same knows.
     ap (λ (n : ℕ). (n, high)) c.number_of_key.ensures ∙ ap (λ (n : ℕ). (number_of_key key, n)) c.number_of_key-in-Key.ensures in
     let rest = flat_map (λ (t : Told). numbers_of t.purpose) earlier in
     more_numbers c.args.self.now _ earlier told (ForKey key) (same ∙ is) tt (subst IsOrdinary is c.requires) knows
-    (subst (λ (n : ℕ × ℕ). AreRanges _ (n ∷ rest)) numbers (c.in_ok-add-in-Key.ensures rest knows.ranges)) refl
+    (subst (λ (n : ℕ × ℕ). AreRanges c.add.new.self (n ∷ rest)) numbers (c.in_ok-add-in-Key.ensures rest knows.ranges)) refl
 
 pub returns-in_ok-note-in-Timer : goal.returns-in_ok-note-in-Timer
 returns-in_ok-note-in-Timer c = λ earlier told same knows.

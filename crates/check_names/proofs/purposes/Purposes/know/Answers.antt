@@ -1,8 +1,7 @@
 -- What the ranges have is what was told.
-use Rattle.std.proofs.Common.{◌≡◌, ◌∙◌, ◌∷◌, [], ℕ, List, ap, sym}
+use Rattle.std.proofs.Common.{◌≡◌, ◌∙◌, ◌∷◌, [], ℕ, ap}
 use Rattle.capl_meaning.specs.ProcedureRules.{ForFrames, ForKey, channels_of}
 use Rattle.capl_meaning.specs.ProcedureRules as meant
-use Rattle.check_names.specs.declared.purposes.Purpose.{Purpose}
 use Rattle.check_names.specs.Inside.Purpose.{any_meet, number_of_key, purpose_of}
 use Rattle.check_names.proofs.PurposeLemmas.{known_numbers, one_met}
 use Rattle.check_names.proofs.purposes.Purposes.know.Goals as goal
