@@ -1,10 +1,10 @@
 // A node.
 
-ghost use Rattle.std.specs.Prelude.{◌≡◌, ◌<◌, ◌≤◌, ◌^◌, ◌↔◌, ◌⊎◌, [], false, IsTrue, IsSome, IsNone, is_some, IfOk, IfSome, OnOk, OnErr, IsErrOf, IsOk, length, option_to_list};
+ghost use Rattle.std.specs.Prelude.{◌≡◌, ◌+◌, ◌<◌, ◌≤◌, ◌^◌, ◌↔◌, ◌⊎◌, [], false, IsTrue, IsSome, IsNone, is_some, IfOk, IfSome, OnOk, OnErr, IsErrOf, IsOk, length, option_to_list, pos, replicate};
 ghost use Rattle.std.specs.Option.{option_copied};
 ghost use Rattle.run_records.specs.Record.{RecordFaultsRise};
-ghost use Rattle.timer_queue.specs.Timers.{IsTimers, first_due};
-ghost use Rattle.stack_vm.specs.Memory.{StaysMemory};
+ghost use Rattle.timer_queue.specs.Timers.{IsTimers, first_due, inactive};
+ghost use Rattle.stack_vm.specs.Memory.{IsMemoryOf, StaysMemory, with_starts};
 ghost use Rattle.node_rounds.specs.Effects.{halt_lines};
 ghost use Rattle.node_rounds.specs.Reaction.{is_closed, next_due};
 ghost use Rattle.node_rounds.specs.Round.{IsDone, at_begin, next_of};
@@ -110,19 +110,13 @@ impl Node {
         ensures loaded { IfOk result (λ node. node ≡ loaded code first_row turns) }
         ensures sound { IfOk result (λ node. IsSound node.doing.node) }
     {
-        let timers = count(code.code().timers.len())?;
-        let handlers = code.code().handlers.len();
-        let _ = count(handlers)?;
-        if first_row.checked_add(handlers).is_none() {
-            return Err(NoMemory);
-        }
-        let memory = Memory::make(alloc, &code)?;
-        let timers = TimerQueue::make(alloc, timers)?;
+        let room = room_of(alloc, &code, first_row)?;
+        let procedures = Procedures::of_code(alloc, code)?;
         Ok(Node {
             alloc,
-            procedures: Procedures::of_code(alloc, code)?,
-            memory,
-            timers,
+            procedures,
+            memory: room.memory,
+            timers: room.timers,
             first_row,
             turns,
             is_halted: false,
@@ -268,6 +262,36 @@ impl Node {
         }
         Ok(TaskEnd { stop })
     }
+}
+
+/// What the code of a node runs in.
+#[derive(Drop)]
+struct Room {
+    /// The memory of its runs.
+    memory: Memory,
+    /// Its timers.
+    timers: TimerQueue,
+}
+
+/// The room of this code, none of its timers being active. The rows of its handlers can stand from
+/// `first_row` on.
+fn room_of(alloc: Global, code: &Verified, first_row: usize) -> Result<Room, NoMemory>
+    ensures cells { IfOk result (λ room.
+        room.memory.cells ≡ with_starts (replicate (length code.now.cells) (pos 0)) code.now.starts) }
+    ensures memory { IfOk result (λ room. IsMemoryOf code.now room.memory) }
+    ensures timers { IfOk result (λ room. room.timers ≡ inactive (length code.now.timers)) }
+    ensures numbered { IsOk result → length code.now.handlers < 2 ^ 32 }
+    ensures rows { IsOk result → first_row + length code.now.handlers < 2 ^ 64 }
+{
+    let timers = count(code.code().timers.len())?;
+    let handlers = code.code().handlers.len();
+    let _ = count(handlers)?;
+    if first_row.checked_add(handlers).is_none() {
+        return Err(NoMemory);
+    }
+    let timers = TimerQueue::make(alloc, timers)?;
+    let memory = Memory::make(alloc, code)?;
+    Ok(Room { memory, timers })
 }
 
 /// A number of things that can be named by numbers of 32 bits.
