@@ -3,8 +3,12 @@
 // `total` is the number of tokens of the file, from which places are counted, and `depth` bounds how deep
 // statements nest.
 
-ghost use Rattle.std.specs.Prelude.{◌≡◌};
-ghost use Rattle.expr_parser.specs.Reading.{Gives};
+ghost use Rattle.std.specs.Prelude.{◌≡◌, List, Some, None, IfOk, IsErrOf};
+ghost use Rattle.capl_lexer.specs.declared.token.Tok.{Tok};
+ghost use Rattle.capl_tree.specs.declared.statement.Stmt.{Stmt};
+ghost use Rattle.capl_tree.specs.declared.statement.Stmt.TheVariants as stmt;
+ghost use Rattle.expr_parser.specs.declared.refusal.Refusal.TheVariants as refusal;
+ghost use Rattle.expr_parser.specs.Reading.{Gives, Read, and_then};
 ghost use Rattle.parser_laws.specs.Statement as read;
 ghost use Rattle.parser_laws.specs.Statement.{parts_of};
 
@@ -12,7 +16,7 @@ use crate::part::{
     begins_declaration, enclosed, ends_body, jump, labels, part_before, read_declared,
 };
 use capl_lexer::{Sign, Word};
-use capl_tree::{Arm, Group, Stmt};
+use capl_tree::{Arm, Expr, Group, Stmt};
 use expr_parser::{Cursor, Refusal};
 use items::{Boxed, Items};
 
@@ -231,21 +235,44 @@ fn do_loop(cursor: &mut Cursor<'_>, total: u32, depth: usize) -> Result<Stmt, Re
 }
 
 /// Behind a `for`: its three parts and the body.
-#[tactic(auto, unfolding(parser_laws::specs::Statement::for_loop, expr_parser::specs::Reading::after))]
 #[cycle(reading)]
 fn for_loop(cursor: &mut Cursor<'_>, total: u32, depth: usize) -> Result<Stmt, Refusal>
     ensures { Gives (read.for_loop (parts_of total) (read.statement (parts_of total) depth) cursor.old)
         result cursor.new }
 {
+    let head = for_head(cursor, total)?;
+    let body = nested(cursor, total, depth)?;
+    Ok(Stmt::For {
+        init: head.init,
+        test: head.test,
+        step: head.step,
+        body,
+    })
+}
+
+/// The head of a `for`.
+#[derive(Drop)]
+struct ForHead {
+    /// What begins it.
+    init: Option<Expr>,
+    /// What is asked before each turn.
+    test: Option<Expr>,
+    /// What is done behind each turn.
+    step: Option<Expr>,
+}
+
+/// Behind a `for`: its three parts. With them a `for` is read where its body is.
+#[tactic(auto, unfolding(parser_laws::specs::Statement::for_loop, expr_parser::specs::Reading::after))]
+fn for_head(cursor: &mut Cursor<'_>, total: u32) -> Result<ForHead, Refusal>
+    ensures head { IfOk result (λ head. (inner : List Tok → Read Stmt) →
+        read.for_loop (parts_of total) inner cursor.old ≡ and_then (inner cursor.new) (λ body ts.
+        Some (stmt.For head.init head.test head.step body, ts))) }
+    ensures refused { IsErrOf result refusal.NotSpelled → (inner : List Tok → Read Stmt) →
+        read.for_loop (parts_of total) inner cursor.old ≡ None }
+{
     cursor.expect(Sign::OpenParen)?;
     let init = part_before(cursor, total, Sign::Semi)?;
     let test = part_before(cursor, total, Sign::Semi)?;
     let step = part_before(cursor, total, Sign::CloseParen)?;
-    let body = nested(cursor, total, depth)?;
-    Ok(Stmt::For {
-        init,
-        test,
-        step,
-        body,
-    })
+    Ok(ForHead { init, test, step })
 }
