@@ -418,9 +418,14 @@ class Writer:
         heads += [["timer", it] for it in self.timers if self.chance.random() < 0.9]
         heads += [["key", f"'{it}'"] for it in self.chance.sample(KEYS, self.chance.randrange(3))]
         heads += [["key", "*"]] * (self.chance.random() < 0.3)
-        heads += [["message", "*"]] * (self.chance.random() < 0.5)
+        heads += self.for_frames("*") * (self.chance.random() < 0.5)
         selectors = ["0x100", "0x123", "0x1FFFFFFFx", "0x100 - 0x17F", "0x0 - 0xFF , 0x180 - 0x7FF", "0x0x - 0xFFFFx"]
-        return heads + [["message", *it.split()] for it in selectors if self.chance.random() < 0.3]
+        return heads + [head for it in selectors if self.chance.random() < 0.3 for head in self.for_frames(it)]
+
+    def for_frames(self, selectors):
+        """The heads of procedures for these frames: for those of both channels, of one, or one for each of the two."""
+        channels = self.chance.choice([[""], [""], [""], ["CAN1 . "], ["CAN2 . "], ["CAN1 . ", "CAN2 . "]])
+        return [["message", *(channel + selectors.replace(", ", f", {channel}")).split()] for channel in channels]
 
     def event(self, head):
         """An event procedure."""
