@@ -20,7 +20,7 @@ use Rattle.capl_tree.specs.declared.statement.Stmt.TheBlock.{end_of-Group, more_
 use Rattle.capl_tree.specs.declared.statement.Stmt.TheVariants as stmt
 use Rattle.capl_tree.specs.Forms as tree
 use Rattle.capl_meaning.specs.Offences.{offences_of}
-use Rattle.capl_meaning.specs.Example.{declares, file_of, number, on_any_channel, on_start, plain, procedure}
+use Rattle.capl_meaning.specs.Example.{declares, file_of, number, on_any_channel, on_channel, on_start, plain, procedure}
 
 -- the tokens and the rules of what a program with a database breaks
 abbrev pub broken_with : List DbcMessage → Program → List (ℕ × ℕ)
@@ -132,14 +132,14 @@ equal_ends = file_of
 -- `on message CAN1.5 { } on message CAN2.5 { }`
 abbrev pub one_on_each_channel : Program
 one_on_each_channel = file_of
-    (procedure 0 (head.Message (record { chan = 1; what = selected.Ids (number 5 4) None 4 } ∷ [])) []
-    ∷ procedure 7 (head.Message (record { chan = 2; what = selected.Ids (number 5 11) None 11 } ∷ [])) [] ∷ [])
+    (procedure 0 (head.Message (on_channel 1 (selected.Ids (number 5 4) None 4) ∷ [])) []
+    ∷ procedure 7 (head.Message (on_channel 2 (selected.Ids (number 5 11) None 11) ∷ [])) [] ∷ [])
 
 -- `on message 5 { } on message CAN2.5 { }`
 abbrev pub one_channel_of_both : Program
 one_channel_of_both = file_of
     (procedure 0 (head.Message (on_any_channel (selected.Ids (number 5 2) None 2) ∷ [])) []
-    ∷ procedure 5 (head.Message (record { chan = 2; what = selected.Ids (number 5 9) None 9 } ∷ [])) [] ∷ [])
+    ∷ procedure 5 (head.Message (on_channel 2 (selected.Ids (number 5 9) None 9) ∷ [])) [] ∷ [])
 
 -- `void f() { g(); } void g() { f(1); }`
 abbrev pub far_recursion : Program

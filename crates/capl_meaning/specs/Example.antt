@@ -49,9 +49,13 @@ declares at what name name_at size init = record {
   at = at;
 }
 
+-- a selector of a channel
+abbrev pub on_channel : ℕ → SelWhat → Sel
+on_channel chan what = record { chan = chan; what = what }
+
 -- a selector of no channel
 abbrev pub on_any_channel : SelWhat → Sel
-on_any_channel what = record { chan = 0; what = what }
+on_any_channel = on_channel 0
 
 -- a number that is not `const`
 abbrev pub plain : Kind → DeclType
@@ -72,7 +76,8 @@ name_twice = file_of (top.Variables (declares 2 (plain Long) (codes "a") 3 None 
 
 -- `on message Nope { }`
 abbrev pub unknown_message : Program
-unknown_message = file_of (procedure 0 (head.Message (on_any_channel (selected.Name (codes "Nope") 2) ∷ [])) [] ∷ [])
+unknown_message =
+    file_of (procedure 0 (head.Message (on_any_channel (selected.Name (codes "Nope") 2) ∷ [])) [] ∷ [])
 
 -- `variables { byte a[0]; }`
 abbrev pub empty_array : Program

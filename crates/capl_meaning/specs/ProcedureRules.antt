@@ -74,8 +74,8 @@ selector_of_numbers low (Some high) =
 abbrev pub selector_of_message : DbcMessage → Option Selector
 selector_of_message m = if is_in_range m.id then keys_between 0 (Some m.id) (Some m.id) else None
 
--- what is selected, whichever the channel: `*` all keys, a message by name or a single identifier one, a range
--- those in it
+-- what is selected, whichever the channel: `*` all keys, a message by name or a single identifier one, a
+-- range those in it
 abbrev pub selector_of : List DbcMessage → SelWhat → Option Selector
 selector_of base (selected.Any at) = keys_between 2 (Some 0) (Some 0xFFFFFFFF)
 selector_of base (selected.Name name at) = option_and_then selector_of_message (message_named base name)
@@ -114,7 +114,8 @@ on_second keys = record { rank = keys.rank; low = keys.low + 2 ^ 30; high = keys
 -- the selection keys of identifiers on channels
 abbrev pub identifiers_on : Channels → Selector → List Selector
 identifiers_on channels keys =
-    (if hold_first channels then keys ∷ [] else []) ++ (if hold_second channels then on_second keys ∷ [] else [])
+    (if hold_first channels then keys ∷ [] else [])
+    ++ (if hold_second channels then on_second keys ∷ [] else [])
 
 -- the selection keys of `*` on channels: of standard identifiers, and of extended ones
 abbrev pub all_on : Channels → List Selector
@@ -151,8 +152,8 @@ abbrev pub numbers_rule : Scope → ℕ → Expr → Option Expr → List Offenc
 numbers_rule s at low None = broken_where (not (names_identifier (number_in low))) s at E21
 numbers_rule s at low (Some high) = broken_where (not (is_range (number_in low) (number_in high))) s at E21
 
--- what is selected, in a selector that begins at a token, breaks by itself: E11 and E23 of a name, at the name,
--- and E21 of numbers, at the selector
+-- what is selected, in a selector that begins at a token, breaks by itself: E11 and E23 of a name, at the
+-- name, and E21 of numbers, at the selector
 abbrev pub selection_offences : Scope → ℕ → SelWhat → List Offence
 selection_offences s first (selected.Any at) = []
 selection_offences s first (selected.Name name at) = message_name_rule s at name
@@ -181,8 +182,8 @@ head_offences s (head.Message selectors) = flat_map (selector_offences s) select
 head_offences s (head.Timer name at) = timer_rule s at (global s.names name)
 head_offences s _ = []
 
--- what event procedures are for, of which no two may be: frames of a selector on channels, a timer by its name,
--- a key
+-- what event procedures are for, of which no two may be: frames of a selector on channels, a timer by its
+-- name, a key
 pub data Purpose : Type 0 where
   ForFrames : Channels → Selector → Purpose
   ForTimer : List ℕ → Purpose

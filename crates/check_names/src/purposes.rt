@@ -278,8 +278,8 @@ fn note_collisions(
     Ok(())
 }
 
-/// Notes where two selectors of one rank overlap on a channel, and where two procedures are for one timer or one
-/// key. Takes time n log n in the selectors and procedures.
+/// Notes where two selectors of one rank overlap on a channel, and where two procedures are for one timer or
+/// one key. Takes time n log n in the selectors and procedures.
 pub(crate) fn note_purposes(
     alloc: Global,
     names: &Names,
