@@ -114,7 +114,7 @@ fn make_test(
 }
 
 /// What stands between the parentheses of a `for`.
-#[derive(Debug, Drop)]
+#[derive(Drop)]
 struct Head {
     /// The first part.
     init: Option<Boxed<TStmt>>,

@@ -22,7 +22,7 @@ use write_format::laws::pieces_are_found;
 use write_format::{ArgKind, Format};
 
 /// What is made of the arguments of a `write`.
-#[derive(Debug, Drop)]
+#[derive(Drop)]
 struct Arguments {
     /// What each is for the format.
     kinds: Vec<ArgKind>,
