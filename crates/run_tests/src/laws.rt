@@ -35,6 +35,8 @@ fn each_order_of_tasks_comes_to_the_same() {
     task_orders::laws::interleavings_end_alike::<Sources, PlainBus>();
     task_orders::laws::picks_change_order_alone();
     task_orders::laws::picks_change_no_meter();
+    sim_core::laws::neighbours_change_places::<PlainBus>();
+    sim_core::laws::interleavings_end_alike::<PlainBus, MemRecord>();
     sim_core::laws::picks_choose_an_interleaving::<PlainBus, MemRecord>();
     sim_core::laws::picks_change_order_alone::<PlainBus, MemRecord>();
 }

@@ -20,7 +20,7 @@ use Rattle.sim_core.specs.declared.simulation.Phase.TheVariants.{Going, New, Ove
 use Rattle.sim_core.specs.Inside.Kept.{IsAtRest, IsCore}
 use Rattle.sim_core.specs.Inside.Rounds.{AreRoundsCut, DoesRound, HasStopped, IsRoundCut}
 use Rattle.sim_core.proofs.CodeLives.{code_lives}
-use Rattle.sim_core.proofs.InstantLemmas.{cut_as, done_as, going_not_over, keeps_both, quiet_steps}
+use Rattle.sim_core.proofs.InstantLemmas.{cut_as, done_as, going_not_over, keeps_both, quiet_steps, stands_begun}
 use Rattle.sim_core.proofs.NodeLists.{rows_stay}
 
 -- ---- the round of the stop
@@ -85,6 +85,15 @@ pub is_instant : {B : Type 0} (bus : BusMeaning B) (core : CoreState B) (passed 
 is_instant bus core passed after is_going next = elim next as (λ _. IsInstant code_reaction bus core.until (run_of core) passed after) [
   | inl first ↦ absurd (let f : New ≡ Going = sym first.0 ∙ is_going in cc)
   | inr further ↦ further.1
+]
+
+-- how the run of a simulation stands after its next instant
+pub next_stands : {B : Type 0} (bus : BusMeaning B) → FramesCome bus → SoundStays bus → DueLater bus → DueLaterFromNothing bus → (core : CoreState B) → IsCore bus core → (passed : List Passed)
+    (after : RunState (NodeState CodeMemory) B) → IsNextInstant bus core passed after → Stands IsSound CanOccur bus after
+next_stands bus come stays goes_on from_nothing core is passed after next = elim next as (λ _. Stands IsSound CanOccur bus after) [
+  | inl first ↦ stands_begun bus come core stays goes_on from_nothing is first.0 passed after first.1
+  | inr further ↦
+      (instant_stands by_code IsSound CanOccur code_lives bus come stays goes_on from_nothing core.until (run_of core) passed after (is.stands further.0) further.1).0
 ]
 
 -- ---- what has been done of a run

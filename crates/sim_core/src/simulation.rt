@@ -3,9 +3,11 @@
 ghost use Rattle.std.specs.Prelude.{◌≡◌, ◌≢◌, ◌<◌, ◌≤◌, ◌^◌, None, length, All, Ok, OnOk, OnErr, IsErrOf};
 ghost use Rattle.can_frame.specs.Frame.{FrameFields, IsFrame};
 ghost use Rattle.run_records.specs.Record.{RecordFaultsRise};
+ghost use Rattle.node_run.specs.Sound.{CanOccur, IsSound};
+ghost use Rattle.run_meaning.specs.Live.{Stands};
 ghost use Rattle.sim_core.specs.declared.simulation.Phase.TheVariants.{New, Over};
 ghost use Rattle.sim_core.specs.declared.simulation.Step.TheVariants.{Went, Ended};
-ghost use Rattle.sim_core.specs.Core.{DoesInstant, HasARun, HasNoInstant, HasRun, HaveRows, IsInstantCut, IsLoaded, IsRunCut, new_core};
+ghost use Rattle.sim_core.specs.Core.{DoesInstant, HasARun, HasNoInstant, HasRun, HaveRows, IsInstantCut, IsLoaded, IsRunCut, new_core, run_of};
 
 use crate::upcoming::Upcoming;
 use can_bus::Bus;
@@ -142,8 +144,9 @@ impl<B: Bus> Core<B> {
     }
 
     /// Does the next instant: that of moment 0, or the one at the next moment. Its entries go to the record
-    /// as they happen. Ended, and nothing changes, exactly where there is none: a node asked to stop, or
-    /// nothing is due up to the end moment.
+    /// as they happen. All that is to come then comes later than its moment: frames that end, timers, keys
+    /// and requests of the replay. Ended, and nothing changes, exactly where there is none: a node asked to
+    /// stop, or nothing is due up to the end moment.
     ///
     /// # Errors
     ///
@@ -158,6 +161,7 @@ impl<B: Bus> Core<B> {
         requires rows { HaveRows meter.old self.old.nodes }
         ensures does { result ≡ Ok Went → DoesInstant B.meaning R.meaning
             self.old into.old meter.old self.new into.new meter.new }
+        ensures later { result ≡ Ok Went → Stands IsSound CanOccur B.meaning (run_of self.new) }
         ensures none { result ≡ Ok Ended → HasNoInstant B.meaning self.old }
         ensures nothing { result ≡ Ok Ended →
             (self.new ≡ self.old) × (into.new ≡ into.old) × (meter.new ≡ meter.old) }
