@@ -58,6 +58,8 @@ impl<S: Sink> Out<S> {
         ensures grows { Writes (S.written self.old.sink) (S.written self.new.sink) piece.now result }
         ensures failed { IsErrOf result SinkRefusal.Failed →
             HasRisen (S.faults self.old.sink) (S.faults self.new.sink) }
+        ensures no_memory { IsErrOf result SinkRefusal.NoMemory →
+            S.written self.new.sink ≡ S.written self.old.sink }
         ensures faults_stay { S.faults self.old.sink ≤ S.faults self.new.sink }
         ensures answered { self.new.answered ≡ true }
         ensures not_played { self.new.played ≡ false }

@@ -1,6 +1,6 @@
 // Playing a simulation.
 
-ghost use Rattle.std.specs.Prelude.{◌≡◌, ◌<◌, ◌≤◌, ◌^◌, ◌++◌, true, codes, decimal, length, IfOk, OnOk, OnErr, IsErrOf};
+ghost use Rattle.std.specs.Prelude.{◌≡◌, ◌<◌, ◌≤◌, ◌^◌, ◌++◌, true, false, codes, decimal, length, IfOk, OnOk, OnErr, IsErrOf};
 ghost use Rattle.texts.specs.Fault.{HasRisen};
 ghost use Rattle.sim_outside.specs.Sink.{GrowsBy, GrowsByPrefix};
 ghost use Rattle.sim_text.specs.Window.{window_line};
@@ -56,6 +56,7 @@ pub fn play<B: Bus, S: Sink>(
         (S.faults out.new.sink) }
     ensures faults_stay { S.faults out.old.sink ≤ S.faults out.new.sink }
     ensures played { out.new.played ≡ true }
+    ensures not_answered { out.new.answered ≡ false }
 {
     core.has_a_run();
     out.played = true;
