@@ -6,6 +6,7 @@ pub mod FieldLemmas
 pub mod FrameFieldLemmas
 pub mod LoggableLemmas
 pub mod NumberBounds
+mod NumeralLemmas
 pub mod OneReading
 pub mod PieceLemmas
 pub mod ReadingLemmas

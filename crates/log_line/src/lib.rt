@@ -15,6 +15,7 @@ mod frame_text;
 pub mod laws;
 mod line;
 mod numbers;
+mod numerals;
 mod reading;
 mod stamp;
 mod writing;
