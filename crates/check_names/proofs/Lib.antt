@@ -12,6 +12,7 @@ pub mod LoopLemmas
 mod NameLemmas
 mod NamedFirst
 pub mod NamedLemmas
+mod NumberLemmas
 mod PositionLemmas
 mod PurposeLemmas
 mod RangeLemmas

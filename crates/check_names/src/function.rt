@@ -1,6 +1,7 @@
 // The functions that a program declares.
 
-ghost use Rattle.std.specs.Prelude.{◌≡◌, ◌++◌, IfOk, OnOk, filter_map};
+ghost use Rattle.std.specs.Prelude.{◌≡◌, ◌∷◌, ◌+◌, ◌<◌, IfOk, filter_map, map};
+ghost use Rattle.std.specs.List.Sorted.{IsStrictlyIncreasing};
 ghost use Rattle.std.specs.Option.{option_to_list};
 ghost use Rattle.capl_meaning.specs.Names.{function_by, function_of_part};
 ghost use Rattle.check_names.specs.Function.{functions_in};
@@ -83,19 +84,29 @@ pub fn declared_functions<'p>(
     Ok(all)
 }
 
-/// The table of functions by their names.
+/// The table of functions by their names. The numbers of their procedures rise from 1 on, so they are fewer
+/// than 2^32.
 pub(crate) fn called_functions(
     alloc: Global,
     seed: Seed,
     functions: &[DeclaredFunction],
 ) -> Result<NameTable, NoMemory>
+    requires { IsStrictlyIncreasing (0 ∷ map (λ f. f.number) (functions_in functions.now)) }
     ensures { IfOk result (λ table. IsCalled table (functions_in functions.now)) }
 {
     let mut table = NameTable::new(alloc, seed);
     let mut number = 0u32;
     for function in functions {
         table.note(alloc, function.name.bytes(), number)?;
-        number = number.checked_add(1).ok_or(NoMemory)?;
+        number = behind(number, function.number);
     }
     Ok(table)
+}
+
+/// The number behind one that is below the number of a procedure.
+fn behind(number: u32, procedure: u32) -> u32
+    requires { number < procedure }
+    ensures { result ≡ number + 1 }
+{
+    number + 1
 }

@@ -1,13 +1,13 @@
 // What the names of a program mean.
 
-ghost use Rattle.std.specs.Prelude.{◌≡◌, IfOk, position, slice_get};
+ghost use Rattle.std.specs.Prelude.{◌≡◌, ◌==◌, ◌&&◌, ◌∷◌, ◌<◌, ◌^◌, IfOk, length, map, position, slice_get};
 ghost use Rattle.std.specs.Option.{option_and_then, option_copied, option_map};
+ghost use Rattle.std.specs.List.Sorted.{IsStrictlyIncreasing};
 ghost use Rattle.std.specs.Str.{bytes_eq};
 ghost use Rattle.capl_meaning.specs.Names.{Scope, is_global, is_local, means, names_of};
 ghost use Rattle.capl_meaning.specs.Variable.{message_named};
 ghost use Rattle.check_names.specs.First.{IsFirstOf};
 ghost use Rattle.check_names.specs.Function.{functions_in};
-ghost use Rattle.check_names.specs.Inside.Table.{is_named};
 ghost use Rattle.check_names.specs.Named.{named_offences};
 ghost use Rattle.check_names.specs.Names.{messages_of};
 ghost use Rattle.check_names.specs.Variable.{variable_in, variables_in};
@@ -42,7 +42,8 @@ pub struct Names<'p> {
 }
 
 impl<'p> Model for Names<'p> {
-    ghost use Rattle.std.specs.Prelude.{◌≡◌, ◌<◌, ◌^◌, length, true};
+    ghost use Rattle.std.specs.Prelude.{◌≡◌, ◌∷◌, ◌<◌, ◌^◌, length, map, true};
+    ghost use Rattle.std.specs.List.Sorted.{IsStrictlyIncreasing};
     ghost use Rattle.std.specs.Coded.{codes};
     ghost use Rattle.capl_tree.specs.contracts.expr.Expr as expr;
     ghost use Rattle.capl_tree.specs.contracts.expr.Field as field;
@@ -67,7 +68,8 @@ impl<'p> Model for Names<'p> {
         AreTables names.tables.items (variables_in (messages_of names.base) names.variables.items)
         × (IsCalled names.called (functions_in names.functions.items)
         × ((names.in_order ≡ true → AreInOrder (variables_in (messages_of names.base) names.variables.items))
-        × (length names.variables.items < 2 ^ 32))) };
+        × ((length names.variables.items < 2 ^ 32)
+        × IsStrictlyIncreasing (0 ∷ map (λ f. f.number) (functions_in names.functions.items))))) };
 }
 
 impl<'p> Names<'p> {
@@ -126,8 +128,9 @@ impl<'p> Names<'p> {
 
     /// The number of the first variable of this name in the procedure of this number, or outside of
     /// procedures where it is 0; None where there is none.
-    pub(crate) fn first_named(&self, procedure: u32, name: &[u8]) -> Option<u32>
-        ensures { result ≡ position (is_named procedure name.now) self.now.variables }
+    pub fn first_named(&self, procedure: u32, name: &[u8]) -> Option<u32>
+        ensures { result ≡ position (λ v. v.owner == procedure && bytes_eq name.now v.name)
+            self.now.variables }
     {
         number_at(self.tables.as_slice(), procedure, name)
     }
@@ -151,11 +154,33 @@ impl<'p> Names<'p> {
         self.variables.as_slice()
     }
 
+    /// How many variables there are.
+    pub fn variable_count(&self) -> u32
+        ensures { result ≡ length self.now.variables }
+    {
+        self.variables.as_slice().len() as u32
+    }
+
+    /// The variables are fewer than 2^32. The call does nothing: its contract is the fact.
+    pub fn variables_are_few(&self)
+        ensures { length self.now.variables < 2 ^ 32 }
+    {
+        let _ = &self.variables;
+    }
+
     /// All functions, in program order.
     pub fn functions(&self) -> &[DeclaredFunction<'p>]
         ensures { functions_in result.now ≡ self.now.functions }
     {
         self.functions.as_slice()
+    }
+
+    /// The numbers of the functions' procedures rise from 1 on. The call does nothing: its contract is the
+    /// fact.
+    pub fn functions_rise(&self)
+        ensures { IsStrictlyIncreasing (0 ∷ map (λ f. f.number) self.now.functions) }
+    {
+        let _ = &self.functions;
     }
 
     /// The number among the functions of the first one of this name, or None where there is none.
@@ -185,7 +210,7 @@ impl<'p> Names<'p> {
         note_outer_names(alloc, seed, parts.as_slice(), &mut first)?;
         note_purposes(alloc, self, seed, parts.as_slice(), &mut first)?;
         note_parts(alloc, self, parts.as_slice(), &mut first)?;
-        note_inner_names(self, &mut first)?;
+        note_inner_names(self, &mut first);
         Ok(first)
     }
 }

@@ -20,4 +20,4 @@ returns c =
     (c.in_ok-note_outer_names.ensures ∙ ap (λ (ps : List Part). noted None (outer_name_offences ps)) outer)
     (c.in_ok-note_purposes.ensures ∙ ap (λ (ps : List Part). noted c.note_outer_names.new.first (purpose_offences names ps)) purposes)
     (c.in_ok-note_parts.ensures ∙ ap (λ (ps : List Part). noted c.note_purposes.new.first (flat_map (head_and_types names) ps)) heads)
-    c.in_ok-note_inner_names.ensures
+    c.note_inner_names.ensures
