@@ -10,7 +10,8 @@ use Rattle.std.proofs.lemmas.List.Elements.{filter_map-append}
 use Rattle.capl_meaning.specs.Names.{Function, Names, builtin_named, callee, callee_before, callee_by}
 use Rattle.capl_meaning.specs.declared.builtin.Builtin.{Builtin}
 use Rattle.check_calls.proofs.PlaceLemmas.{at_first, no_first}
-use Rattle.check_calls.specs.Callees.{AreAdded, called, callees, function_called, functions_at}
+use Rattle.check_calls.specs.Callees.{called, callees, function_called, functions_at}
+use Rattle.check_calls.specs.Inside.Added.{AreAdded}
 
 -- the functions called by names in two parts
 pub callees-append : (names : Names) (one other : List (List ℕ)) →

@@ -5,9 +5,11 @@ use Rattle.std.specs.Option.{option_map_or}
 use Rattle.std.proofs.lemmas.Bool.{cases_lt}
 use Rattle.std.proofs.lemmas.Bool.Decides.{nat_tests}
 use Rattle.std.proofs.lemmas.Option.{get_or_from_slice_get, same_Some, slice_get_within}
+use Rattle.std.specs.List.Sorted.{IsStrictlyIncreasing}
 use Rattle.capl_meaning.specs.Names.{Function, Names}
 use Rattle.capl_meaning.specs.Calls.{reaches, reaches_within}
-use Rattle.check_calls.specs.Graph.{AreCallees, AreReached, AreReaching, Has, IsMarked, Leads, Reaches, Rise}
+use Rattle.check_calls.specs.Graph.{AreCallees, AreReached, AreReaching, Has, Leads, Reaches}
+use Rattle.check_calls.specs.Inside.Marks.{IsMarked}
 use Rattle.check_calls.proofs.GraphLemmas.{AreNumbered, at_map, map_at, reached_at, reached_keeps, reached_place}
 use Rattle.check_calls.proofs.OrderLemmas.{rise_far}
 use Rattle.check_calls.proofs.ReachLemmas.{Calls, called_function, first_call, itself}
@@ -54,7 +56,7 @@ not_reached names numbers i f number same at none = by (reaches names f.number n
         absurd (none g.1.0 (ap (λ l. slice_get l g.1.0) same ∙ here ∙ ap (λ (n : ℕ). Some n) g.2))
 
 -- numbers that rise do not fall
-pub rise_below : (numbers : List ℕ) → Rise numbers → (i j : ℕ) → i ≤ j → j < length numbers → get_or numbers i 0 ≤ get_or numbers j 0
+pub rise_below : (numbers : List ℕ) → IsStrictlyIncreasing numbers → (i j : ℕ) → i ≤ j → j < length numbers → get_or numbers i 0 ≤ get_or numbers j 0
 rise_below numbers rise i j most within = by (cases_lt i j)
   where
     by : (i < j) ⊎ (j ≤ i) → get_or numbers i 0 ≤ get_or numbers j 0

@@ -16,7 +16,8 @@ use Rattle.capl_tree.specs.declared.statement.Stmt.TheBlock.{Row_of-Arm, end_of-
 use Rattle.capl_tree.specs.declared.statement.Stmt.TheVariants as stmt
 use Rattle.capl_tree.proofs.FormLemmas as shape
 use Rattle.capl_meaning.specs.Calls.{calls_in, calls_in_field, calls_in_labels, calls_in_part, calls_in_row, calls_of, calls_of_arms, calls_of_groups, calls_of_row}
-use Rattle.check_calls.specs.Callees.{calls_in_all, calls_of_all, calls_of_cases, calls_of_list, calls_of_other}
+use Rattle.check_calls.specs.Callees.{calls_of_all}
+use Rattle.check_calls.specs.Inside.Added.{calls_in_all, calls_of_cases, calls_of_list, calls_of_other}
 
 -- an expression between parentheses
 pub paren_calls : (e inner : Expr) (at : ℕ) → e ≡ expr.Paren inner at → calls_in e ≡ calls_in inner

@@ -5,11 +5,13 @@ use Rattle.std.specs.List.{cons_option, filter_map, flat_map, list_any}
 use Rattle.std.specs.Option.{option_map, option_map_or}
 use Rattle.std.proofs.lemmas.Bool.{false≢true}
 use Rattle.std.proofs.lemmas.Bool.Decides.{nat_tests}
-use Rattle.std.proofs.lemmas.Option.{get_or_from_slice_get, same_Some, slice_get-map}
+use Rattle.std.proofs.lemmas.List.{length-map}
+use Rattle.std.proofs.lemmas.Option.{get_or_from_slice_get, same_Some, slice_get-map, slice_get_within}
 use Rattle.capl_meaning.specs.Names.{Callee, Function, Names, OfLanguage, OfProgram, Unknown, callee}
 use Rattle.capl_meaning.specs.Calls.{called_by, called_by_number, calls_of, function_numbered, number_of_callee, reaches, reaches_within}
 use Rattle.check_calls.specs.Callees.{called, callees, function_called, functions_at}
-use Rattle.check_calls.specs.Graph.{AllPass, AreCallees, AreRanked, Has, IsClosed, Keeps, Leads}
+use Rattle.check_calls.specs.Graph.{AreCallees, AreRanked, Has, Keeps, Leads}
+use Rattle.check_calls.specs.Inside.Search.{AllPass, IsClosed}
 use Rattle.check_calls.proofs.ReachLemmas.{Calls, any_has, first_call, has_any, itself, one_call, reached, then}
 
 -- where the number of each function is that of its place alone
@@ -112,6 +114,19 @@ reached_keeps names rows from are numbered i j leads is =
     ap (λ o. option_map_or (λ h. reaches names from h.number) o false) g.1
     ∙ reached names (n + 1) from g.0.number (then names n 1 from f.0.number g.0.number f.2 step)
 
+-- there are as many rows as functions
+pub rows_length : (names : Names) (rows : List (List ℕ)) → AreCallees names rows → length rows ≡ length names.functions
+rows_length names rows are =
+    sym (length-map rows (functions_at names)) ∙ ap length are
+    ∙ length-map names.functions (λ f. callees names (flat_map calls_of f.body))
+
+-- the place of a function has a row
+pub place_within : (names : Names) (rows : List (List ℕ)) (i : ℕ) (f : Function) → AreCallees names rows →
+    slice_get names.functions i ≡ Some f → i < length rows
+place_within names rows i f are at =
+    let within = slice_get_within names.functions i f at in
+    omega (arith, within, rows_length names rows are)
+
 -- what is reached from a place of a closed list is of a place of it
 pub closed_reach : (names : Names) (rows : List (List ℕ)) (found : List ℕ) (y : ℕ) → AreCallees names rows → AreNumbered names →
     IsClosed rows found → (n i : ℕ) (f : Function) → Has found i → slice_get names.functions i ≡ Some f →
@@ -128,7 +143,7 @@ closed_reach names rows found y are numbered closed (suc n) i f has at is =
     by (inl same) rest = (i, f, has, at, same)
     by (inr next) rest =
         let j = called_leads names rows i next.0 f are numbered at next.1 in
-        rest j.0 j.1 (closed i j.0 has j.2) j.3 (subst (λ z. reaches_within names n z y ≡ true) (sym j.4) next.2)
+        rest j.0 j.1 (closed i j.0 has j.2 (place_within names rows j.0 j.1 are j.3)) j.3 (subst (λ z. reaches_within names n z y ≡ true) (sym j.4) next.2)
 
 -- what is reached is ranked no higher
 pub ranked_reach : (names : Names) (rows : List (List ℕ)) (ranks : List ℕ) → AreCallees names rows → AreNumbered names → AreRanked ranks rows →

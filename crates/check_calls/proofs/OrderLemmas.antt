@@ -1,21 +1,24 @@
 -- An order of functions by their places.
-use Rattle.std.proofs.Common.{◌≡◌, ◌≢◌, ◌⊎◌, ◌+◌, ◌-◌, ◌<◌, ◌≤◌, ◌==◌, ◌∙◌, ℕ, zero, suc, Bool, true, false, cond, List, [], ◌∷◌, Option, None, Some, inl, inr, refl, ap, sym, subst, arith, length, get_or, eq-eqb}
+use Rattle.std.proofs.Common.{◌≡◌, ◌≢◌, ◌⊎◌, ◌+◌, ◌-◌, ◌^◌, ◌<◌, ◌≤◌, ◌==◌, ◌∙◌, ℕ, zero, suc, Bool, true, false, cond, List, [], ◌∷◌, Option, None, Some, inl, inr, refl, ap, sym, subst, arith, length, get_or, set, eq-eqb}
 use Rattle.std.specs.Prelude.{AllPairs, find, map, position, slice_get, slice_index}
 use Rattle.std.proofs.lemmas.Bool.{cases_lt}
+use Rattle.std.proofs.lemmas.List.{get_or-set_other, get_or-set_same}
 use Rattle.std.proofs.lemmas.Bool.Decides.{nat_tests}
 use Rattle.std.proofs.lemmas.Option.{get_or_from_slice_get, none-some, same_Some, slice_get-get_or, slice_get_within}
+use Rattle.std.specs.List.Sorted.{IsStrictlyIncreasing}
 use Rattle.capl_meaning.specs.Names.{Function, Names}
 use Rattle.capl_meaning.specs.Calls.{function_numbered}
 use Rattle.typed_source.specs.Expression.{place_in}
 use Rattle.typed_source.specs.Program.{HasEach, HasNoOther}
 use Rattle.check_calls.specs.Calls.{AreAt}
-use Rattle.check_calls.specs.Graph.{AreApart, AreWhere, Has, Rise}
+use Rattle.check_calls.specs.Graph.{AreApart, Has}
+use Rattle.check_calls.specs.Inside.Order.{AreWhere}
 use Rattle.check_calls.proofs.GraphLemmas.{AreNumbered, at_map, map_at}
 use Rattle.check_calls.proofs.PlaceLemmas.{at_first, no_first}
 use Rattle.check_calls.proofs.ReachLemmas.{found_has}
 
 -- numbers that rise are below each later one
-pub rise_far : (numbers : List ℕ) → Rise numbers → (d i : ℕ) → i + suc d < length numbers → slice_index numbers i < slice_index numbers (i + suc d)
+pub rise_far : (numbers : List ℕ) → IsStrictlyIncreasing numbers → (d i : ℕ) → i + suc d < length numbers → slice_index numbers i < slice_index numbers (i + suc d)
 rise_far numbers rise zero i within =
     let same : i + 1 ≡ i + suc 0 = omega arith in
     subst (λ k. slice_index numbers i < slice_index numbers k) same (rise i (omega (arith, within)))
@@ -25,8 +28,32 @@ rise_far numbers rise (suc d) i within =
     let same : i + suc d + 1 ≡ i + suc (suc d) = omega arith in
     subst (λ k. slice_index numbers i < slice_index numbers k) same (omega (arith, before, step))
 
+-- numbers that rise are at least as high as they stand
+at_least : (numbers : List ℕ) (k : ℕ) → IsStrictlyIncreasing numbers → k < length numbers → k ≤ slice_index numbers k
+at_least numbers zero rise within = omega arith
+at_least numbers (suc k) rise within =
+    let before = at_least numbers k rise (omega (arith, within)) in
+    let same : k + 1 ≡ suc k = omega arith in
+    let step = subst (λ j. slice_index numbers k < slice_index numbers j) same (rise k (omega (arith, within))) in
+    omega (arith, before, step)
+
+-- numbers of 32 bits that rise from 1 on are fewer than 2^32
+pub few_numbers : (numbers : List ℕ) → IsStrictlyIncreasing (0 ∷ numbers) → ((k : ℕ) → get_or numbers k 0 < 2 ^ 32) →
+    length numbers < 2 ^ 32
+few_numbers [] rise fits = omega arith
+few_numbers (n ∷ ns) rise fits =
+    let low = at_least (0 ∷ n ∷ ns) (suc (length ns)) rise (omega arith) in
+    let high = fits (length ns) in
+    omega (arith, low, high)
+
+-- the same without the 0 before them
+pub rise_behind : (numbers : List ℕ) → IsStrictlyIncreasing (0 ∷ numbers) → IsStrictlyIncreasing numbers
+rise_behind numbers rise k within =
+    let same : suc k + 1 ≡ suc (k + 1) = omega arith in
+    subst (λ j. slice_index numbers k < slice_index (0 ∷ numbers) j) same (rise (suc k) (omega (arith, within)))
+
 -- numbers that rise differ
-rise_apart : (numbers : List ℕ) → Rise numbers → (i j : ℕ) → i < length numbers → j < length numbers →
+rise_apart : (numbers : List ℕ) → IsStrictlyIncreasing numbers → (i j : ℕ) → i < length numbers → j < length numbers →
     slice_index numbers i ≡ slice_index numbers j → i ≡ j
 rise_apart numbers rise i j one other same = by (cases_lt i j) (cases_lt j i)
   where
@@ -41,7 +68,7 @@ rise_apart numbers rise i j one other same = by (cases_lt i j) (cases_lt j i)
     by (inr most) (inr least) = omega (arith, most, least)
 
 -- functions of one number stand at one place
-pub functions_apart : (names : Names) (numbers : List ℕ) → numbers ≡ map (λ f. f.number) names.functions → Rise numbers →
+pub functions_apart : (names : Names) (numbers : List ℕ) → numbers ≡ map (λ f. f.number) names.functions → IsStrictlyIncreasing numbers →
     (i j : ℕ) (f g : Function) → slice_get names.functions i ≡ Some f → slice_get names.functions j ≡ Some g → f.number ≡ g.number → i ≡ j
 functions_apart names numbers same rise i j f g one other equal =
     let a = ap (λ l. slice_get l i) same ∙ at_map (λ h. h.number) names.functions i f one in
@@ -157,3 +184,22 @@ order_place names numbers indices order places made where_ i f at =
         let equal : first.0 ≡ f.number = grind (arith, nat_tests, has.1) in
         let same = one_place names numbers indices order made j known.0 f.number (first.1 ∙ ap (λ n. Some n) equal) known.2 in
         is ∙ ap (λ n. Some n) (same ∙ sym (where_ known.0 i known.1))
+
+-- one more place of a list stands where it is noted
+pub where_more : (places stand : List ℕ) (i : ℕ) → AreApart places → i < length places → get_or places i 0 < length stand →
+    ((k place : ℕ) → k < i → slice_get places k ≡ Some place → get_or stand place 0 ≡ k) →
+    (k place : ℕ) → k < i + 1 → slice_get places k ≡ Some place → get_or (set stand (get_or places i 0) i) place 0 ≡ k
+where_more places stand i apart within room known k place below at = by (cases_lt k i)
+  where
+    here : slice_get places i ≡ Some (get_or places i 0)
+    here = slice_get-get_or places i 0 within
+
+    by : (k < i) ⊎ (i ≤ k) → get_or (set stand (get_or places i 0) i) place 0 ≡ k
+    by (inl less) =
+        let other : place ≢ get_or places i 0 = λ same.
+        (let equal = apart k i place at (here ∙ ap (λ n. Some n) (sym same)) in omega (arith, equal, less)) in
+        get_or-set_other stand (get_or places i 0) place i 0 other ∙ known k place less at
+    by (inr above) =
+        let last : k ≡ i = omega (arith, above, below) in
+        let same : place ≡ get_or places i 0 = same_Some place (get_or places i 0) (sym at ∙ ap (slice_get places) last ∙ here) in
+        ap (λ p. get_or (set stand (get_or places i 0) i) p 0) same ∙ get_or-set_same stand (get_or places i 0) i 0 room ∙ sym last

@@ -6,8 +6,9 @@ use Rattle.std.proofs.lemmas.List.{map-append, take_more}
 use Rattle.check_names.specs.declared.function.DeclaredFunction.{DeclaredFunction}
 use Rattle.check_names.specs.Function.{function_in, functions_in}
 use Rattle.capl_meaning.specs.Names.{Function, Names}
-use Rattle.check_calls.specs.Callees.{AreAdded, callees, calls_of_all, functions_at}
+use Rattle.check_calls.specs.Callees.{callees, calls_of_all, functions_at}
 use Rattle.check_calls.specs.Graph.{rows_of}
+use Rattle.check_calls.specs.Inside.Added.{AreAdded}
 
 -- what was added to nothing
 added_whole : (names : Names) (places : List ℕ) (all : List (List ℕ)) → AreAdded names places [] all →

@@ -1,13 +1,17 @@
 -- A search that goes on.
-use Rattle.std.proofs.Common.{◌≡◌, ◌⊎◌, ◌+◌, ◌<◌, ◌≤◌, ◌∙◌, ℕ, zero, suc, Bool, true, false, List, [], ◌∷◌, ◌++◌, Some, inl, inr, refl, ap, sym, subst, arith, length, length-append, get_or, set, take, replicate}
+use Rattle.std.proofs.Common.{◌≡◌, ◌⊎◌, ◌+◌, ◌<◌, ◌≤◌, ◌∙◌, ℕ, zero, suc, Bool, true, false, List, [], ◌∷◌, ◌++◌, Some, inl, inr, refl, ap, sym, subst, arith, eqb, length, length-append, get_or, set, take, replicate}
 use Rattle.std.specs.Prelude.{slice_get}
 use Rattle.std.specs.Option.{option_map}
 use Rattle.std.specs.Global.{Vec}
 use Rattle.std.proofs.lemmas.Bool.{cases_lt, false≢true}
+use Rattle.std.proofs.lemmas.Bool.Decides.{nat_tests}
 use Rattle.std.proofs.lemmas.List.{take_more}
+use Rattle.std.proofs.lemmas.Map.Keys.{IsDistinct-from_apart}
+use Rattle.std.proofs.lemmas.Map.Steps.{length-le_from_distinct_below}
 use Rattle.std.proofs.lemmas.Option.{none-some, same_Some, slice_get-get_or, slice_get-map, slice_get_within}
-use Rattle.check_calls.specs.Graph.{AllPass, Has, IsClosed, Keeps, rows_of}
-use Rattle.check_calls.specs.Inside.Search.{AreFlagged, AreOnce, IsClosedTo, IsGrown}
+use Rattle.check_calls.specs.Graph.{AreApart, Has, Keeps, rows_of}
+use Rattle.check_calls.specs.Inside.Search.{AllPass, AreFlagged, AreOnce, IsClosed, IsClosedTo, IsGrown}
+use Rattle.check_calls.proofs.ReachLemmas.{any_has}
 
 -- what stands in a list stands there with one more behind it
 pub push_kept : {X : Type 0} (xs : List X) (x : X) (k : ℕ) (y : X) → slice_get xs k ≡ Some y → slice_get (xs ++ x ∷ []) k ≡ Some y
@@ -159,21 +163,21 @@ noted_more places i x first before after within is one other = record {
 -- one more row was followed
 pub closed_more : (rows : List (List ℕ)) (before after : List ℕ) (head place : ℕ) (row : List ℕ) →
     slice_get before head ≡ Some place → slice_get rows place ≡ Some row → IsGrown before after (Has row) →
-    ((x : ℕ) → Has row x → Has after x) → IsClosedTo rows before head → IsClosedTo rows after (head + 1)
-closed_more rows before after head place row here there grown added closed k from to within at leads =
+    ((x : ℕ) → Has row x → x < length rows → Has after x) → IsClosedTo rows before head → IsClosedTo rows after (head + 1)
+closed_more rows before after head place row here there grown added closed k from to within at leads is =
     by (cases_lt k head) (slice_get-get_or before k 0)
   where
     by : (k < head) ⊎ (head ≤ k) → (k < length before → slice_get before k ≡ Some (get_or before k 0)) → Has after to
     by (inl below) read =
         let was = read (omega (arith, below, slice_get_within before head place here)) in
         let same : get_or before k 0 ≡ from = same_Some (get_or before k 0) from (sym (grown.kept k (get_or before k 0) was) ∙ at) in
-        let r = closed k from to below (was ∙ ap (λ x. Some x) same) leads in
+        let r = closed k from to below (was ∙ ap (λ x. Some x) same) leads is in
         (r.0, grown.kept r.0 to r.1)
     by (inr above) read =
         let last : k ≡ head = omega (arith, above, within) in
         let same : place ≡ from = same_Some place from (sym (grown.kept head place here) ∙ ap (slice_get after) (sym last) ∙ at) in
         let it : row ≡ leads.0 = same_Some row leads.0 (sym there ∙ ap (slice_get rows) same ∙ leads.1) in
-        added to (subst (λ (l : List ℕ). Has l to) (sym it) leads.2)
+        added to (subst (λ (l : List ℕ). Has l to) (sym it) leads.2) is
 
 -- what passes a test still does
 pub pass_more : (rows : List (List ℕ)) (before after : List ℕ) (head place : ℕ) (row : List ℕ) (test : ℕ → Bool) →
@@ -186,14 +190,14 @@ pass_more rows before after head place row test here there grown keeps pass k x 
     by (inr has) = keeps place x (row, there, has) (pass head place here)
 
 -- one more of a list, where what it is for each item so far is known
-pub here_more : (places : List ℕ) (i x : ℕ) (before after : List ℕ) → i < length places → x ≡ get_or places i x →
-    ((place : ℕ) → Has (take i places) place → Has before place) → IsGrown before after (λ other. other ≡ x) → Has after x →
-    (place : ℕ) → Has (take (i + 1) places) place → Has after place
-here_more places i x before after within is known grown added place has = by (take_has places i x within is place has)
+pub here_more : (count : ℕ) (places : List ℕ) (i x : ℕ) (before after : List ℕ) → i < length places → x ≡ get_or places i x →
+    ((place : ℕ) → Has (take i places) place → place < count → Has before place) → IsGrown before after (λ other. other ≡ x) →
+    (x < count → Has after x) → (place : ℕ) → Has (take (i + 1) places) place → place < count → Has after place
+here_more count places i x before after within is known grown added place has below = by (take_has places i x within is place has)
   where
     by : Has (take i places) place ⊎ (place ≡ x) → Has after place
-    by (inl earlier) = let r = known place earlier in (r.0, grown.kept r.0 place r.1)
-    by (inr same) = subst (Has after) (sym same) added
+    by (inl earlier) = let r = known place earlier below in (r.0, grown.kept r.0 place r.1)
+    by (inr same) = subst (Has after) (sym same) (added (subst (λ n. n < count) same below))
 
 -- the row at a place
 pub row_at : (rows : List (Vec ℕ)) (place : ℕ) (row : Vec ℕ) → place < length rows → row ≡ get_or rows place row →
@@ -213,6 +217,34 @@ none_has x has = none-some x has.1
 
 -- all of what was found was followed
 pub closed_all : (rows : List (List ℕ)) (found : List ℕ) (head : ℕ) → length found ≤ head → IsClosedTo rows found head → IsClosed rows found
-closed_all rows found head past closed from to has leads =
+closed_all rows found head past closed from to has leads is =
     let within = slice_get_within found has.0 from has.1 in
-    closed has.0 from to (omega (arith, within, past)) has.1 leads
+    closed has.0 from to (omega (arith, within, past)) has.1 leads is
+
+-- no more places are found than there are
+pub few_apart : (found : List ℕ) (count : ℕ) → AreApart found →
+    ((k place : ℕ) → slice_get found k ≡ Some place → place < count) → length found ≤ count
+few_apart found count apart within =
+    length-le_from_distinct_below found count
+    (IsDistinct-from_apart eqb found (λ i j d below inside. by i j d below inside (eqb (get_or found i d) (get_or found j d)) refl))
+    (λ q any. let has = any_has (eqb q) found any in
+    let same : q ≡ has.0 = grind (arith, nat_tests, has.2) in
+    subst (λ n. n < count) (sym same) (within has.1.0 has.0 has.1.1))
+  where
+    by : (i j d : ℕ) → i < j → j < length found → (b : Bool) → eqb (get_or found i d) (get_or found j d) ≡ b →
+        eqb (get_or found i d) (get_or found j d) ≡ false
+    by i j d below inside false is = is
+    by i j d below inside true is =
+        let same : get_or found i d ≡ get_or found j d = grind (arith, nat_tests, is) in
+        let one = slice_get-get_or found i d (omega (arith, below, inside)) ∙ ap (λ n. Some n) same in
+        let equal = apart i j (get_or found j d) one (slice_get-get_or found j d inside) in
+        absurd (omega (arith, below, equal))
+
+-- what was found are places
+pub once_within : (flags : List Bool) (found : List ℕ) → AreOnce flags found → (k place : ℕ) →
+    slice_get found k ≡ Some place → place < length flags
+once_within flags found once k place at = slice_get_within flags place true (once.known k place at)
+
+-- no more places are found than there are flags
+pub once_few : (flags : List Bool) (found : List ℕ) → AreOnce flags found → length found ≤ length flags
+once_few flags found once = few_apart found (length flags) once.apart (once_within flags found once)

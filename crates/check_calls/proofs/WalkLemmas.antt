@@ -328,32 +328,32 @@ call_walks rows before mid after rest f c next call first second entered left (i
     here = subst (λ (l : List (ℕ × ℕ)). IsWalk rows before.entered.items l before.left.items) first walk
 
 -- fewer steps are left when a call is followed
-pub call_falls : (rows : List (List ℕ)) (before mid after : Walk) (rest : List (ℕ × ℕ)) (f c next : ℕ) → IsCall rows f c next →
+pub call_falls : (graph : List (List ℕ)) (before mid after : Walk) (rest : List (ℕ × ℕ)) (f c next : ℕ) → IsCall graph f c next →
     before.stack.items ≡ rest ++ (f, c) ∷ [] → mid.stack.items ≡ rest ++ (f, c + 1) ∷ [] → mid.entered.items ≡ before.entered.items →
-    WasEntered mid after next ⊎ IsEntered mid after next → steps_of rows after < steps_of rows before
-call_falls rows before mid after rest f c next call first second entered how = by how
+    WasEntered mid after next ⊎ IsEntered mid after next → steps_of graph after < steps_of graph before
+call_falls graph before mid after rest f c next call first second entered how = by how
   where
-    less : c < calls_at rows f
+    less : c < calls_at graph f
     less = let within = slice_get_within call.0 c next call.2 in let is = ap (λ p. option_map_or length p 0) call.1 in omega (arith, within, is)
 
-    old : to_leave rows before.stack.items ≡ to_leave rows rest + suc (calls_at rows f - c)
-    old = ap (to_leave rows) first ∙ leave_more rows rest (f, c)
+    old : to_leave graph before.stack.items ≡ to_leave graph rest + suc (calls_at graph f - c)
+    old = ap (to_leave graph) first ∙ leave_more graph rest (f, c)
 
-    new : to_leave rows mid.stack.items ≡ to_leave rows rest + suc (calls_at rows f - (c + 1))
-    new = ap (to_leave rows) second ∙ leave_more rows rest (f, c + 1)
+    new : to_leave graph mid.stack.items ≡ to_leave graph rest + suc (calls_at graph f - (c + 1))
+    new = ap (to_leave graph) second ∙ leave_more graph rest (f, c + 1)
 
-    by : WasEntered mid after next ⊎ IsEntered mid after next → steps_of rows after < steps_of rows before
+    by : WasEntered mid after next ⊎ IsEntered mid after next → steps_of graph after < steps_of graph before
     by (inl was) =
-        let same = ap (to_enter rows 0) (was.entered ∙ entered) in
-        let same_stack = ap (to_leave rows) was.stack in
+        let same = ap (to_enter graph 0) (was.entered ∙ entered) in
+        let same_stack = ap (to_leave graph) was.stack in
         omega (arith, less, old, new, same, same_stack)
     by (inr is) =
-        let more = ap (to_leave rows) is.stack ∙ leave_more rows mid.stack.items (next, 0) in
-        let fewer = entered_steps rows 0 mid.entered.items next is.within is.new in
-        let same = ap (to_enter rows 0) is.entered in
-        let same_entered = ap (to_enter rows 0) entered in
+        let more = ap (to_leave graph) is.stack ∙ leave_more graph mid.stack.items (next, 0) in
+        let fewer = entered_steps graph 0 mid.entered.items next is.within is.new in
+        let same = ap (to_enter graph 0) is.entered in
+        let same_entered = ap (to_enter graph 0) entered in
         let zero_plus : 0 + next ≡ next = omega arith in
-        let same_calls = ap (calls_at rows) zero_plus in
+        let same_calls = ap (calls_at graph) zero_plus in
         omega (arith, less, old, new, more, fewer, same, same_entered, same_calls)
 
 -- fewer steps are left when a place is left

@@ -1,11 +1,12 @@
 -- The calls of a program, as code has them.
 use Rattle.std.specs.Prelude.{◌≡◌, ◌≢◌, ℕ, false, List, map, slice_get, slice_index, Some, All, AllPairs}
+use Rattle.std.specs.List.Sorted.{IsStrictlyIncreasing}
 use Rattle.capl_meaning.specs.Names.{Function, Names}
 use Rattle.capl_meaning.specs.Calls.{called_by_number, function_numbered, reaches}
 use Rattle.typed_source.specs.Expression.{place_in}
 use Rattle.typed_source.specs.Program.{HasEach, HasNoOther}
 use Rattle.check_calls.specs.declared.calls.Calls.{Calls}
-use Rattle.check_calls.specs.Graph.{AreApart, AreCallees, Rise, StandBehind, rows_of}
+use Rattle.check_calls.specs.Graph.{AreApart, AreCallees, StandBehind, rows_of}
 use Rattle.check_calls.specs.Components.{AreComponents}
 
 -- the order of the functions, by the numbers of their procedures
@@ -22,7 +23,7 @@ AreAt names order indices = (k number : ℕ) → slice_get order k ≡ Some numb
     (i : ℕ) × (f : Function) × (slice_get indices k ≡ Some i) × (slice_get names.functions i ≡ Some f)
     × (f.number ≡ number)
 
--- no function of a program that another calls reaches it
+-- no function of a program that is called reaches the one that calls it
 abbrev pub GoForward : Names → Type 0
 GoForward names =
     (number : ℕ) → All (λ called. reaches names called number ≡ false) (called_by_number names number)
@@ -43,5 +44,5 @@ pub record AreCallsOf (names : Names) (calls : Calls) : Type 0 where
       place_in (order_of calls) f.number ≡ Some (slice_index calls.places.items k)
   pub numbers : calls.numbers.items ≡ map (λ f. f.number) names.functions
   pub callees : AreCallees names (rows_of calls.callees.items)
-  pub rising : Rise calls.numbers.items
+  pub rising : IsStrictlyIncreasing calls.numbers.items
   pub components : AreComponents (rows_of calls.callees.items) calls.components

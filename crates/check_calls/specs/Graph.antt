@@ -1,5 +1,5 @@
 -- Rows of a graph: what each place leads to.
-use Rattle.std.specs.Prelude.{◌≡◌, ℕ, ◌⊎◌, ◌+◌, ◌<◌, ◌≤◌, Bool, true, List, length, map, slice_get, slice_index, Some}
+use Rattle.std.specs.Prelude.{◌≡◌, ℕ, ◌⊎◌, ◌<◌, ◌≤◌, Bool, true, List, length, map, slice_get, slice_index, Some}
 use Rattle.std.specs.Global.{Vec}
 use Rattle.capl_meaning.specs.Names.{Names}
 use Rattle.check_calls.specs.Callees.{callees, calls_of_all, functions_at}
@@ -25,29 +25,13 @@ abbrev pub AreCallees : Names → List (List ℕ) → Type 0
 AreCallees names rows =
     map (functions_at names) rows ≡ map (λ f. callees names (calls_of_all f.body)) names.functions
 
--- each number is above the one before it
-abbrev pub Rise : List ℕ → Type 0
-Rise numbers = (k : ℕ) → k + 1 < length numbers → slice_index numbers k < slice_index numbers (k + 1)
-
 -- what each place leads to is ranked no higher
 abbrev pub AreRanked : List ℕ → List (List ℕ) → Type 0
 AreRanked ranks rows = (from to : ℕ) → Leads rows from to → slice_index ranks to ≤ slice_index ranks from
 
--- each place of a list passes a test
-abbrev pub AllPass : (ℕ → Bool) → List ℕ → Type 0
-AllPass test places = (k place : ℕ) → slice_get places k ≡ Some place → test place ≡ true
-
--- what the places of a list lead to stands in it
-abbrev pub IsClosed : List (List ℕ) → List ℕ → Type 0
-IsClosed rows places = (from to : ℕ) → Has places from → Leads rows from to → Has places to
-
 -- no place stands in a list twice
 abbrev pub AreApart : List ℕ → Type 0
 AreApart places = (i j place : ℕ) → slice_get places i ≡ Some place → slice_get places j ≡ Some place → i ≡ j
-
--- where each place of a list stands in it
-abbrev pub AreWhere : List ℕ → List ℕ → Type 0
-AreWhere where_ places = (k place : ℕ) → slice_get places k ≡ Some place → slice_index where_ place ≡ k
 
 -- by any number of steps a place leads to another, which so passes what the place passes and each step keeps
 abbrev pub Reaches : List (List ℕ) → ℕ → ℕ → Type 0
@@ -62,11 +46,6 @@ AreReached rows roots marks =
 abbrev pub AreReaching : List (List ℕ) → List ℕ → List Bool → Type 0
 AreReaching rows roots marks =
     (place : ℕ) → slice_get marks place ≡ Some true → Reaches rows place (slice_index roots place)
-
--- what is marked was marked before, or is one of some
-abbrev pub IsMarked : List Bool → List Bool → (ℕ → Type 0) → Type 0
-IsMarked before after New =
-    (place : ℕ) → slice_get after place ≡ Some true → (slice_get before place ≡ Some true) ⊎ New place
 
 -- a place stands in a list before an index
 abbrev pub StandsBefore : List ℕ → ℕ → ℕ → Type 0

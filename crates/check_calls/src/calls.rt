@@ -9,7 +9,7 @@ ghost use Rattle.check_calls.specs.Calls.{AreCallsOf, indices_of, order_of};
 use crate::components::Components;
 use crate::depth::depth_first;
 use crate::ranks::number_at;
-use crate::rows::{callees_of_all, count_of, is_among, numbers_at, numbers_of_all, rise, stand_at};
+use crate::rows::{callees_of_all, count_of, is_among, numbers_at, numbers_of_all, stand_at};
 use crate::search::reached_from;
 use check_names::Names;
 use std::alloc::Global;
@@ -33,17 +33,13 @@ pub struct Calls {
 }
 
 impl Calls {
-    /// The calls of a program. Takes time and memory linear in the program. Names whose functions are
-    /// not in the order of their procedures' numbers are refused as if there were no memory for them:
-    /// no program has such names.
+    /// The calls of a program. Takes time and memory linear in the program.
     pub fn build(alloc: Global, names: &Names) -> Result<Calls, NoMemory>
         ensures { IfOk result (AreCallsOf names.now) }
     {
+        names.functions_rise();
         let numbers = numbers_of_all(alloc, names)?;
-        if !rise(numbers.as_slice()) {
-            return Err(NoMemory);
-        }
-        let count = count_of(numbers.as_slice())?;
+        let count = count_of(numbers.as_slice());
         let callees = callees_of_all(alloc, names)?;
         let indices = depth_first(alloc, count, callees.as_slice())?;
         let places = stand_at(alloc, count, indices.as_slice())?;

@@ -1,6 +1,6 @@
 // The components of a program's calls: functions that reach each other by calls are of one component.
 
-ghost use Rattle.std.specs.Prelude.{◌≡◌, ◌<◌, ℕ, IfOk, List, slice_index, true};
+ghost use Rattle.std.specs.Prelude.{◌≡◌, ◌<◌, ◌^◌, ℕ, IfOk, List, length, slice_index, true};
 ghost use Rattle.check_calls.specs.Components.{AreComponents};
 ghost use Rattle.check_calls.specs.Graph.{AreRanked, Reaches, rows_of};
 
@@ -36,6 +36,7 @@ impl Components {
         order: &[u32],
         places: &[u32],
     ) -> Result<Components, NoMemory>
+        requires { length rows.now < 2 ^ 32 }
         ensures { IfOk result (AreComponents (rows_of rows.now)) }
     {
         let found = component_roots(alloc, rows, order)?;

@@ -141,15 +141,16 @@ fn add_caller(caller: u32, row: &[u32], callers: &mut Vec<Vec<u32>>) -> Result<(
 }
 
 /// The functions by which each function is called. Takes time and memory linear in the rows.
-fn callers_of(alloc: Global, rows: &[Vec<u32>]) -> Result<Vec<Vec<u32>>, NoMemory> {
+fn callers_of(alloc: Global, rows: &[Vec<u32>]) -> Result<Vec<Vec<u32>>, NoMemory>
+    requires { length rows.now < 2 ^ 32 }
+{
+    let count = rows.len() as u32;
     let mut callers = Vec::new(alloc);
-    for _ in rows {
+    for _ in 0..count {
         callers.push(Vec::new(alloc))?;
     }
-    let mut caller = 0u32;
-    for row in rows {
-        add_caller(caller, row.as_slice(), &mut callers)?;
-        caller = caller.checked_add(1).ok_or(NoMemory)?;
+    for caller in 0..count {
+        add_caller(caller, rows[caller as usize].as_slice(), &mut callers)?;
     }
     Ok(callers)
 }
@@ -173,7 +174,9 @@ pub(crate) fn component_roots(
     alloc: Global,
     rows: &[Vec<u32>],
     order: &[u32],
-) -> Result<RootedOrder, NoMemory> {
+) -> Result<RootedOrder, NoMemory>
+    requires { length rows.now < 2 ^ 32 }
+{
     let callers = callers_of(alloc, rows)?;
     let mut walk = Walk::new(alloc, rows.len())?;
     let mut roots = vec![in alloc; 0u32; rows.len()]?;

@@ -6,8 +6,8 @@ ghost use Rattle.typed_source.specs.Program.{IsGoodOrder};
 ghost use Rattle.check_calls.specs.declared.calls.Calls.{Calls};
 ghost use Rattle.check_calls.specs.Calls.{AreCallsOf, GoForward, order_of};
 
-/// Where no function that another calls reaches it, each function stands behind those that it calls in the
-/// order that the calls of a program have.
+/// Where no function that is called reaches the one that calls it, each function stands behind those that it
+/// calls in the order that the calls of a program have.
 pub fn orders_are_good()
     ensures { (names : Names) (calls : Calls) → AreCallsOf names calls → GoForward names →
         IsGoodOrder names (order_of calls) }

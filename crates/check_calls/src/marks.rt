@@ -2,7 +2,8 @@
 // is marked is proved, and that enough is marked is not.
 
 ghost use Rattle.std.specs.Prelude.{◌≡◌, ℕ, IfOk, Some, slice_get, slice_index, true};
-ghost use Rattle.check_calls.specs.Graph.{AreReached, AreReaching, Has, IsMarked, rows_of};
+ghost use Rattle.check_calls.specs.Graph.{AreReached, AreReaching, Has, rows_of};
+ghost use Rattle.check_calls.specs.Inside.Marks.{IsMarked};
 
 use crate::ranks::number_at;
 use std::alloc::Global;

@@ -1,8 +1,10 @@
 // The functions that each function calls.
 
-ghost use Rattle.std.specs.Prelude.{◌≡◌, ◌==◌, IfOk, length, map, slice_index, true};
+ghost use Rattle.std.specs.Prelude.{◌≡◌, ◌==◌, ◌∷◌, ◌<◌, ℕ, IfOk, Some, length, map, slice_get, slice_index};
 ghost use Rattle.std.specs.List.{list_any};
-ghost use Rattle.check_calls.specs.Graph.{AreApart, AreCallees, AreWhere, Rise, rows_of};
+ghost use Rattle.std.specs.List.Sorted.{IsStrictlyIncreasing};
+ghost use Rattle.check_calls.specs.Graph.{AreApart, AreCallees, rows_of};
+ghost use Rattle.check_calls.specs.Inside.Order.{AreWhere};
 
 use crate::ranks::number_at;
 use crate::statement::add_calls_of_all;
@@ -35,26 +37,12 @@ pub(crate) fn numbers_of_all(alloc: Global, names: &Names) -> Result<Vec<u32>, N
     Ok(numbers)
 }
 
-/// How many numbers there are.
-pub(crate) fn count_of(numbers: &[u32]) -> Result<u32, NoMemory>
-    ensures { IfOk result (λ count. count ≡ length numbers.now) }
+/// How many numbers there are, which rise from 1 on.
+pub(crate) fn count_of(numbers: &[u32]) -> u32
+    requires { IsStrictlyIncreasing (0 ∷ numbers.now) }
+    ensures { result ≡ length numbers.now }
 {
-    match u32::try_from(numbers.len()) {
-        Ok(count) => Ok(count),
-        Err(_) => Err(NoMemory),
-    }
-}
-
-/// Whether each of the numbers is above the one before it.
-pub(crate) fn rise(numbers: &[u32]) -> bool
-    ensures { result ≡ true → Rise numbers.now }
-{
-    for i in 1..numbers.len() {
-        if numbers[i] <= numbers[i - 1] {
-            return false;
-        }
-    }
-    true
+    numbers.len() as u32
 }
 
 /// The numbers at these places, each 0 where there is none.
@@ -72,19 +60,17 @@ pub(crate) fn numbers_at(
     Ok(taken)
 }
 
-/// Where each place below a count stands in a list.
+/// Where each place below a count stands in a list of such places.
 pub(crate) fn stand_at(alloc: Global, count: u32, places: &[u32]) -> Result<Vec<u32>, NoMemory>
-    ensures { AreApart places.now → IfOk result (λ stand. AreWhere stand.items places.now) }
+    requires apart { AreApart places.now }
+    requires within { (k place : ℕ) → slice_get places.now k ≡ Some place → place < count }
+    ensures { IfOk result (λ stand. AreWhere stand.items places.now) }
 {
     let mut stand = vec![in alloc; 0u32; count as usize]?;
     let mut at = 0u32;
     for place in places {
-        let place = *place as usize;
-        if place >= stand.len() {
-            return Err(NoMemory);
-        }
-        stand[place] = at;
-        at = at.checked_add(1).ok_or(NoMemory)?;
+        stand[*place as usize] = at;
+        at += 1;
     }
     Ok(stand)
 }

@@ -3,7 +3,8 @@
 ghost use Rattle.std.specs.Prelude.{◌≡◌, ◌++◌, OnOk, flat_map};
 ghost use Rattle.std.specs.Option.{option_to_list};
 ghost use Rattle.capl_meaning.specs.Calls.{calls_in_declarator, calls_in_init, calls_in_item, calls_in_labels, calls_of};
-ghost use Rattle.check_calls.specs.Callees.{AreAdded, calls_of_all, calls_of_cases, calls_of_list, calls_of_other};
+ghost use Rattle.check_calls.specs.Callees.{calls_of_all};
+ghost use Rattle.check_calls.specs.Inside.Added.{AreAdded, calls_of_cases, calls_of_list, calls_of_other};
 
 use crate::expression::{add_calls, add_calls_in_field, add_calls_in_part};
 use capl_tree::{Arm, Declr, Group, Init, Item, Label, Stmt};

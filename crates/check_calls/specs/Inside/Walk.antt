@@ -71,4 +71,4 @@ to_leave rows (o ∷ stack) = suc (calls_at rows o.0 - o.1) + to_leave rows stac
 
 -- the steps that a walk takes at most until no place is open
 abbrev pub steps_of : List (List ℕ) → Walk → ℕ
-steps_of rows walk = to_enter rows 0 walk.entered.items + to_leave rows walk.stack.items
+steps_of graph walk = to_enter graph 0 walk.entered.items + to_leave graph walk.stack.items

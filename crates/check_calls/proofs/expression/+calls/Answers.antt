@@ -1,10 +1,10 @@
 -- One more expression, and each form by its parts.
 use Rattle.std.proofs.Common.{◌∷◌, [], refl}
 use Rattle.capl_meaning.specs.Calls.{calls_in, calls_in_field}
-use Rattle.check_calls.specs.Callees.{calls_in_all}
 use Rattle.check_calls.proofs.CalleeLemmas.{added_more, added_none, added_pair, added_triple}
 use Rattle.check_calls.proofs.FormLemmas.{assign_calls, binary_calls, call_calls, cond_calls, index_calls, member_calls}
 use Rattle.check_calls.proofs.expression.+calls.Goals as goal
+use Rattle.check_calls.specs.Inside.Added.{calls_in_all}
 
 pub add_all_calls-loop-e-init : goal.add_all_calls-loop-e-init
 add_all_calls-loop-e-init t c = added_none _ _

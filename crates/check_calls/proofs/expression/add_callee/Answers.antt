@@ -1,8 +1,8 @@
 -- A name adds its function, if it has one.
 use Rattle.std.proofs.Common.{◌∙◌, ◌∷◌, [], subst, sym, ℕ, List}
-use Rattle.check_calls.specs.Callees.{AreAdded}
 use Rattle.check_calls.proofs.CalleeLemmas.{added_builtin, added_function, added_unknown}
 use Rattle.check_calls.proofs.expression.add_callee.Goals as goal
+use Rattle.check_calls.specs.Inside.Added.{AreAdded}
 
 pub returns-then-is_builtin : goal.returns-then-is_builtin
 returns-then-is_builtin c = added_builtin _ _ _ (sym c.is_builtin.ensures ∙ c.if-is_builtin.true)

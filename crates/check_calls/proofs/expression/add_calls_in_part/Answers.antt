@@ -3,9 +3,9 @@ use Rattle.std.proofs.Common.{sym, subst}
 use Rattle.std.specs.Prelude.{Option}
 use Rattle.capl_tree.specs.declared.expr.Expr.{Expr}
 use Rattle.capl_meaning.specs.Calls.{calls_in_part}
-use Rattle.check_calls.specs.Callees.{AreAdded}
 use Rattle.check_calls.proofs.CalleeLemmas.{added_none}
 use Rattle.check_calls.proofs.expression.add_calls_in_part.Goals as goal
+use Rattle.check_calls.specs.Inside.Added.{AreAdded}
 
 pub returns-in-None : goal.returns-in-None
 returns-in-None c =

@@ -1,11 +1,11 @@
 -- One more place.
 use Rattle.std.proofs.Common.{◌∙◌, Bool, get_or, subst, sym, take, ◌+◌}
 use Rattle.std.specs.Global.{Vec}
-use Rattle.check_calls.specs.Graph.{IsMarked}
 use Rattle.check_calls.proofs.ComponentLemmas.{OfRoot, marked_none, marked_one}
 use Rattle.check_calls.proofs.SearchLemmas.{read_same}
 use Rattle.check_calls.proofs.marks.mark_all.Goals as goal
 use Rattle.check_calls.proofs.marks.mark_all.Goals.{then-number_at-root, else-number_at-root}
+use Rattle.check_calls.specs.Inside.Marks.{IsMarked}
 
 pub loop-place-preserved : goal.loop-place-preserved
 loop-place-preserved c =

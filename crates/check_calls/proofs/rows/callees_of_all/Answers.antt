@@ -3,8 +3,9 @@ use Rattle.std.proofs.Common.{◌≡◌, ◌+◌, List, ℕ, subst, sym, take}
 use Rattle.std.specs.Prelude.{map}
 use Rattle.std.specs.Global.{Vec}
 use Rattle.check_names.specs.Function.{functions_in}
-use Rattle.check_calls.specs.Callees.{AreAdded, callees, calls_of_all, functions_at}
+use Rattle.check_calls.specs.Callees.{callees, calls_of_all, functions_at}
 use Rattle.check_calls.specs.Graph.{rows_of}
+use Rattle.check_calls.specs.Inside.Added.{AreAdded}
 use Rattle.check_calls.proofs.RowLemmas.{rows_more}
 use Rattle.check_calls.proofs.rows.callees_of_all.Goals as goal
 

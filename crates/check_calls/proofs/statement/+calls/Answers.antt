@@ -5,7 +5,8 @@ use Rattle.capl_tree.specs.declared.statement.Arm.{Arm}
 use Rattle.capl_tree.specs.declared.statement.Group.{Group}
 use Rattle.capl_tree.specs.declared.statement.Stmt.{Stmt}
 use Rattle.capl_meaning.specs.Calls.{calls_in, calls_in_labels, calls_in_part, calls_of}
-use Rattle.check_calls.specs.Callees.{AreAdded, calls_of_all, calls_of_cases, calls_of_list, calls_of_other}
+use Rattle.check_calls.specs.Callees.{calls_of_all}
+use Rattle.check_calls.specs.Inside.Added.{AreAdded, calls_of_cases, calls_of_list, calls_of_other}
 use Rattle.check_calls.proofs.CalleeLemmas.{added_more, added_none, added_pair, added_triple, added_two}
 use Rattle.check_calls.proofs.FormLemmas.{do_calls, for_calls, if_calls, switch_calls, while_calls}
 use Rattle.check_calls.proofs.statement.+calls.Goals as goal

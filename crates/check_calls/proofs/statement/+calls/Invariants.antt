@@ -1,6 +1,7 @@
 -- What was added is of the statements, arms and groups so far.
 use Rattle.std.proofs.Common.{take}
-use Rattle.check_calls.specs.Callees.{AreAdded, calls_of_all, calls_of_cases, calls_of_list}
+use Rattle.check_calls.specs.Callees.{calls_of_all}
+use Rattle.check_calls.specs.Inside.Added.{AreAdded, calls_of_cases, calls_of_list}
 use Rattle.check_calls.proofs.statement.+calls.Given as goal
 
 abbrev pub invariant-add_calls_of_all-loop-statement : goal.invariant-add_calls_of_all-loop-statement

@@ -4,9 +4,9 @@ use Rattle.std.specs.Prelude.{Option, flat_map}
 use Rattle.std.specs.Option.{option_to_list}
 use Rattle.capl_tree.specs.declared.declaration.Init.{Init}
 use Rattle.capl_meaning.specs.Calls.{calls_in_init}
-use Rattle.check_calls.specs.Callees.{AreAdded}
 use Rattle.check_calls.proofs.CalleeLemmas.{added_none}
 use Rattle.check_calls.proofs.statement.add_calls_in_start.Goals as goal
+use Rattle.check_calls.specs.Inside.Added.{AreAdded}
 
 pub returns-in-None : goal.returns-in-None
 returns-in-None c =

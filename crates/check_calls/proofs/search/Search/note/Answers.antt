@@ -1,5 +1,5 @@
 -- A place that was not found before is found last.
-use Rattle.std.proofs.Common.{◌≡◌, ◌∙◌, ℕ, Bool, List, Some, ap, subst, sym, true, set, get_or, arith, ◌<◌, length}
+use Rattle.std.proofs.Common.{◌≡◌, ◌∙◌, ℕ, List, Some, subst, sym, true, set, get_or, arith, ◌<◌, length}
 use Rattle.std.proofs.lemmas.Option.{same_Some, slice_get-get_or}
 use Rattle.std.proofs.lemmas.Bool.{false≢true}
 use Rattle.std.specs.Prelude.{slice_get}
@@ -8,35 +8,27 @@ use Rattle.check_calls.specs.Inside.Search.{AreFlagged, AreOnce, IsGrown}
 use Rattle.check_calls.proofs.SearchLemmas.{flagged_more, grown_one, once_more, push_has}
 use Rattle.check_calls.proofs.search.Search.note.Goals as goal
 
-pub returns-in_ok-push-clause-flagged : goal.returns-in_ok-push-clause-flagged
-returns-in_ok-push-clause-flagged c = λ are.
+pub returns-clause-flagged : goal.returns-clause-flagged
+returns-clause-flagged c = λ are.
     subst (λ (l : List ℕ). AreFlagged (set c.args.self.now.flags.items c.args.place true) l) (sym c.in_ok-push.ensures.items)
     (flagged_more c.args.self.now.flags.items c.args.self.now.found.items c.args.place are)
 
-pub returns-in_ok-push-clause-here : goal.returns-in_ok-push-clause-here
-returns-in_ok-push-clause-here c = λ are.
+pub returns-clause-here : goal.returns-clause-here
+returns-clause-here c = λ are within.
     subst (λ (l : List ℕ). Has l c.args.place) (sym c.in_ok-push.ensures.items)
     (push_has c.args.self.now.found.items c.args.place)
 
-pub returns-in_ok-push-clause-grown : goal.returns-in_ok-push-clause-grown
-returns-in_ok-push-clause-grown c =
+pub returns-clause-grown : goal.returns-clause-grown
+returns-clause-grown c =
     subst (λ (l : List ℕ). IsGrown c.args.self.now.found.items l (λ other. other ≡ c.args.place)) (sym c.in_ok-push.ensures.items)
     (grown_one c.args.self.now.found.items c.args.place)
 
-pub returns-else-not-index-clause-here : goal.returns-else-not-index-clause-here
-returns-else-not-index-clause-here c = λ are.
-    let flags = c.args.self.now.flags.items in
-    let within : c.args.place < length flags = omega (arith, c.if-at-len.false, c.len.ensures) in
-    are c.args.place
-    (slice_get-get_or flags c.args.place c.index.result.now within
-    ∙ ap (λ (b : Bool). Some b) (sym c.index.ensures ∙ c.if-not-index.false))
-
-pub returns-in_ok-push-clause-once : goal.returns-in_ok-push-clause-once
-returns-in_ok-push-clause-once c = λ are.
+pub returns-clause-once : goal.returns-clause-once
+returns-clause-once c = λ are.
     let flags = c.args.self.now.flags.items in
     let within : c.args.place < length flags = omega (arith, c.if-at-len.false, c.len.ensures) in
     let new : slice_get flags c.args.place ≡ Some true → ⊥ = λ at.
-    false≢true (sym c.if-not-index.true ∙ c.index.ensures
+    false≢true (sym c.if-index.false ∙ c.index.ensures
     ∙ same_Some (get_or flags c.args.place c.index.result.now) true
     (sym (slice_get-get_or flags c.args.place c.index.result.now within) ∙ at)) in
     subst (λ (l : List ℕ). AreOnce (set flags c.args.place true) l) (sym c.in_ok-push.ensures.items)
