@@ -79,7 +79,7 @@ impl Minima {
     }
 }
 
-/// Puts a moment into a leaf, and the lesser of two into each node above it.
+/// Puts a moment into a leaf, and the lesser of two into each node above it, up to the first that has it.
 fn set_leaf(nodes: &mut [u64], leaves: usize, place: usize, moment: u64)
     requires size { length nodes.old ≡ 2 * leaves }
     requires within { place < leaves }
@@ -91,7 +91,11 @@ fn set_leaf(nodes: &mut [u64], leaves: usize, place: usize, moment: u64)
     nodes[node] = moment;
     while node > 1 {
         node /= 2;
-        nodes[node] = nodes[2 * node].min(nodes[2 * node + 1]);
+        let lesser = nodes[2 * node].min(nodes[2 * node + 1]);
+        if nodes[node] == lesser {
+            return;
+        }
+        nodes[node] = lesser;
     }
 }
 
