@@ -22,13 +22,20 @@ pub fn render(alloc: Global, f: &Format, numbers: &[i128], cells: &[i128]) -> Re
     requires arrays { All (HoldsBytes cells.now) (char_arrays f.now) }
     ensures { IfOk result (λ text. text ≡ rendered f.now numbers.now cells.now) }
 {
-    let mut line = Vec::new(alloc);
+    let mut line = Vec::with_capacity(alloc, room_of(f))?;
     let mut taken = 0;
     for part in f.parts() {
         append_part(alloc, &mut line, part, numbers_from(numbers, taken), cells)?;
         taken += numbers_in(part);
     }
     Text::make(alloc, &line)
+}
+
+/// How many bytes a line has at most, where no field is wider than 20 and no text is shown.
+fn room_of(f: &Format) -> usize {
+    f.text()
+        .len()
+        .saturating_add(f.numbers_taken().saturating_mul(20))
 }
 
 /// Appends what a part shows.
