@@ -16,7 +16,7 @@ use message_cells::begin_with_event;
 use run_effects::{Event, Selector};
 use std::alloc::Global;
 use texts::NoMemory;
-use write_format::Format;
+use write_format::{CharCells, Format};
 
 /// Whether the tables keep their rules.
 pub(crate) fn keeps_tables(alloc: Global, code: &Code) -> Result<bool, NoMemory>
@@ -28,9 +28,11 @@ pub(crate) fn keeps_tables(alloc: Global, code: &Code) -> Result<bool, NoMemory>
     }
     let keeps_lists = begin_with_event(kinds)
         && starts_are_held(kinds, code.starts.as_slice())
-        && units_are_known(code.timers.as_slice())
-        && arrays_exist(code);
-    Ok(keeps_lists)
+        && units_are_known(code.timers.as_slice());
+    if !keeps_lists {
+        return Ok(false);
+    }
+    arrays_exist(alloc, kinds, code.formats.as_slice())
 }
 
 /// Whether each initial value is held by its cell's kind.
@@ -81,19 +83,23 @@ fn units_are_known(units: &[u64]) -> bool
     units.iter().all(|unit| *unit == 1000 || *unit == 1_000_000)
 }
 
-/// Whether the arrays of characters of each format are there.
-fn arrays_exist(code: &Code) -> bool
-    ensures { IsTrue result ↔
-        All (λ format. All (IsCharArray code.now.cells) (char_arrays format)) code.now.formats }
+/// Whether the arrays of characters of each format are among cells of these kinds.
+fn arrays_exist(alloc: Global, kinds: &[Kind], formats: &[Format]) -> Result<bool, NoMemory>
+    ensures { IfOk result (λ exist. IsTrue exist ↔
+        All (λ format. All (IsCharArray kinds.now) (char_arrays format)) formats.now) }
 {
-    have_arrays_in(code.cells.as_slice(), code.formats.as_slice())
+    if formats.is_empty() {
+        return Ok(true);
+    }
+    let cells = CharCells::of(alloc, kinds)?;
+    Ok(have_arrays_in(&cells, formats))
 }
 
-/// Whether the arrays of characters of each format are among cells of these kinds.
-fn have_arrays_in(kinds: &[Kind], formats: &[Format]) -> bool
-    ensures { IsTrue result ↔ All (λ format. All (IsCharArray kinds.now) (char_arrays format)) formats.now }
+/// Whether the arrays of characters of each format are among these cells.
+fn have_arrays_in(cells: &CharCells<'_>, formats: &[Format]) -> bool
+    ensures { IsTrue result ↔ All (λ format. All (IsCharArray cells.now) (char_arrays format)) formats.now }
 {
-    formats.iter().all(|format| format.has_arrays_in(kinds))
+    formats.iter().all(|format| format.has_arrays_in(cells))
 }
 
 /// Whether the handlers keep their rules.

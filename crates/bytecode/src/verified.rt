@@ -45,7 +45,7 @@ impl Verified {
 /// whose rule fails.
 ///
 /// Takes time linear in the code, but for sorting the selectors and the timers of its handlers, and
-/// memory linear in these.
+/// memory linear in these and, where it has formats, in its cells.
 pub fn verify(alloc: Global, code: Code) -> Result<Verified, VerifyRefusal>
     requires { IsShortCode code }
     ensures same { IfOk result (λ verified. verified ≡ code) }

@@ -1,4 +1,5 @@
 -- The lemmas of this crate.
+mod CharLemmas
 mod ConversionLemmas
 mod FieldLemmas
 pub mod FrontLemmas

@@ -9,10 +9,10 @@ ghost use Rattle.write_format.specs.declared.piece.Piece as declared;
 ghost use Rattle.std.specs.List.{filter_map};
 
 use crate::argument::ArgKind;
+use crate::chars::CharCells;
 use crate::part::{Part, is_short_part, numbers_in, part_len, parts_of};
 use crate::reading::look_over;
 use crate::refusal::FormatRefusal;
-use int_kinds::Kind;
 use items::Items;
 use std::alloc::Global;
 use std::marker::Model;
@@ -105,13 +105,13 @@ impl Format {
         self.numbers
     }
 
-    /// Whether the arrays of characters that it reads are cells of kind char, where the cells have
-    /// these kinds. Takes time linear in the parts of the format and the cells of its arrays.
-    pub fn has_arrays_in(&self, kinds: &[Kind]) -> bool
-        ensures { IsTrue result ↔ All (IsCharArray kinds.now) (char_arrays self.now) }
+    /// Whether the arrays of characters that it reads are among these cells. Takes time linear in the
+    /// parts of the format.
+    pub fn has_arrays_in(&self, cells: &CharCells<'_>) -> bool
+        ensures { IsTrue result ↔ All (IsCharArray cells.now) (char_arrays self.now) }
     {
         for part in self.parts() {
-            if !has_array_in(part, kinds) {
+            if !has_array_in(part, cells) {
                 return false;
             }
         }
@@ -200,26 +200,15 @@ fn count_numbers(parts: &[Part]) -> usize
     count
 }
 
-/// Whether the array that a part reads, if it reads one, is cells of kind char.
-fn has_array_in(part: &Part, kinds: &[Kind]) -> bool
-    ensures { IsTrue result ↔ All (IsCharArray kinds.now) (filter_map array_of (elements_in part.now)) }
+/// Whether the array that a part reads, if it reads one, is among these cells.
+fn has_array_in(part: &Part, cells: &CharCells<'_>) -> bool
+    ensures { IsTrue result ↔ All (IsCharArray cells.now) (filter_map array_of (elements_in part.now)) }
 {
     match part {
-        Part::Chars { base, len, .. } => is_char_array(kinds, *base as usize, *len as usize),
+        Part::Chars { base, len, .. } => cells.has_array(*base as usize, *len as usize),
         Part::Text(_) => true,
         Part::Number { .. } => true,
         Part::Character { .. } => true,
         Part::Str { .. } => true,
     }
-}
-
-/// Whether an array is there and has the kind char throughout.
-fn is_char_array(kinds: &[Kind], base: usize, len: usize) -> bool
-    requires { (base < 2 ^ 32) × (len < 2 ^ 32) }
-    ensures { IsTrue result ↔ IsCharArray kinds.now (base, len) }
-{
-    base + len <= kinds.len()
-        && kinds[base..base + len]
-            .iter()
-            .all(|kind| *kind == Kind::Char)
 }

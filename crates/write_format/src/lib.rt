@@ -21,6 +21,7 @@
 #![tactic(auto)]
 
 pub use argument::ArgKind;
+pub use chars::CharCells;
 pub use code::{Code, Conversion, Digits, Field};
 pub use format::Format;
 pub use line::render;
@@ -28,6 +29,7 @@ pub use piece::{Piece, next_piece};
 pub use refusal::FormatRefusal;
 
 mod argument;
+mod chars;
 mod code;
 mod field;
 mod format;

@@ -12,4 +12,4 @@ use Rattle.write_format.proofs.format.has_array_in.Goals as goal
 pub returns-in-Text : goal.returns-in-Text
 returns-in-Text c =
     let none = ap (λ (part : Part). filter_map array_of (elements_in part)) c.in-Text.is ∙ text_no_arrays c.in-Text.field-0 in
-    (λ _. subst (All (IsCharArray c.args.kinds.now)) (sym none) (All-nil (IsCharArray c.args.kinds.now)), λ _. search rules)
+    (λ _. subst (All (IsCharArray c.args.cells.now)) (sym none) (All-nil (IsCharArray c.args.cells.now)), λ _. search rules)

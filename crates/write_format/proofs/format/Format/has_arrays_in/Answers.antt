@@ -12,7 +12,7 @@ use Rattle.write_format.proofs.format.Format.has_arrays_in.Goals as goal
 
 pub returns-then-not-has_array_in : goal.returns-then-not-has_array_in
 returns-then-not-has_array_in c =
-    let kinds = c.args.kinds.now in
+    let kinds = c.args.cells.now in
     let parts = c.parts-part-items.result.now in
     let part = c.part-item.result in (
       λ yes. absurd (let told = yes in grind (arith, told)),
@@ -24,7 +24,7 @@ returns-then-not-has_array_in c =
 
 pub loop-part-preserved : goal.loop-part-preserved
 loop-part-preserved c =
-    let kinds = c.args.kinds.now in
+    let kinds = c.args.cells.now in
     let parts = c.parts-part-items.result.now in
     let part = c.part-item.result in
     let i = c.loop-part.part-index in
@@ -35,7 +35,7 @@ loop-part-preserved c =
 
 pub returns : goal.returns
 returns c =
-    let kinds = c.args.kinds.now in
+    let kinds = c.args.cells.now in
     let parts = c.parts-part-items.result.now in
     let count : c.loop-part.part-index ≡ length parts = omega arith in
     let whole : take c.loop-part.part-index parts ≡ parts = ap (λ n. take n parts) count ∙ take-length parts in
