@@ -6,7 +6,7 @@ use int_kinds::Kind;
 use std::alloc::Global;
 use std::test::Fail;
 use texts::{NoMemory, Text};
-use write_format::{ArgKind, Format, FormatRefusal, laws, render};
+use write_format::{ArgKind, CharCells, Format, FormatRefusal, laws, render};
 
 /// What C's `printf` makes of a number: a format, the kind of its argument, the number and the text.
 ///
@@ -250,8 +250,9 @@ fn are_bytes(cells: &[i128]) -> bool
 /// The line of a format with these numbers, where the arrays stand in the test's cells.
 fn line(alloc: Global, format: &Format, numbers: &[i128]) -> Result<Text, Fail> {
     let kinds = [Kind::Char; 7];
+    let cells = CharCells::of(alloc, &kinds)?;
     let fits = numbers.len() == format.numbers_taken();
-    if !fits || !format.has_arrays_in(&kinds) || !are_bytes(&CELLS) {
+    if !fits || !format.has_arrays_in(&cells) || !are_bytes(&CELLS) {
         return Err("the format takes something else".into());
     }
     Ok(render(alloc, format, numbers, &CELLS)?)
@@ -301,14 +302,20 @@ fn wrong_formats_are_refused(rt: HostRuntime) -> Result<(), Fail> {
     Ok(())
 }
 
+/// Whether cells of these kinds have the array of a format.
+fn has_arrays(alloc: Global, format: &Format, kinds: &[Kind]) -> Result<bool, Fail> {
+    let cells = CharCells::of(alloc, kinds)?;
+    Ok(format.has_arrays_in(&cells))
+}
+
 #[test]
 fn arrays_are_looked_for(rt: HostRuntime) -> Result<(), Fail> {
     let args = arguments(rt.alloc(), b"f")?;
     let format = Format::read(rt.alloc(), b"%s", &args)?;
     let chars = [Kind::Byte, Kind::Char, Kind::Char, Kind::Char, Kind::Char];
-    assert!(rt; format.has_arrays_in(&chars));
-    assert!(rt; !format.has_arrays_in(&chars[..4]));
-    assert!(rt; !format.has_arrays_in(&[Kind::Byte; 5]));
+    assert!(rt; has_arrays(rt.alloc(), &format, &chars)?);
+    assert!(rt; !has_arrays(rt.alloc(), &format, &chars[..4])?);
+    assert!(rt; !has_arrays(rt.alloc(), &format, &[Kind::Byte; 5])?);
     laws::one_format();
     laws::pieces_are_found();
     Ok(())
