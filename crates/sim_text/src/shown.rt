@@ -5,8 +5,20 @@ ghost use Rattle.sim_text.specs.Shown.{shown};
 
 use texts::NoMemory;
 
-/// Appends each byte of a text as it is shown.
+/// Appends a text as it is shown.
+#[tactic(auto, using(crate::proofs::ShownLemmas::plain_is_shown))]
 pub(crate) fn append_shown(line: &mut Vec<u8>, text: &[u8]) -> Result<(), NoMemory>
+    ensures { OnOk result (line.new.items ≡ line.old.items ++ shown text.now) }
+{
+    if text.iter().all(|byte| *byte != b'\n' && *byte != b'\r') {
+        line.extend_from_slice(text)?;
+        return Ok(());
+    }
+    append_each_shown(line, text)
+}
+
+/// Appends each byte of a text as it is shown.
+fn append_each_shown(line: &mut Vec<u8>, text: &[u8]) -> Result<(), NoMemory>
     ensures { OnOk result (line.new.items ≡ line.old.items ++ shown text.now) }
 {
     for byte in text {

@@ -1,7 +1,7 @@
 -- What stands between two bytes.
 use Rattle.std.proofs.Common.{◌≡◌, ◌++◌, take}
 use Rattle.sim_text.specs.Shown.{shown}
-use Rattle.sim_text.proofs.shown.append_shown.Given as goal
+use Rattle.sim_text.proofs.shown.append_each_shown.Given as goal
 
 -- the line has the bytes that were passed, as they are shown
 abbrev pub invariant-loop-byte : goal.invariant-loop-byte
