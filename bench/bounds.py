@@ -2,6 +2,7 @@
 """Waiting bounds beside the exact worst case, for 17 messages in the style of the SAE benchmark.
 
     bounds.py
+    bounds.py --times [--rounds N] [--folder FOLDER]
 
 The set is like the one into which Tindell and Burns (Guaranteeing message latencies on
 Controller Area Network, 1994) put the signals of the SAE benchmark for class C, strongest
@@ -15,12 +16,25 @@ The exact one is the queuing delay of Davis, Burns, Bril and Lukkien (Controller
 schedulability analysis: refuted, revisited and revised, 2007): the greatest over all
 instances of the message in its busy period.
 
-Nothing here calls the program: the bound is computed again from its definition.
+Nothing of this calls the program: the bound is computed again from its definition.
+
+With --times it tells instead how long `find` and `accept` of load_bound take for sets of 256 streams, the shortest of
+so many rounds (6 if not given), by the program of bound_program.txt, which it builds over the crates of this repository
+in a temporary folder, or in FOLDER, which is kept.
 """
+import argparse
+import pathlib
+import subprocess
+import tempfile
+
+from run import HERE, build_program, processor, stop
 
 MESSAGES = [(1, 1000), (2, 5), (1, 5), (2, 5), (1, 5), (2, 5), (6, 10), (1, 10), (2, 10),
             (2, 10), (1, 100), (4, 100), (1, 100), (1, 100), (3, 1000), (1, 1000), (1, 1000)]
 RATES = [(125, 8), (250, 4), (500, 2)]
+COUNT = 256
+MOST = (1 << 32) - 1
+STANDARD, EXTENDED = "standard", "extended"
 
 
 def bits(count):
@@ -75,7 +89,75 @@ def bound(all_streams, place):
     return wait
 
 
-def main():
+# ---- times
+
+
+def longest(form, count, bit):
+    """The longest time of a frame of this form with so many bytes on the bus, with the intermission."""
+    unstuffed = (54 if form == EXTENDED else 34) + 8 * count
+    return (unstuffed + (unstuffed - 1) // 4 + 13) * bit
+
+
+def least_wait(stronger, blocked, low):
+    """The least wait that is long enough for a stream behind these, of times on the bus and least times between
+    requests, or one that is too long; sought from below: each round passes all frames of the one that takes most."""
+    wait = low
+    time, period = max(stronger, key=lambda it: it[0] / it[1], default=(0, 1))
+    while wait < MOST:
+        needed = blocked + sum((wait // t + 2) * c for c, t in stronger)
+        if needed <= wait:
+            break
+        others = needed - wait // period * time
+        wait = needed
+        if others >= period:
+            wait = max(wait, others + ((others - period) // (period - time) + 1) * time)
+    return wait
+
+
+def tightest(form, count, bit):
+    """Streams of which each comes as often as it can, where it is to be bounded."""
+    time, wait = longest(form, count, bit), 0
+    found = []
+    while len(found) < COUNT:
+        wait = least_wait(found, time, wait)
+        found.append((time, min(MOST, wait + 1)))
+    return [(form, count, apart) for _, apart in found]
+
+
+def sets():
+    """Sets of streams by what they are, each with the microseconds of a bit."""
+    return {
+        "each T is 100,000": (1, [(STANDARD, 8, 100_000)] * COUNT),
+        "T from 10,000 on, rising by 2,000": (1, [(STANDARD, 8, 10_000 + 2000 * it) for it in range(COUNT)]),
+        "T of the strongest is 136": (1, [(STANDARD, 8, 136)] + [(STANDARD, 8, 4_000_000_000)] * (COUNT - 1)),
+        "T of the strongest is 4,801": (30, [(EXTENDED, 8, 4801)] + [(STANDARD, 0, MOST)] * (COUNT - 1)),
+        "each T is the least, 8 bytes": (1, tightest(EXTENDED, 8, 1)),
+        "each T is the least, no bytes": (27, tightest(STANDARD, 0, 27)),
+    }
+
+
+def times(words, folder):
+    """Prints a row for each set of streams."""
+    main = (HERE / "bound_program.txt").read_text(encoding="utf-8")
+    program = build_program(folder, "bound_bench", ["load_bound", "can_frame"], {"main.rt": main})
+    print(processor())
+    print("| 256 streams | microseconds a bit | with a wait | `find` | `accept` |\n|---|---|---|---|---|")
+    for name, (bit, rows) in sets().items():
+        (folder / "streams").write_text("".join(f"{form} {count} {apart}\n" for form, count, apart in rows))
+        found = []
+        for _ in range(words.rounds):
+            run = subprocess.run([program, str(bit), folder / "streams"], capture_output=True, text=True)
+            if run.returncode:
+                stop(f"no bounds of {name}")
+            count, accepted, *nanoseconds = run.stdout.split()
+            if accepted != "true":
+                stop(f"the waits of {name} are not accepted")
+            found.append([int(it) / 1e6 for it in nanoseconds])
+        find, accept = (min(it) for it in zip(*found))
+        print(f"| {name} | {bit} | {count} | {find:.1f} ms | {accept:.1f} ms |", flush=True)
+
+
+def table():
     """Prints a row for each message."""
     head = "".join(f" exact {rate} | bound {rate} |" for rate, _ in RATES)
     print(f"| Message | Bytes | Apart |{head}")
@@ -88,4 +170,20 @@ def main():
         print(row)
 
 
-main()
+def main():
+    parser = argparse.ArgumentParser(description=__doc__, formatter_class=argparse.RawDescriptionHelpFormatter)
+    parser.add_argument("--times", action="store_true")
+    parser.add_argument("--rounds", type=int, default=6)
+    parser.add_argument("--folder", type=pathlib.Path)
+    words = parser.parse_args()
+    if not words.times:
+        table()
+        return
+    with tempfile.TemporaryDirectory(prefix="bound-bench-") as temporary:
+        folder = words.folder.resolve() if words.folder else pathlib.Path(temporary)
+        folder.mkdir(parents=True, exist_ok=True)
+        times(words, folder)
+
+
+if __name__ == "__main__":
+    main()

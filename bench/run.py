@@ -13,8 +13,8 @@ all three programs.
 With --counts it also prints how many processor instructions a turn takes, as valgrind's callgrind
 counts them.
 
-The build takes place in a temporary folder, or in FOLDER, which is kept. It takes over what out/ of
-the crates has; crates that were not proved before are proved first, which takes long.
+The build takes place in a temporary folder, or in FOLDER, which is kept. The libraries that it stands on are built in
+out/ of their crates; those that were not proved before are proved first, which takes long.
 """
 import argparse
 import os
@@ -136,14 +136,14 @@ def call(words, folder):
         stop(f"{' '.join(map(str, words))} failed in {folder}:\n{done.stdout}")
 
 
-def dependencies():
-    """The crates that the program stands on with all below, and their lines of crates.txt."""
+def crates_below(stands_on):
+    """The crates that a program stands on with all below, and what each of them lists."""
     lines = {}
     for line in (ROOT / "crates.txt").read_text(encoding="utf-8").splitlines():
         if line and not line.startswith("#"):
             name, _, below = line.partition(":")
             lines[name] = below.split()
-    needed, open_ones = set(), list(STANDS_ON)
+    needed, open_ones = set(), list(stands_on)
     while open_ones:
         name = open_ones.pop()
         if name in lines and name not in needed:
@@ -152,24 +152,34 @@ def dependencies():
     return {name: below for name, below in lines.items() if name in needed}
 
 
-def build_machine(folder):
-    """Builds the program over stack_vm."""
-    below = dependencies()
-    crate = folder / "crates" / PROGRAM
+def build_program(folder, name, stands_on, sources):
+    """Builds a program of these sources, each by the name of its file, over crates of this repository, whose libraries
+    it builds first where they stand."""
+    for each in stands_on:
+        call(["rt", "lib"], ROOT / "crates" / each)
+    below = crates_below(stands_on)
+    crate = folder / "crates" / name
     (crate / "src").mkdir(parents=True, exist_ok=True)
-    for name in below:
-        shutil.copytree(ROOT / "crates" / name, folder / "crates" / name, dirs_exist_ok=True)
-    lines = [f"{name}: {' '.join(uses)}" for name, uses in below.items()]
-    lines.append(f"{PROGRAM}: {' '.join(STANDS_ON)}")
+    for each in below:
+        work = shutil.ignore_patterns("incremental")
+        shutil.copytree(ROOT / "crates" / each, folder / "crates" / each, ignore=work, dirs_exist_ok=True)
+    lines = [f"{each}: {' '.join(uses)}" for each, uses in below.items()]
+    lines.append(f"{name}: {' '.join(stands_on)}")
     (folder / "crates.txt").write_text("\n".join(lines) + "\n", encoding="utf-8")
-    shutil.copy(HERE / "program.txt", crate / "src" / "main.rt")
-    (crate / "src" / "codes.rt").write_text(rattle_codes(), encoding="utf-8")
-    program = crate / "out" / PROGRAM
+    for file, text in sources.items():
+        (crate / "src" / file).write_text(text, encoding="utf-8")
+    program = crate / "out" / name
     # Without words the program ends at once with status 2; building it is what counts here.
     subprocess.run(["rt", "run"], cwd=crate, stdin=subprocess.DEVNULL, stdout=sys.stderr)
     if not program.exists():
         stop(f"the program was not built in {crate}")
     return program
+
+
+def build_machine(folder):
+    """Builds the program over stack_vm."""
+    main = (HERE / "program.txt").read_text(encoding="utf-8")
+    return build_program(folder, PROGRAM, STANDS_ON, {"main.rt": main, "codes.rt": rattle_codes()})
 
 
 def build_twin(folder, name, flags):

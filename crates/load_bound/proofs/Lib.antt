@@ -12,3 +12,4 @@ pub mod IdentLemmas
 pub mod TrackLemmas
 pub mod LineLemmas
 pub mod StartLemmas
+pub mod BusiestLemmas

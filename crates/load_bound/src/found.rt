@@ -16,8 +16,8 @@ use texts::NoMemory;
 /// streams. A bit takes so many microseconds.
 ///
 /// The waits are found from below, in rounds that each take time linear in the number of streams: few for
-/// each stream where they leave the bus some time, but in the worst case as many as the greatest time
-/// between requests has microseconds. It takes memory linear in the number of streams.
+/// each stream, though no bound is known that does not grow with the times between requests. It takes
+/// memory linear in the number of streams.
 pub fn find(alloc: Global, streams: &[Stream], bit: u32) -> Result<Vec<Option<u64>>, NoMemory>
     requires streams { AreStreams streams.now }
     requires bit { IsBitTime bit }

@@ -18,6 +18,7 @@ pub use line::bound_line;
 pub use stream::Stream;
 
 mod accepted;
+mod busiest;
 mod found;
 mod line;
 mod starts;

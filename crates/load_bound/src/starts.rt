@@ -7,6 +7,7 @@ ghost use Rattle.load_bound.specs.Waits.{IsGood};
 ghost use Rattle.load_bound.specs.Inside.Starts.{IsLow, IsStartBy};
 
 use crate::Stream;
+use crate::busiest::{busiest, next_wait};
 use crate::times::{blocking, data_key, is_stronger};
 use crate::waits::interference;
 use std::alloc::Global;
@@ -49,7 +50,7 @@ pub(crate) fn start_of(streams: &[Stream], lows: &[u64], stream: &Stream) -> Opt
 /// its next request, a time from then on, which is a low too.
 ///
 /// It is found in rounds that take time linear in the number of streams: each takes what the wait so far
-/// needs for the next one. The less time the stronger streams leave, the more rounds it needs.
+/// needs for the next one, and passes all frames of the stronger stream with the greatest share of the bus.
 pub(crate) fn settled(streams: &[Stream], bit: u32, stream: &Stream, low: u64) -> u64
     requires streams { AreStreams streams.now }
     requires bit { IsBitTime bit }
@@ -59,13 +60,14 @@ pub(crate) fn settled(streams: &[Stream], bit: u32, stream: &Stream, low: u64) -
     ensures good { result < stream.now.apart → IsGood bit streams.now stream.now result }
 {
     let blocking = blocking(streams, bit);
+    let busiest = busiest(streams, bit, stream);
     let mut wait = low;
     while wait < stream.apart {
         let enough = blocking + interference(streams, bit, stream, wait);
         if enough <= wait {
             return wait;
         }
-        wait = enough;
+        wait = next_wait(streams, bit, busiest, wait, enough);
     }
     wait
 }

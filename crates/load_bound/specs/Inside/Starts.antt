@@ -1,8 +1,8 @@
 -- From where the search for a least good wait can begin, and what it gives.
-use Rattle.std.specs.Prelude.{◌≡◌, ℕ, ◌+◌, ◌≤◌, ◌⊎◌, List, Option, None, Some}
+use Rattle.std.specs.Prelude.{◌≡◌, ℕ, ◌+◌, ◌*◌, ◌/◌, ◌<◌, ◌≤◌, ◌⊎◌, true, List, length, slice_index_or, Option, None, Some}
 use Rattle.std.specs.List.{AllZip}
 use Rattle.load_bound.specs.declared.stream.Stream.{Stream}
-use Rattle.load_bound.specs.Streams.{blocking}
+use Rattle.load_bound.specs.Streams.{blocking, is_stronger}
 use Rattle.load_bound.specs.Waits.{interference, HasGood, IsLeastGood, IsBounded, StrongerHaveWaits}
 
 -- a low of a stream: no wait that is long enough for it is less
@@ -33,3 +33,12 @@ abbrev pub IsBoundedWait : List Stream → List (Option ℕ) → Stream → Opti
 IsBoundedWait streams waits s wait result =
     (StrongerHaveWaits streams waits s × (result ≡ wait))
     ⊎ ((¬ StrongerHaveWaits streams waits s) × (result ≡ None))
+
+-- a stream stronger than this one stands at the place
+pub record IsStrongerAt (streams : List Stream) (s : Stream) (place : ℕ) : Type 0 where
+  pub there : place < length streams
+  pub stronger : (d : Stream) → is_stronger (slice_index_or streams place d) s ≡ true
+
+-- no time which is long enough for the rest, and for so much in each whole period of it, is below this one
+abbrev pub IsLowBy : ℕ → ℕ → ℕ → ℕ → Type 0
+IsLowBy rest period time low = (w : ℕ) → rest + w / period * time ≤ w → low ≤ w

@@ -1,10 +1,7 @@
 -- The next wait is a low too.
-use Rattle.std.proofs.Common.{arith}
-use Rattle.load_bound.proofs.WaitLemmas.{low_next}
+use Rattle.std.proofs.Common.{ap₂, ◌+◌}
 use Rattle.load_bound.proofs.starts.settled.Goals as goal
 
 pub loop-wait-preserved : goal.loop-wait-preserved
 loop-wait-preserved c =
-    λ v enough.
-    let reached = low_next c.args.bit c.args.streams.now c.args.stream.now c.loop-wait.wait c.loop-wait.invariant v enough in
-    omega (arith, reached, c.blocking-blocking.ensures.value, c.interference.ensures.value)
+    c.next_wait-wait.ensures.low c.args.stream.now c.busiest-busiest.ensures (ap₂ (λ a b. a + b) c.blocking-blocking.ensures.value c.interference.ensures.value) c.loop-wait.invariant
