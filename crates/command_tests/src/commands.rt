@@ -70,15 +70,35 @@ const LINES: Run = Run {
     ..EMPTY
 };
 
+/// The profile of these two tasks.
+const PROFILE: Run = Run {
+    words: &["profile", "s.scn"],
+    written: "p N n.can:1 start 1 0\np N n.can:1 key 2 0\n",
+    ..LINES
+};
+
+/// A check of what is accepted.
+const CHECKED: Run = Run {
+    words: &["check", "s.scn"],
+    written: "ok\n",
+    rows: &[],
+    ..HELLO
+};
+
+/// A generated scenario: its timer is due 50 times, and the frame of the last is still on the wire.
+const GENERATED: Run = Run {
+    words: &["gen", "1"],
+    scenario: None,
+    files: &[],
+    written: "gen 1 frames 49 lines 1 turns 50000\n",
+    rows: &[(1, 0), (50, 50000), (49, 0), (1, 0)],
+    ..EMPTY
+};
+
 static RUNS: [Run; 26] = [
     EMPTY,
     HELLO,
-    Run {
-        words: &["check", "s.scn"],
-        written: "ok\n",
-        rows: &[],
-        ..HELLO
-    },
+    CHECKED,
     // The turns of the procedures stand in the meter's rows, in program order.
     Run {
         words: &["profile", "s.scn"],
@@ -233,15 +253,7 @@ static RUNS: [Run; 26] = [
         rows: &[(1, 0)],
         ..EMPTY
     },
-    // A generated scenario: its timer is due 50 times, and the frame of the last is still on the wire.
-    Run {
-        words: &["gen", "1"],
-        scenario: None,
-        files: &[],
-        written: "gen 1 frames 49 lines 1 turns 50000\n",
-        rows: &[(1, 0), (50, 50000), (49, 0), (1, 0)],
-        ..EMPTY
-    },
+    GENERATED,
     Run {
         files: &[],
         status: Status::Refused,
@@ -286,6 +298,15 @@ const PAIR: Run = Run {
     ..EMPTY
 };
 
+/// All that is shown of it.
+const BOTH: Run = Run {
+    words: &["run", "s.scn"],
+    written: "w 0.000000 N b\nw 0.000000 M a\n\
+        (0000000000.000100) can0 000#\nw 0.000100 M a 0\nw 0.000100 N b 1\n\
+        (0000000000.000200) can0 001#\nw 0.000200 N b 0\nw 0.000200 M a 1\n",
+    ..PAIR
+};
+
 static PAIRS: [Run; 9] = [
     TWICE,
     Run {
@@ -305,13 +326,7 @@ static PAIRS: [Run; 9] = [
         written: "(0000000000.000100) can0 000#\n(0000000000.000200) can0 001#\n",
         ..PAIR
     },
-    Run {
-        words: &["run", "s.scn"],
-        written: "w 0.000000 N b\nw 0.000000 M a\n\
-            (0000000000.000100) can0 000#\nw 0.000100 M a 0\nw 0.000100 N b 1\n\
-            (0000000000.000200) can0 001#\nw 0.000200 N b 0\nw 0.000200 M a 1\n",
-        ..PAIR
-    },
+    BOTH,
     Run {
         words: &["profile", "s.scn"],
         written: "p M m.can:1 start 1 0\np M m.can:2 message 2 0\n\
@@ -368,8 +383,8 @@ static USAGES: [Run; 6] = [
     },
 ];
 
-/// The files of a run.
-fn files(alloc: Global, run: &Run) -> Result<MemFiles, Fail> {
+/// The files of a run, of which these reads fail.
+fn files(alloc: Global, run: &Run, failing_reads: &[u64]) -> Result<MemFiles, Fail> {
     let mut held = Vec::new(alloc);
     if let Some(text) = run.scenario {
         held.push((Text::make(alloc, b"s.scn")?, text.as_bytes().to_vec(alloc)?))?;
@@ -380,7 +395,7 @@ fn files(alloc: Global, run: &Run) -> Result<MemFiles, Fail> {
             text.as_bytes().to_vec(alloc)?,
         ))?;
     }
-    Ok(MemFiles::new(held, run.failing_reads.to_vec(alloc)?))
+    Ok(MemFiles::new(held, failing_reads.to_vec(alloc)?))
 }
 
 /// The words of a run.
@@ -404,22 +419,116 @@ fn check_rows(rt: &impl Abort, meter: &Meter, wanted: &[(u64, u64)]) {
     }
 }
 
-/// A run ends, writes and counts as it must.
-fn check_run(rt: &(impl AllocGlobal + Abort), run: &Run) -> Result<(), Fail> {
-    let alloc = rt.alloc();
-    let mut files = files(alloc, run)?;
-    let mut out = Out::new(MemSink::new(alloc, run.failing_writes.to_vec(alloc)?));
+/// What a run leaves.
+#[derive(Drop)]
+struct End {
+    status: Status,
+    out: Out<MemSink>,
+    meter: Meter,
+}
+
+/// What a run leaves where these reads fail, and these writes after so many bytes of their piece.
+fn end_of(
+    alloc: Global,
+    run: &Run,
+    failing_reads: &[u64],
+    failing_writes: &[(u64, usize)],
+) -> Result<End, Fail> {
+    let mut files = files(alloc, run, failing_reads)?;
+    let mut out = Out::new(MemSink::new(alloc, failing_writes.to_vec(alloc)?));
     let mut meter = Meter::new(alloc);
     let words = words(alloc, run.words)?;
     let status = simulate(alloc, &words, &mut files, &mut out, &mut meter);
+    Ok(End { status, out, meter })
+}
+
+/// A run ends, writes and counts as it must.
+fn check_run(rt: &(impl AllocGlobal + Abort), run: &Run) -> Result<(), Fail> {
+    let end = end_of(rt.alloc(), run, run.failing_reads, run.failing_writes)?;
     assert_eq!(rt;
-        out.sink().written(),
+        end.out.sink().written(),
         run.written.as_bytes(),
         "{}",
         run.written
     );
-    assert_eq!(rt; status, run.status);
-    check_rows(rt, &meter, run.rows);
+    assert_eq!(rt; end.status, run.status);
+    check_rows(rt, &end.meter, run.rows);
+    Ok(())
+}
+
+/// A run in which these reads and writes fail ends with this status and has written these bytes.
+fn check_end(
+    rt: &(impl AllocGlobal + Abort),
+    run: &Run,
+    failing_reads: &[u64],
+    failing_writes: &[(u64, usize)],
+    status: Status,
+    written: &[u8],
+) -> Result<(), Fail> {
+    let end = end_of(rt.alloc(), run, failing_reads, failing_writes)?;
+    assert_eq!(rt;
+        end.out.sink().written(),
+        written,
+        "{failing_reads:?} {failing_writes:?}"
+    );
+    assert_eq!(rt; end.status, status);
+    Ok(())
+}
+
+/// How many files a run reads: none where it has no scenario.
+fn reads_of(run: &Run) -> u64 {
+    if run.scenario.is_none() {
+        return 0;
+    }
+    u64::saturating_add(run.files.len() as u64, 1)
+}
+
+/// Each read of a run fails in turn, and nothing is written. A further one is never asked for.
+fn check_reads(rt: &(impl AllocGlobal + Abort), run: &Run) -> Result<(), Fail> {
+    let reads = reads_of(run);
+    for passed in 0..reads {
+        check_end(
+            rt,
+            run,
+            &[passed.saturating_add(1)],
+            &[],
+            Status::ReadFault,
+            b"",
+        )?;
+    }
+    let further = reads.saturating_add(1);
+    check_end(rt, run, &[further], &[], run.status, run.written.as_bytes())
+}
+
+/// The write of the line of a number, which stands between these places of the answer, fails, and keeps none
+/// of its bytes, the first or all but the last: what was written is the answer up to there.
+fn check_write(
+    rt: &(impl AllocGlobal + Abort),
+    run: &Run,
+    number: u64,
+    start: usize,
+    end: usize,
+) -> Result<(), Fail> {
+    let whole = run.written.as_bytes();
+    for place in [start, start.saturating_add(1), end] {
+        let fault = (number, place.saturating_sub(start));
+        let front = &whole[..place.min(whole.len())];
+        check_end(rt, run, &[], &[fault], Status::WriteFault, front)?;
+    }
+    Ok(())
+}
+
+/// The write of each line of a run fails in turn.
+fn check_writes(rt: &(impl AllocGlobal + Abort), run: &Run) -> Result<(), Fail> {
+    let mut number = 0;
+    let mut start: usize = 0;
+    for (end, byte) in run.written.as_bytes().iter().enumerate() {
+        if *byte == b'\n' {
+            number = u64::saturating_add(number, 1);
+            check_write(rt, run, number, start, end)?;
+            start = end.saturating_add(1);
+        }
+    }
     Ok(())
 }
 
@@ -427,6 +536,16 @@ fn check_run(rt: &(impl AllocGlobal + Abort), run: &Run) -> Result<(), Fail> {
 fn runs_end_and_write_as_they_must(rt: HostRuntime) -> Result<(), Fail> {
     for run in RUNS.iter().chain(&PAIRS).chain(&USAGES) {
         check_run(&rt, run)?;
+    }
+    Ok(())
+}
+
+// Each command meets each fault of a read and of a write.
+#[test]
+fn each_fault_ends_a_run_with_the_answer_so_far(rt: HostRuntime) -> Result<(), Fail> {
+    for run in [LINES, FRAMES, BOTH, PROFILE, CHECKED, GENERATED] {
+        check_reads(&rt, &run)?;
+        check_writes(&rt, &run)?;
     }
     Ok(())
 }
