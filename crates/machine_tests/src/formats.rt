@@ -1,6 +1,8 @@
 // Lines of write_format against C, and formats that it refuses.
 
-ghost use Rattle.std.specs.Prelude.{◌≡◌, ◌↔◌, ◌≤◌, ◌≤ℤ◌, All, IsTrue, length, pos};
+ghost use Rattle.std.specs.Prelude.{◌≡◌, ◌↔◌, ◌≤◌, ◌≤ℤ◌, All, IfOk, IsTrue, length, pos};
+ghost use Rattle.write_format.specs.Arrays.{IsCharArray};
+ghost use Rattle.write_format.specs.Format.{char_arrays};
 
 use int_kinds::Kind;
 use std::alloc::Global;
@@ -247,12 +249,20 @@ fn are_bytes(cells: &[i128]) -> bool
     cells.iter().all(|cell| 0 <= *cell && *cell <= 255)
 }
 
+/// Whether cells of these kinds have the arrays of a format.
+fn has_arrays(alloc: Global, format: &Format, kinds: &[Kind]) -> Result<bool, Fail>
+    ensures { IfOk result (λ found. IsTrue found ↔ All (IsCharArray kinds.now) (char_arrays format.now)) }
+{
+    let cells = CharCells::of(alloc, kinds)?;
+    Ok(format.has_arrays_in(&cells))
+}
+
 /// The line of a format with these numbers, where the arrays stand in the test's cells.
 fn line(alloc: Global, format: &Format, numbers: &[i128]) -> Result<Text, Fail> {
     let kinds = [Kind::Char; 7];
-    let cells = CharCells::of(alloc, &kinds)?;
+    let has_arrays = has_arrays(alloc, format, &kinds)?;
     let fits = numbers.len() == format.numbers_taken();
-    if !fits || !format.has_arrays_in(&cells) || !are_bytes(&CELLS) {
+    if !fits || !has_arrays || !are_bytes(&CELLS) {
         return Err("the format takes something else".into());
     }
     Ok(render(alloc, format, numbers, &CELLS)?)
@@ -300,12 +310,6 @@ fn wrong_formats_are_refused(rt: HostRuntime) -> Result<(), Fail> {
         assert_eq!(rt; refusal, Some(FormatRefusal::Wrong { arg }));
     }
     Ok(())
-}
-
-/// Whether cells of these kinds have the array of a format.
-fn has_arrays(alloc: Global, format: &Format, kinds: &[Kind]) -> Result<bool, Fail> {
-    let cells = CharCells::of(alloc, kinds)?;
-    Ok(format.has_arrays_in(&cells))
 }
 
 #[test]
