@@ -7,7 +7,7 @@ ghost use Rattle.std.specs.Char.{IsAsciiHexdigit};
 use std::simd::prelude::*;
 
 /// How many bytes are compared at once.
-const LANES: usize = 32;
+const LANES: usize = 16;
 
 /// Whether each byte is one of `0` to `9`, `A` to `F` or `a` to `f`; true of no bytes.
 pub fn all_hex(bytes: &[u8]) -> bool
@@ -35,11 +35,11 @@ fn are_lanes_hex(bytes: &[u8], place: usize) -> bool
     requires { place + LANES ≤ length bytes.now }
     ensures { IsTrue result ↔ AllWithin IsAsciiHexdigit bytes.now place (place + LANES) }
 {
-    let lanes = u8x32::from_slice(&bytes[place..]);
-    let outside = lanes.simd_lt(u8x32::splat(b'0'))
-        | lanes.simd_gt(u8x32::splat(b'9')) & lanes.simd_lt(u8x32::splat(b'A'))
-        | lanes.simd_gt(u8x32::splat(b'F')) & lanes.simd_lt(u8x32::splat(b'a'))
-        | lanes.simd_gt(u8x32::splat(b'f'));
+    let lanes = u8x16::from_slice(&bytes[place..]);
+    let outside = lanes.simd_lt(u8x16::splat(b'0'))
+        | lanes.simd_gt(u8x16::splat(b'9')) & lanes.simd_lt(u8x16::splat(b'A'))
+        | lanes.simd_gt(u8x16::splat(b'F')) & lanes.simd_lt(u8x16::splat(b'a'))
+        | lanes.simd_gt(u8x16::splat(b'f'));
     outside.to_bitmask() == 0
 }
 

@@ -1,16 +1,30 @@
 -- The table of digits, and the first byte that passes a test.
-use Rattle.std.proofs.Common.{◌≡◌, ℕ, ◌-◌, ◌<◌, ◌≤◌, Bool, cond, ltb, List, length, Option, Some, None, get_or, arith}
+use Rattle.std.proofs.Common.{◌≡◌, ℕ, ◌-◌, ◌<◌, ◌≤◌, Bool, cond, ltb, List, length, Option, Some, None, get_or, ap, ◌∙◌, zero-add, arith}
 use Rattle.std.specs.List.{position}
 use Rattle.std.proofs.lemmas.Bool.{false_from_ne_true}
 use Rattle.std.proofs.lemmas.Bool.Decides.{nat_tests}
+use Rattle.std.proofs.lemmas.List.FromFn.{get_or-map-range_with_len}
 use Rattle.std.proofs.lemmas.List.Sums.{position_or_len_is}
 use Rattle.memchr.specs.Find.{IsFirstByte}
 use Rattle.text_parts.specs.Number.{IsHexDigit, digit_value}
+use Rattle.log_line.specs.declared.numbers.TheConstants.{DIGITS}
 
 -- what a byte stands for as a hexadecimal digit, or 255
 abbrev pub digit_or : ℕ → ℕ
 digit_or byte =
     cond (ltb byte 48) 255 (cond (ltb byte 58) (byte - 48) (cond (ltb byte 65) 255 (cond (ltb byte 71) (byte - 55) (cond (ltb byte 97) 255 (cond (ltb byte 103) (byte - 87) 255)))))
+
+-- the table has it of each byte
+pub entry : (byte at : ℕ) → at ≡ byte → byte < 256 → get_or DIGITS at 0 ≡ digit_or byte
+entry byte at is low = ap (λ i. get_or DIGITS i 0) is ∙ get_or-map-range_with_len digit_or 0 256 byte byte 0 low (zero-add byte)
+
+-- of a digit it is the digit's value
+pub digit_is : (byte : ℕ) → IsHexDigit byte → digit_or byte ≡ digit_value byte
+digit_is byte is = grind (arith, nat_tests, is)
+
+-- and at most 15
+pub digit_at_most : (byte : ℕ) → IsHexDigit byte → digit_value byte ≤ 15
+digit_at_most byte is = grind (arith, nat_tests, is)
 
 -- below 16 it is a digit's value
 pub digit_found : (byte value : ℕ) → value ≡ digit_or byte → value < 16 → IsHexDigit byte × (value ≡ digit_value byte)

@@ -9,6 +9,7 @@ pub mod NumberBounds
 mod NumeralLemmas
 pub mod OneReading
 pub mod PieceLemmas
+mod PlainBytes
 pub mod ReadingLemmas
 pub mod SplitLemmas
 pub mod StampLemmas

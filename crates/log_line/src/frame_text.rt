@@ -1,14 +1,16 @@
 // Frames as lines spell them.
 
-ghost use Rattle.std.specs.Prelude.{◌<◌, ℕ, List, length, MatchOption, ◌↔◌, IsTrue};
+ghost use Rattle.std.specs.Prelude.{◌≡◌, ◌<◌, ◌≤◌, ◌%◌, ℕ, List, All, length, MatchOption, ◌↔◌, IsTrue};
 ghost use Rattle.items.specs.Search.{Finds};
 ghost use Rattle.can_frame.specs.Frame.{IsIdent};
+ghost use Rattle.text_parts.specs.Number.{IsHexDigit};
 ghost use Rattle.log_line.specs.FrameText.{SpellsBytes, SpellsCode};
 ghost use Rattle.log_line.specs.Inside.FrameField.{IsFrameField, IsIdentOf, IsFrameWith, SpellsNoData, IsData, AreBytes, SpellsNoByte, IsFirstByte, IsWithoutDot, HasParts, HasNoParts, IsUnread, HasCode, HasNoCode};
 
 use crate::fields::split_at_byte;
-use crate::numbers::{digit_value, hex_number, is_hex_digit};
+use crate::numbers::{digit_value, hex_number, hex_value, is_hex_digit};
 use can_frame::{Frame, Ident};
+use lane_scan::all_hex;
 
 /// What the frame of a line is.
 #[derive(Clone, Copy, Debug)]
@@ -54,6 +56,9 @@ struct Bytes {
 
 // The greatest extended identifier.
 const GREATEST: u32 = 0x1FFF_FFFF;
+
+// How many digits the data of a frame has at most.
+const MOST_DIGITS: usize = 16;
 
 /// What the frame of a line is, or None where no line has it.
 pub(crate) fn frame_field(field: &[u8]) -> Option<FrameField>
@@ -163,6 +168,33 @@ fn code_of(text: &[u8]) -> Option<u8>
 
 /// The bytes that a text of pairs spells, or None where it spells no bytes or more than eight.
 fn bytes_of(text: &[u8]) -> Option<Bytes>
+    ensures { MatchOption result ((bytes : List ℕ) → SpellsBytes text.now bytes → 8 < length bytes)
+        (AreBytes text.now) }
+{
+    if text.len() <= MOST_DIGITS && text.len() % 2 == 0 && all_hex(text) {
+        return Some(plain_bytes(text));
+    }
+    dotted_bytes(text)
+}
+
+/// The bytes that pairs of digits spell without a dot between them.
+fn plain_bytes(digits: &[u8]) -> Bytes
+    requires hexadecimal { All IsHexDigit digits.now }
+    requires pairs { length digits.now % 2 ≡ 0 }
+    requires few { length digits.now ≤ 16 }
+    ensures { AreBytes digits.now result }
+{
+    let mut bytes = [0; 8];
+    let count = digits.len() / 2;
+    for place in 0..count {
+        bytes[place] = hex_value(digits[2 * place]) * 16 + hex_value(digits[2 * place + 1]);
+    }
+    Bytes { count, bytes }
+}
+
+/// The bytes that a text of pairs spells, between which dots may stand, or None where it spells no bytes or
+/// more than eight.
+fn dotted_bytes(text: &[u8]) -> Option<Bytes>
     ensures { MatchOption result ((bytes : List ℕ) → SpellsBytes text.now bytes → 8 < length bytes)
         (AreBytes text.now) }
 {

@@ -40,6 +40,15 @@ pub(crate) fn digit_value(byte: u8) -> Option<u8>
     if value < 16 { Some(value) } else { None }
 }
 
+/// What a hexadecimal digit stands for, where the byte is known to be one.
+pub(crate) fn hex_value(digit: u8) -> u8
+    requires { IsHexDigit digit }
+    ensures value { result ≡ digit_value digit }
+    ensures in_range { result ≤ 15 }
+{
+    DIGITS[usize::from(digit)]
+}
+
 /// The number that at most eight hexadecimal digits stand for, or None where a byte is no digit.
 pub(crate) fn hex_number(digits: &[u8]) -> Option<u32>
     requires { length digits.now ≤ 8 }

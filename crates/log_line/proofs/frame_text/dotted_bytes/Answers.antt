@@ -2,7 +2,7 @@
 use Rattle.std.proofs.Common.{◌≡◌, [], subst, arith}
 use Rattle.std.proofs.lemmas.Grind.{common_steps}
 use Rattle.log_line.proofs.BytesLemmas.{HasTaken, taken_more, taken_all, taken_none, empty_is, some_is}
-use Rattle.log_line.proofs.frame_text.bytes_of.Goals as goal
+use Rattle.log_line.proofs.frame_text.dotted_bytes.Goals as goal
 
 pub returns-in_err-byte : goal.returns-in_err-byte
 returns-in_err-byte c =
