@@ -1,59 +1,54 @@
--- Selectors by rank, and the first of them that holds a key.
-use Rattle.std.proofs.Common.{◌≡◌, ◌≢◌, ◌⊎◌, inl, inr, ℕ, zero, suc, ◌+◌, ◌-◌, ◌<◌, ◌≤◌, Bool, true, false, ◌&&◌, nat_le, leb, List, [], ◌∷◌, length, get_or, map, Option, Some, None, position, cond, arith, refl, ap, sym, ◌∙◌, subst}
-use Rattle.std.proofs.lemmas.Bool.{cases_lt, leb-true, le-leb, lt-ltb}
-use Rattle.std.proofs.lemmas.Bool.Decides.{nat_tests}
-use Rattle.std.proofs.lemmas.List.{get_or_default, length-map}
-use Rattle.std.proofs.Math.ListN.{get_or-map}
-use Rattle.std.proofs.lemmas.List.Elements.{Contains-get_or, All-contains}
+-- Selectors by rank, the first of them that holds a key, and the laws of the choice.
+use Rattle.std.proofs.Common.{◌≡◌, ℕ, zero, suc, ◌+◌, ◌-◌, ◌<◌, ◌≤◌, List, length, get_or, Bool, false, ltb, inl, inr, arith, refl, ap, sym, ◌∙◌, subst}
+use Rattle.std.proofs.lemmas.Bool.{cases_lt}
+use Rattle.std.proofs.lemmas.List.{get_or_default}
+use Rattle.std.proofs.lemmas.List.Elements.{All-contains, Contains-get_or}
 use Rattle.std.proofs.lemmas.List.Sorted.{All-permutation, Contains-permutation, IsPermutation-sym}
-use Rattle.std.proofs.lemmas.List.Quantifiers.{position-Some}
-use Rattle.std.proofs.lemmas.List.Sums.{fails_before_first}
-use Rattle.std.specs.List.{All, AllPairs, Contains, zip, position_or_len}
+use Rattle.std.specs.List.{AllPairs, Contains}
 use Rattle.std.specs.List.Sorted.{IsPermutation, IsSortedByKey}
-use Rattle.std.specs.Ordering.{nat_cmp, is_lt}
-use Rattle.lane_scan.specs.Ranges.{holds}
+use Rattle.std.specs.Ordering.{nat_cmp, bool_cmp, ordering_then, is_lt}
+use Rattle.std.specs.declared.cmp.Ordering.{Ordering}
+use Rattle.std.specs.declared.cmp.Ordering.TheVariants.{Less, Equal, Greater}
+use Rattle.std.proofs.lemmas.Map.Keys.{ge_from_not_lt}
 use Rattle.msg_select.specs.declared.selector.MessageSelector.{MessageSelector}
 use Rattle.msg_select.specs.Selection.{Holds, NoneHolds, IsChosen, AreApart, IsOnlyChoice}
-use Rattle.msg_select.specs.Inside.Selectors.{AreByRank}
+use Rattle.msg_select.specs.Inside.Selectors.{AreByRank, IsFirstHolder}
 
-not_less : (a b : ℕ) → is_lt (nat_cmp a b) ≡ false → b ≤ a
-not_less a b h = grind (arith, nat_tests)
+-- what selectors are sorted by
+abbrev pub place_key : MessageSelector → ℕ × Bool × ℕ
+place_key s = (s.rank, ltb s.high s.low, s.low)
+
+-- its order
+abbrev pub place_cmp : ℕ × Bool × ℕ → ℕ × Bool × ℕ → Ordering
+place_cmp a b = ordering_then (ordering_then (nat_cmp a.0 b.0) (bool_cmp a.1 b.1)) (nat_cmp a.2 b.2)
+
+-- where the first of two orders says less, so do both
+not_less_first : (o p : Ordering) → is_lt (ordering_then o p) ≡ false → is_lt o ≡ false
+not_less_first Less p h = h
+not_less_first Equal p h = refl
+not_less_first Greater p h = refl
+
+-- what does not stand before another has no lesser rank
+rank_not_less : (s t : MessageSelector) → is_lt (place_cmp (place_key s) (place_key t)) ≡ false → t.rank ≤ s.rank
+rank_not_less s t not_less =
+    let ranks = nat_cmp s.rank t.rank in
+    let keys = bool_cmp (ltb s.high s.low) (ltb t.high t.low) in
+    ge_from_not_lt s.rank t.rank (not_less_first ranks keys (not_less_first (ordering_then ranks keys) (nat_cmp s.low t.low) not_less))
 
 -- ranks that never fall from one selector to the next never fall
-climb : (xs : List MessageSelector) → IsSortedByKey (λ s. s.rank) nat_cmp xs → (d : MessageSelector) (n i : ℕ) → i + suc n < length xs → (get_or xs i d).rank ≤ (get_or xs (i + suc n) d).rank
-climb xs sorted d zero i within = not_less (get_or xs (i + 1) d).rank (get_or xs i d).rank (sorted i d (omega arith) within)
+climb : (xs : List MessageSelector) → IsSortedByKey place_key place_cmp xs → (d : MessageSelector) (n i : ℕ) → i + suc n < length xs → (get_or xs i d).rank ≤ (get_or xs (i + suc n) d).rank
+climb xs sorted d zero i within = rank_not_less (get_or xs (i + 1) d) (get_or xs i d) (sorted i d (omega arith) within)
 climb xs sorted d (suc n) i within =
     let nearer = climb xs sorted d n i (omega arith) in
-    let next = not_less (get_or xs (i + suc n + 1) d).rank (get_or xs (i + suc n) d).rank (sorted (i + suc n) d (omega arith) (omega arith)) in
+    let next = rank_not_less (get_or xs (i + suc n + 1) d) (get_or xs (i + suc n) d) (sorted (i + suc n) d (omega arith) (omega arith)) in
     let place : i + suc n + 1 ≡ i + suc (suc n) = omega arith in
     subst (λ j. (get_or xs i d).rank ≤ (get_or xs j d).rank) place (omega (arith, nearer, next))
 
--- a list sorted by rank has no selector before one of a lesser rank
-pub ranks_ascend : (xs : List MessageSelector) → IsSortedByKey (λ s. s.rank) nat_cmp xs → AreByRank xs
+-- a list so sorted has no selector before one of a lesser rank
+pub ranks_ascend : (xs : List MessageSelector) → IsSortedByKey place_key place_cmp xs → AreByRank xs
 ranks_ascend xs sorted = λ i j d before within.
     let place : i + suc (j - i - 1) ≡ j = omega arith in
     subst (λ k. (get_or xs i d).rank ≤ (get_or xs k d).rank) place (climb xs sorted d (j - i - 1) i (omega (arith, place, within)))
-
-both_parts : (a b : Bool) → (a && b) ≡ true → (a ≡ true) × (b ≡ true)
-both_parts true b h = (refl, h)
-both_parts false b h = absurd (cc)
-
--- whether a range holds the key tells whether the selector does
-holds_it : (key : ℕ) (s : MessageSelector) → holds key (s.low, s.high) ≡ true → Holds key s
-holds_it key s h =
-    let parts = both_parts (leb s.low key) (leb key s.high) h in
-    record { from = leb-true s.low key parts.0; to = leb-true key s.high parts.1 }
-
-held_by : (key : ℕ) (s : MessageSelector) → Holds key s → holds key (s.low, s.high) ≡ true
-held_by key s h = ap (λ b. b && leb key s.high) (le-leb s.low key h.from) ∙ le-leb key s.high h.to
-
--- the least and greatest keys of selectors, beside one another
-zip_bounds : (xs : List MessageSelector) → zip (map (λ (s : MessageSelector). s.low) xs) (map (λ (s : MessageSelector). s.high) xs) ≡ map (λ (s : MessageSelector). (s.low, s.high)) xs
-zip_bounds [] = refl
-zip_bounds (s ∷ xs) = ap (λ rest. (s.low, s.high) ∷ rest) (zip_bounds xs)
-
-abbrev bounds : MessageSelector → ℕ × ℕ
-bounds s = (s.low, s.high)
 
 -- no selector behind one has a lesser rank
 least_from : (xs : List MessageSelector) (place k : ℕ) (s d : MessageSelector) → AreByRank xs → k < length xs → s ≡ get_or xs place s → place ≤ k → s.rank ≤ (get_or xs k d).rank
@@ -69,47 +64,17 @@ least_from xs place k s d by_rank inside read from =
     ]
 
 -- the first selector that holds the key is one of the least rank
-pub chosen_at : (xs : List MessageSelector) (key place : ℕ) (s : MessageSelector) → AreByRank xs
-    → position (holds key) (zip (map (λ (s : MessageSelector). s.low) xs) (map (λ (s : MessageSelector). s.high) xs)) ≡ Some place → s ≡ get_or xs place s → IsChosen xs key s.handler
-chosen_at xs key place s by_rank found read =
-    let is : position (holds key) (map bounds xs) ≡ Some place = sym (ap (position (holds key)) (zip_bounds xs)) ∙ found in
-    let first = position-Some (holds key) (map bounds xs) place (bounds s) is in
-    let within : place < length xs = omega (arith, first.0, length-map xs bounds) in
-    let own : holds key (bounds s) ≡ true = ap (holds key) (sym (get_or-map bounds xs place s ∙ ap bounds (sym read))) ∙ first.1 in
-    record {
-      chosen = s;
-      among = subst (Contains xs) (sym read) (Contains-get_or xs place s within);
-      holds = holds_it key s own;
-      least = λ k d inside held. elim (cases_lt k place) [
-        | inl before ↦
-            let no : holds key (bounds (get_or xs k d)) ≡ false =
-            ap (λ x. holds key (bounds x)) (get_or_default xs k d s inside) ∙ ap (holds key) (sym (get_or-map bounds xs k s)) ∙ first.2 k before in
-            let yes = held_by key (get_or xs k d) held in
-            absurd (cc)
-        | inr from ↦
-            least_from xs place k s d by_rank inside read from
-      ];
-      is = refl;
-    }
-
--- where no range holds the key, no selector does
-position_none : {X : Type 0} (p : X → Bool) (xs : List X) → position p xs ≡ None → (k : ℕ) (d : X) → k < length xs → p (get_or xs k d) ≡ false
-position_none p xs none k d within = elim (cases_lt (position_or_len p xs) (length xs)) [
-  | inl some ↦
-      let found = ap (λ b. cond b (Some (position_or_len p xs)) None) (lt-ltb (position_or_len p xs) (length xs) some) in
-      absurd (cc)
-  | inr all ↦ fails_before_first p xs k d (omega (arith, within, all))
-]
-
--- where no range holds the key, no selector does
-pub none_holds : (xs : List MessageSelector) (key : ℕ)
-    → position (holds key) (zip (map (λ (s : MessageSelector). s.low) xs) (map (λ (s : MessageSelector). s.high) xs)) ≡ None → NoneHolds xs key
-none_holds xs key none = λ k d within held.
-    let is : position (holds key) (map bounds xs) ≡ None = sym (ap (position (holds key)) (zip_bounds xs)) ∙ none in
-    let no : holds key (bounds (get_or xs k d)) ≡ false =
-    ap (holds key) (sym (get_or-map bounds xs k d)) ∙ position_none (holds key) (map bounds xs) is k (bounds d) (omega (arith, within, length-map xs bounds)) in
-    let yes = held_by key (get_or xs k d) held in
-    absurd (cc)
+pub chosen_at : (xs : List MessageSelector) (key place : ℕ) (s : MessageSelector) → AreByRank xs → IsFirstHolder xs key place → s ≡ get_or xs place s → IsChosen xs key s.handler
+chosen_at xs key place s by_rank first read = record {
+  chosen = s;
+  among = subst (Contains xs) (sym read) (Contains-get_or xs place s first.within);
+  holds = subst (Holds key) (sym read) (first.holds s);
+  least = λ k d inside held. elim (cases_lt k place) [
+    | inl before ↦ absurd (first.before k d (omega arith) before held)
+    | inr from ↦ least_from xs place k s d by_rank inside read from
+  ];
+  is = refl;
+}
 
 -- a choice among the same selectors in another order
 pub chosen_in_order : (a b : List MessageSelector) (key handler : ℕ) → IsPermutation a b → IsChosen b key handler → IsChosen a key handler
@@ -150,21 +115,3 @@ only_choice xs key = λ a b apart one other.
             sym one.is ∙ ap (λ (s : MessageSelector). s.handler) same ∙ other.is
       ]
     ]
-
--- the place of the first range, over the selectors
-pub same_place : (xs : List MessageSelector) (lows highs : List ℕ) (key key' : ℕ) (place : Option ℕ) → lows ≡ map (λ (s : MessageSelector). s.low) xs → highs ≡ map (λ (s : MessageSelector). s.high) xs
-    → key' ≡ key → position (holds key') (zip lows highs) ≡ place → position (holds key) (zip (map (λ (s : MessageSelector). s.low) xs) (map (λ (s : MessageSelector). s.high) xs)) ≡ place
-same_place xs lows highs key key' place low high same is =
-    sym (
-    ap (λ k. position (holds k) (zip lows highs)) same
-    ∙ ap (λ (ls : List ℕ). position (holds key) (zip ls highs)) low
-    ∙ ap (λ (hs : List ℕ). position (holds key) (zip (map (λ (s : MessageSelector). s.low) xs) hs)) high
-    ) ∙ is
-
--- the place is that of a selector
-pub place_within : (xs : List MessageSelector) (key place : ℕ)
-    → position (holds key) (zip (map (λ (s : MessageSelector). s.low) xs) (map (λ (s : MessageSelector). s.high) xs)) ≡ Some place → place < length xs
-place_within xs key place found =
-    let is : position (holds key) (map bounds xs) ≡ Some place = sym (ap (position (holds key)) (zip_bounds xs)) ∙ found in
-    let first = position-Some (holds key) (map bounds xs) place (0, 0) is in
-    omega (arith, first.0, length-map xs bounds)

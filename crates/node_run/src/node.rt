@@ -129,9 +129,9 @@ impl Node {
     /// keys that are pressed. No task of the round is done yet, and none was left of the one before.
     ///
     /// A frame counts in the round of a moment alone, and keys there and in the round of the start. Takes
-    /// time linear in the keys, beside that in the handlers where the round runs all of a kind, and in the
-    /// selectors where a frame is seen. Takes memory linear in the handlers and the keys. Where there is
-    /// none, nothing changes.
+    /// time linear in the keys, beside that in the handlers where the round runs all of a kind, and that of
+    /// a choice (`Selectors::choose`) where a frame is seen. Takes memory linear in the handlers and the
+    /// keys. Where there is none, nothing changes.
     pub fn begin(
         &mut self,
         round: Round,

@@ -91,7 +91,7 @@ impl Procedures {
         self.keys[key as usize].or(self.any_key)
     }
 
-    /// The number of the handler for a frame. Takes time linear in the selectors.
+    /// The number of the handler for a frame. Takes the time of `Selectors::choose`.
     pub(crate) fn for_frame(&self, frame: &Frame) -> Option<u32>
         ensures { result
             ≡ message_procedure (events_of self.now.handlers) (selection_key frame.now.ident) }
