@@ -1,5 +1,5 @@
 -- Tables of variables that grow, and variables in order.
-use Rattle.std.proofs.Common.{◌≡◌, ◌≢◌, ◌≤◌, ◌+◌, ◌==◌, ◌&&◌, ◌||◌, ◌∙◌, ℕ, suc, Bool, true, false, cond, List, [], ◌∷◌, ◌++◌, length, Option, None, Some, refl, ap, sym, arith, nat_le, nat_lt}
+use Rattle.std.proofs.Common.{◌≡◌, ◌≢◌, ◌≤◌, ◌+◌, ◌==◌, ◌&&◌, ◌||◌, ◌∙◌, ℕ, zero, suc, Bool, true, false, cond, List, [], ◌∷◌, ◌++◌, length, Option, None, Some, refl, ap, sym, arith, nat_le, nat_lt}
 use Rattle.std.specs.Prelude.{find, if◌then◌else◌, position, slice_get}
 use Rattle.std.specs.List.{position_from}
 use Rattle.std.specs.Option.{option_and_then, option_map_or, option_or}
@@ -9,7 +9,7 @@ use Rattle.std.proofs.lemmas.Iterator.Adapters.{position_from-zero}
 use Rattle.std.proofs.lemmas.Slice.Eq.{bytes_eq-Decides}
 use Rattle.capl_meaning.specs.Variable.{Variable}
 use Rattle.check_names.specs.declared.table.NameTable.{NameTable}
-use Rattle.check_names.specs.Inside.Table.{AreInOrder, AreTables, is_in_order, is_named, is_named_before, number_at}
+use Rattle.check_names.specs.Inside.Table.{AreInOrder, AreTables, is_in_order, is_named, is_named_before, number_at, numbered}
 use Rattle.check_names.proofs.PositionLemmas.{find_position, position-push}
 
 -- both of a row of three
@@ -28,6 +28,14 @@ right true b is = is
 right false b is = absurd (cc)
 
 -- ---- tables that grow
+
+-- a new table has no names
+pub with_fresh : (tables : List NameTable) (fresh : NameTable) → ((name : List ℕ) → numbered fresh name ≡ None) →
+    (owner : ℕ) (name : List ℕ) → number_at (tables ++ fresh ∷ []) owner name ≡ number_at tables owner name
+with_fresh [] fresh none zero name = none name
+with_fresh [] fresh none (suc owner) name = refl
+with_fresh (table ∷ tables) fresh none zero name = refl
+with_fresh (table ∷ tables) fresh none (suc owner) name = with_fresh tables fresh none owner name
 
 -- one more variable
 pub tables_more : (old new : List NameTable) (vs : List Variable) (v : Variable) (number : ℕ)

@@ -86,18 +86,18 @@ pub fn declared_functions<'p>(
 
 /// The table of functions by their names. The numbers of their procedures rise from 1 on, so they are fewer
 /// than 2^32.
-pub(crate) fn called_functions(
+pub(crate) fn called_functions<'p>(
     alloc: Global,
     seed: Seed,
-    functions: &[DeclaredFunction],
-) -> Result<NameTable, NoMemory>
+    functions: &[DeclaredFunction<'p>],
+) -> Result<NameTable<'p>, NoMemory>
     requires { IsStrictlyIncreasing (0 ∷ map (λ f. f.number) (functions_in functions.now)) }
     ensures { IfOk result (λ table. IsCalled table (functions_in functions.now)) }
 {
     let mut table = NameTable::new(alloc, seed);
     let mut number = 0u32;
     for function in functions {
-        table.note(alloc, function.name.bytes(), number)?;
+        table.note(function.name.bytes(), number)?;
         number = behind(number, function.number);
     }
     Ok(table)

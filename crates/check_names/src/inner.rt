@@ -17,8 +17,11 @@ fn is_known(names: &Names, procedure: u32, name: &[u8], number: u32) -> bool
     ensures { result ≡ (nat_lt 0 procedure
         && list_any (is_named procedure name.now) (take number names.now.variables)) }
 {
+    if procedure == 0 {
+        return false;
+    }
     match names.first_named(procedure, name) {
-        Some(earliest) => procedure > 0 && earliest < number,
+        Some(earliest) => earliest < number,
         None => false,
     }
 }

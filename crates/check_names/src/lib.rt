@@ -23,6 +23,7 @@ mod function;
 mod global;
 mod head;
 mod inner;
+mod key;
 pub mod laws;
 mod names;
 mod part;

@@ -36,9 +36,10 @@ pub struct Names<'p> {
     base: Option<&'p Database>,
     variables: Vec<Declared<'p>>,
     functions: Vec<DeclaredFunction<'p>>,
-    tables: Vec<NameTable>,
+    seed: Seed,
+    tables: Vec<NameTable<'p>>,
     in_order: bool,
-    called: NameTable,
+    called: NameTable<'p>,
 }
 
 impl<'p> Model for Names<'p> {
@@ -92,6 +93,7 @@ impl<'p> Names<'p> {
             base,
             variables,
             functions,
+            seed,
             tables,
             in_order,
             called,
@@ -205,7 +207,7 @@ impl<'p> Names<'p> {
         ensures { IfOk result (λ first. IsFirstOf first (named_offences self.now.base program.now)) }
     {
         let parts = program_parts(alloc, program)?;
-        let seed = Seed::of(self.variables.as_slice(), self.functions.as_slice());
+        let seed = self.seed;
         let mut first = None;
         note_outer_names(alloc, seed, parts.as_slice(), &mut first)?;
         note_purposes(alloc, self, seed, parts.as_slice(), &mut first)?;

@@ -47,11 +47,11 @@ struct Telling<'p> {
 
 /// What the procedures so far are for.
 #[derive(Debug, Drop)]
-struct Purposes {
+struct Purposes<'p> {
     /// Numbers that stand for the frames and keys.
     ranges: Ranges,
     /// The names of the timers.
-    timers: NameTable,
+    timers: NameTable<'p>,
 }
 
 /// Appends what selectors tell.
@@ -166,9 +166,9 @@ fn number_of_key(key: Option<u8>) -> u64
     }
 }
 
-impl Purposes {
+impl<'p> Purposes<'p> {
     /// Nothing.
-    fn new(alloc: Global, seed: Seed) -> Purposes
+    fn new(alloc: Global, seed: Seed) -> Purposes<'p>
         ensures { Knows result [] }
     {
         Purposes {
@@ -244,14 +244,16 @@ impl Purposes {
     }
 
     /// Takes what one more procedure is for.
-    fn add(&mut self, alloc: Global, purpose: Purpose) -> Result<(), NoMemory>
+    fn add(&mut self, purpose: Purpose<'p>) -> Result<(), NoMemory>
         requires { IsOrdinary (purpose_of purpose) }
         ensures { (earlier : List Told) (told : Told) → told.purpose ≡ purpose_of purpose.entry →
             Knows self.old earlier → OnOk result (Knows self.new (told ∷ earlier)) }
     {
         match purpose {
             Purpose::Frames { chan, keys } => self.add_frames(chan, keys)?,
-            Purpose::Timer(name) => self.timers.note(alloc, name.bytes(), 0)?,
+            Purpose::Timer(name) => {
+                self.timers.note(name.bytes(), 0)?;
+            }
             Purpose::Key(key) => self.ranges.add(number_of_key(key), number_of_key(key))?,
         }
         Ok(())
@@ -259,10 +261,10 @@ impl Purposes {
 }
 
 /// Notes where a procedure is for what an earlier one is for.
-fn note_collisions(
+fn note_collisions<'p>(
     alloc: Global,
     seed: Seed,
-    tellings: &[Telling],
+    tellings: &[Telling<'p>],
     first: &mut Option<Offence>,
 ) -> Result<(), NoMemory>
     requires { All IsOrdinaryTelling tellings.now }
@@ -273,7 +275,7 @@ fn note_collisions(
     for telling in tellings {
         let known = purposes.know(telling.purpose);
         note_where(known, telling.file, telling.token, SAME_PURPOSE, first);
-        purposes.add(alloc, telling.purpose)?;
+        purposes.add(telling.purpose)?;
     }
     Ok(())
 }

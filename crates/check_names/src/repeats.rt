@@ -117,10 +117,10 @@ fn note_builtins(names: &[NameAt], first: &mut Option<Offence>)
 }
 
 /// Notes names that earlier ones are the same as. Takes time linear in the names.
-fn note_repeated(
+fn note_repeated<'p>(
     alloc: Global,
     seed: Seed,
-    names: &[NameAt],
+    names: &[NameAt<'p>],
     first: &mut Option<Offence>,
 ) -> Result<(), NoMemory>
     ensures { OnOk result (first.new ≡ noted first.old
@@ -128,9 +128,8 @@ fn note_repeated(
 {
     let mut table = NameTable::new(alloc, seed);
     for name in names {
-        let known = table.number(name.name.bytes()).is_some();
+        let known = table.note(name.name.bytes(), 0)?;
         note_where(known, name.file, name.token, TWICE, first);
-        table.note(alloc, name.name.bytes(), 0)?;
     }
     Ok(())
 }

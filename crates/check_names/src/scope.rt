@@ -21,7 +21,12 @@ pub(crate) fn number_at(tables: &[NameTable], owner: u32, name: &[u8]) -> Option
 }
 
 /// Adds tables until there is one for this owner.
-fn open(alloc: Global, seed: Seed, tables: &mut Vec<NameTable>, owner: u32) -> Result<(), NoMemory>
+fn open<'p>(
+    alloc: Global,
+    seed: Seed,
+    tables: &mut Vec<NameTable<'p>>,
+    owner: u32,
+) -> Result<(), NoMemory>
     ensures same { (other : ℕ) (name : List ℕ) →
         OnOk result (number_at tables.new.items other name ≡ number_at tables.old.items other name) }
     ensures there { OnOk result (owner < length tables.new.items) }
@@ -33,12 +38,12 @@ fn open(alloc: Global, seed: Seed, tables: &mut Vec<NameTable>, owner: u32) -> R
 }
 
 /// Notes the number of a variable in the table of its owner, if its name was not noted there before.
-fn note_at(
+fn note_at<'p>(
     alloc: Global,
     seed: Seed,
-    tables: &mut Vec<NameTable>,
+    tables: &mut Vec<NameTable<'p>>,
     owner: u32,
-    name: &[u8],
+    name: &'p [u8],
     number: u32,
 ) -> Result<(), NoMemory>
     ensures { (other : ℕ) (named : List ℕ) → OnOk result (number_at tables.new.items other named ≡
@@ -47,18 +52,18 @@ fn note_at(
 {
     open(alloc, seed, tables, owner)?;
     if let Some(table) = tables.get_mut(owner as usize) {
-        table.note(alloc, name, number)?;
+        table.note(name, number)?;
     }
     Ok(())
 }
 
 /// Notes a variable in the table of its owner, if its name was not noted there before.
-fn note_variable(
+fn note_variable<'p>(
     alloc: Global,
     seed: Seed,
     number: u32,
-    variable: &Declared,
-    tables: &mut Vec<NameTable>,
+    variable: &Declared<'p>,
+    tables: &mut Vec<NameTable<'p>>,
 ) -> Result<(), NoMemory>
     ensures { (base : List DbcMessage) (owner : ℕ) (name : List ℕ) →
         OnOk result (number_at tables.new.items owner name ≡ option_or (number_at tables.old.items owner name)
@@ -75,11 +80,11 @@ fn note_variable(
 }
 
 /// The tables of variables.
-pub(crate) fn tables_of(
+pub(crate) fn tables_of<'p>(
     alloc: Global,
     seed: Seed,
-    variables: &[Declared],
-) -> Result<Vec<NameTable>, NoMemory>
+    variables: &[Declared<'p>],
+) -> Result<Vec<NameTable<'p>>, NoMemory>
     ensures first { (base : List DbcMessage) →
         IfOk result (λ tables. AreTables tables.items (variables_in base variables.now)) }
     ensures few { IfOk result (λ tables. length variables.now < 2 ^ 32) }

@@ -1,19 +1,17 @@
 // The hash of the tables.
 
-ghost use Rattle.std.specs.Prelude.{fold};
-ghost use Rattle.std.specs.Hash as fed;
-ghost use Rattle.std.specs.Hash.DefaultHasher as sip;
-
 use crate::function::DeclaredFunction;
 use crate::variable::Declared;
+use std::fmt::{Debug, Formatter, Result, Write};
 use std::hash::{BuildHasher, DefaultHasher, Hasher};
 
 /// The hash of a program's tables: SipHash, begun with a number that hangs on all its names. Each
 /// change of a name changes the hash of all, so names that fall into one place of a table cannot be
 /// looked for one after another.
-#[derive(Clone, Copy, Debug, PartialEq, Eq)]
+#[derive(Clone, Copy)]
 pub(crate) struct Seed {
-    number: u64,
+    /// What each hash begins as: it has taken the number.
+    begun: DefaultHasher,
 }
 
 impl Seed {
@@ -28,20 +26,24 @@ impl Seed {
             hasher.write(function.name.bytes());
             hasher.write_u8(0);
         }
-        Seed {
-            number: hasher.finish(),
-        }
+        let mut begun = DefaultHasher::new();
+        begun.write_u64(hasher.finish());
+        Seed { begun }
     }
 }
 
 impl BuildHasher for Seed {
     type Hasher = DefaultHasher;
 
-    ghost build_hasher = { λ seed. fold sip.write sip.initial (fed.u64 seed.number) };
+    ghost build_hasher = { λ seed. seed.begun };
 
     fn build_hasher(&self) -> DefaultHasher {
-        let mut hasher = DefaultHasher::new();
-        hasher.write_u64(self.number);
-        hasher
+        self.begun
+    }
+}
+
+impl Debug for Seed {
+    fn fmt<W: Write>(&self, f: &mut Formatter<W>) -> Result {
+        f.write_str("Seed")
     }
 }

@@ -1,24 +1,25 @@
 // Tables of names.
 
-ghost use Rattle.std.specs.Prelude.{◌≡◌, ℕ, List, None, OnOk, Some, if◌then◌else◌};
+ghost use Rattle.std.specs.Prelude.{◌≡◌, ℕ, List, IfOk, None, OnOk, Some, if◌then◌else◌, is_some};
 ghost use Rattle.std.specs.Option.{option_or};
 ghost use Rattle.std.specs.Str.{bytes_eq};
 ghost use Rattle.check_names.specs.Inside.Table.{numbered};
 
+use crate::key::Key;
 use crate::seed::Seed;
 use indexmap::IndexMap;
 use std::alloc::Global;
 use texts::NoMemory;
 
-/// Names with the first number that each was noted with.
+/// Names of the program with the first number that each was noted with.
 #[derive(Debug, Drop)]
-pub(crate) struct NameTable {
-    numbers: IndexMap<Vec<u8>, u32, Seed>,
+pub(crate) struct NameTable<'p> {
+    numbers: IndexMap<Key<'p>, u32, Seed>,
 }
 
-impl NameTable {
+impl<'p> NameTable<'p> {
     /// No names. Takes no memory.
-    pub(crate) fn new(alloc: Global, seed: Seed) -> NameTable
+    pub(crate) fn new(alloc: Global, seed: Seed) -> NameTable<'p>
         ensures { (name : List ℕ) → numbered result name ≡ None }
     {
         NameTable {
@@ -31,19 +32,20 @@ impl NameTable {
     pub(crate) fn number(&self, name: &[u8]) -> Option<u32>
         ensures { result ≡ numbered self.now name.now }
     {
-        self.numbers.get(name).copied()
+        self.numbers.get(&Key { bytes: name }).copied()
     }
 
-    /// Notes a name with its number, if it was not noted before.
-    pub(crate) fn note(&mut self, alloc: Global, name: &[u8], number: u32) -> Result<(), NoMemory>
-        ensures { (other : List ℕ) → OnOk result (numbered self.new other ≡
+    /// Notes a name with its number, if it was not noted before, and says whether it was. Takes the time
+    /// of a look-up.
+    pub(crate) fn note(&mut self, name: &'p [u8], number: u32) -> Result<bool, NoMemory>
+        ensures noted { (other : List ℕ) → OnOk result (numbered self.new other ≡
             option_or (numbered self.old other) (if bytes_eq other name.now then Some number else None)) }
+        ensures known { IfOk result (λ known. known ≡ is_some (numbered self.old name.now)) }
     {
         if self.number(name).is_some() {
-            return Ok(());
+            return Ok(true);
         }
-        let key = Vec::from_slice(alloc, name)?;
-        self.numbers.insert(key, number)?;
-        Ok(())
+        self.numbers.insert(Key { bytes: name }, number)?;
+        Ok(false)
     }
 }

@@ -9,7 +9,7 @@ use Rattle.check_names.specs.declared.table.NameTable.{NameTable}
 
 -- the number that a table has for a name
 abbrev pub numbered : NameTable → List ℕ → Option ℕ
-numbered table name = lookup (λ key. bytes_eq name key.items) table.numbers.entries
+numbered table name = lookup (λ key. bytes_eq name key.bytes.now) table.numbers.entries
 
 -- the number that the table of an owner has for a name
 abbrev pub number_at : List NameTable → ℕ → List ℕ → Option ℕ

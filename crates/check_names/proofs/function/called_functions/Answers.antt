@@ -15,7 +15,7 @@ loop-function-preserved c = record {
       called_more c.loop-function.table c.note.new.self c.args.functions.now c.loop-function.function-index
       c.loop-function.number c.function-item.result c.loop-function-test.true c.function-item.is
       c.loop-function.invariant.number c.loop-function.invariant.table
-      (λ name. c.in_ok-note.ensures name ∙ ap (λ (n : List ℕ). option_or (numbered c.loop-function.table name)
+      (λ name. c.in_ok-note.ensures.noted name ∙ ap (λ (n : List ℕ). option_or (numbered c.loop-function.table name)
       (if bytes_eq name n then Some c.loop-function.number else None)) c.bytes.ensures);
 }
 

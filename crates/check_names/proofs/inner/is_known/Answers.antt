@@ -15,10 +15,11 @@ second : (procedure : ℕ) (b : Bool) → 0 < procedure → b ≡ nat_lt 0 proce
 second procedure b inside =
     let is : true ≡ nat_lt 0 procedure = grind (arith, nat_tests, inside) in ap (λ (first : Bool). first && b) is
 
-pub returns-then-procedure-gt0 : goal.returns-then-procedure-gt0
-returns-then-procedure-gt0 c =
+pub returns-in-Some : goal.returns-in-Some
+returns-in-Some c =
     let named = is_named c.args.procedure c.args.name.now in
-    second c.args.procedure (nat_lt c.in-Some.earliest c.args.number) c.if-procedure-gt0.true
+    let inside : 0 < c.args.procedure = omega (arith, c.if-procedure-eq0.false) in
+    second c.args.procedure (nat_lt c.in-Some.earliest c.args.number) inside
     ∙ ap (λ (b : Bool). nat_lt 0 c.args.procedure && b)
     (sym (is_early named c.args.names.now.variables c.args.number c.in-Some.earliest (sym c.first_named.ensures ∙ c.in-Some.is)))
 

@@ -17,14 +17,14 @@ loop-name-preserved c =
     record {
       earlier = name_at item ∷ earlier;
       table = λ name.
-          ap (λ (o : Option ℕ). is_some o) (c.in_ok-note.ensures name)
-          ∙ name_more (numbered c.loop-name.table name) (bytes_eq name c.bytes-in-loop-name.result.now)
-          ∙ ap (λ (b : Bool). bytes_eq name c.bytes-in-loop-name.result.now || b) (c.loop-name.invariant.table name)
-          ∙ ap (λ (n : List ℕ). bytes_eq name n || list_any (λ (d : Declared). bytes_eq name d.name) earlier) c.bytes-in-loop-name.ensures;
+          ap (λ (o : Option ℕ). is_some o) (c.in_ok-known.ensures.noted name)
+          ∙ name_more (numbered c.loop-name.table name) (bytes_eq name c.bytes.result.now)
+          ∙ ap (λ (b : Bool). bytes_eq name c.bytes.result.now || b) (c.loop-name.invariant.table name)
+          ∙ ap (λ (n : List ℕ). bytes_eq name n || list_any (λ (d : Declared). bytes_eq name d.name) earlier) c.bytes.ensures;
       noting =
           repeated_turn name_at same_name name_offence earlier c.args.names.now c.loop-name.name-index item
-          c.loop-name.first c.note_where.new.first c.is_some-known.result c.loop-name-test.true c.name-item.is
-          (c.is_some-known.ensures ∙ ap (λ (o : Option ℕ). is_some o) c.number.ensures
+          c.loop-name.first c.note_where.new.first c.in_ok-known.known c.loop-name-test.true c.name-item.is
+          (c.in_ok-known.ensures.known
           ∙ ap (λ (n : List ℕ). is_some (numbered c.loop-name.table n)) c.bytes.ensures
           ∙ c.loop-name.invariant.table item.name.now)
           c.note_where.ensures

@@ -12,9 +12,9 @@ use Rattle.check_names.proofs.names.Names.first.Goals as goal
 pub returns : goal.returns
 returns c =
     let names = c.args.self.now in
-    let outer = ap parts_in c.as_slice-3.ensures.value ∙ c.in_ok-parts.ensures in
-    let purposes = ap parts_in c.as_slice-4.ensures.value ∙ c.in_ok-parts.ensures in
-    let heads = ap parts_in c.as_slice-5.ensures.value ∙ c.in_ok-parts.ensures in
+    let outer = ap parts_in c.as_slice.ensures.value ∙ c.in_ok-parts.ensures in
+    let purposes = ap parts_in c.as_slice-2.ensures.value ∙ c.in_ok-parts.ensures in
+    let heads = ap parts_in c.as_slice-3.ensures.value ∙ c.in_ok-parts.ensures in
     named_first names c.args.program.now c.note_outer_names.new.first c.note_purposes.new.first c.note_parts.new.first
     c.note_inner_names.new.first c.requires
     (c.in_ok-note_outer_names.ensures ∙ ap (λ (ps : List Part). noted None (outer_name_offences ps)) outer)

@@ -32,4 +32,4 @@ pub returns-in_ok-note-in-Timer : goal.returns-in_ok-note-in-Timer
 returns-in_ok-note-in-Timer c = λ earlier told same knows.
     let timer : told.purpose ≡ meant.ForTimer c.bytes.result.now =
     same ∙ ap purpose_of c.in-Timer.is ∙ ap (λ (n : List ℕ). meant.ForTimer n) (sym c.bytes.ensures) in
-    more_timers c.args.self.now _ earlier told c.bytes.result.now timer knows refl (λ other. c.in_ok-note-in-Timer.ensures other)
+    more_timers c.args.self.now _ earlier told c.bytes.result.now timer knows refl (λ other. c.in_ok-note-in-Timer.ensures.noted other)
