@@ -9,7 +9,7 @@ ghost use Rattle.code_meaning.specs.Ending.{DoesWhatItMeans};
 ghost use Rattle.gen_stmt.specs.Cells.{cell_count};
 
 use crate::program::make_code;
-use bytecode::{Verified, verify};
+use bytecode::{Verified, VerifyRefusal, verify};
 use capl_tree::{Program, weight_of};
 use code_meaning::laws::code_means_its_tree;
 use code_verified::laws::code_is_verified;
@@ -92,7 +92,8 @@ fn verified_code(alloc: Global, typed: &Typed) -> Result<Verified, NoMemory>
     code_means_its_tree();
     match verify(alloc, code) {
         Ok(verified) => Ok(verified),
-        // No rule fails for this code, so what the verifier lacks is memory.
-        Err(_) => Err(NoMemory),
+        // No rule fails for this code.
+        Err(VerifyRefusal::Unverified { .. }) => unreachable!(),
+        Err(VerifyRefusal::NoMemory) => Err(NoMemory),
     }
 }

@@ -1,6 +1,6 @@
 // The code of procedures and of whole programs.
 
-ghost use Rattle.std.specs.Prelude.{◌≡◌, ◌+◌, ◌<◌, ◌^◌, [], ◌∷◌, ◌++◌, length, map, IfOk, OnOk};
+ghost use Rattle.std.specs.Prelude.{◌≡◌, ◌+◌, ◌<◌, ◌≤◌, ◌^◌, [], ◌∷◌, ◌++◌, length, map, IfOk, OnOk};
 ghost use Rattle.typed_tree.specs.Size.{procedure_size, size, tail_size};
 ghost use Rattle.code_listing.specs.Program.{IsCodeOf, function_table, handler_table, procedure_code, procedures_code, tail_code};
 ghost use Rattle.gen_stmt.specs.Inside.Procedures.{entry_of, of_function, of_handler};
@@ -67,8 +67,10 @@ fn add_procedure(
     requires { length code.old + procedure_size typed.now gives body.now < 2 ^ 32 }
     ensures grows { OnOk result
         (length code.new ≡ length code.old + procedure_size typed.now gives body.now) }
+    ensures some { OnOk result (length code.old < length code.new) }
     ensures code { OnOk result (code.new ≡ code.old
         ++ procedure_code typed.now (record { gives = gives; body = body.now }) (length code.old)) }
+    ensures counted { OnOk result (length table.new.items ≡ length table.old.items + 1) }
     ensures table { OnOk result (table.new.items ≡ table.old.items
         ++ entry_of typed.now (record { gives = gives; body = body.now }) (length code.old) ∷ []) }
 {
@@ -108,7 +110,8 @@ fn add_handlers(
     code: &mut Emitter,
     table: &mut Vec<Fun>,
 ) -> Result<Vec<Handler>, NoMemory>
-    requires { length code.old + handlers_size typed.now handlers.now < 2 ^ 32 }
+    requires room { length code.old + handlers_size typed.now handlers.now < 2 ^ 32 }
+    requires few { length table.old.items ≤ length code.old }
     ensures code { OnOk result (code.new ≡ code.old
         ++ procedures_code typed.now (map of_handler handlers.now) (length code.old)) }
     ensures table { OnOk result (table.new.items ≡ table.old.items
@@ -118,7 +121,7 @@ fn add_handlers(
 {
     let mut entries = Vec::new(alloc);
     for handler in handlers {
-        let number = u32::try_from(table.len()).map_err(|_| NoMemory)?;
+        let number = table.len() as u32;
         add_procedure(false, handler.body.as_slice(), typed, code, table)?;
         entries.push(Handler {
             event: handler.event.copy()?,

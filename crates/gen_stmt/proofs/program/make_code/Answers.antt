@@ -1,10 +1,19 @@
 -- The code and the tables of all procedures.
-use Rattle.std.proofs.Common.{◌≡◌, length, ap, ◌∙◌, rules}
+use Rattle.std.proofs.Common.{◌≡◌, length, ap, ◌∙◌, arith, rules}
 use Rattle.std.specs.Prelude.{map}
 use Rattle.code_listing.specs.Program.{handler_table, program_code}
 use Rattle.gen_stmt.proofs.Emitted.{program_emitted, table_made}
+use Rattle.gen_stmt.proofs.Nonempty.{functions_count}
 use Rattle.gen_stmt.proofs.Steps.{entries_count}
 use Rattle.gen_stmt.proofs.program.make_code.Goals as goal
+
+pub add_handlers-requires-clause-few : goal.add_handlers-requires-clause-few
+add_handlers-requires-clause-few c =
+    let typed = c.args.typed.now in
+    let functions = c.as_slice.result.now in
+    let place = length c.new-code.result in
+    let entries = rw c.new-functions.ensures.items at c.in_ok-add_functions.ensures.table in
+    omega (arith, ap length entries, entries_count typed functions place, functions_count typed functions, c.in_ok-add_functions.ensures.grows)
 
 pub returns : goal.returns
 returns c =
