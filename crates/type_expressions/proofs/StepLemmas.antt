@@ -1,17 +1,18 @@
 -- One more variable, in each pass over the variables of a program.
 use Rattle.std.proofs.Common.{◌≡◌, ℕ, zero, suc, ◌+◌, ◌<◌, ◌≤◌, List, [], ◌∷◌, ◌++◌, length, drop, Option, Some, None, refl, sym, ap, ◌∙◌, append_assoc, arith}
-use Rattle.std.specs.Prelude.{filter_map, flat_map, slice_get}
+use Rattle.std.specs.Prelude.{Bool, true, false, if◌then◌else◌, filter_map, flat_map, slice_get}
 use Rattle.std.specs.Option.{option_map_or}
 use Rattle.std.proofs.lemmas.List.{append-nil}
 use Rattle.std.proofs.lemmas.List.Sums.{sum_by-cons}
 use Rattle.int_kinds.specs.declared.kinds.Kind.{Kind}
 use Rattle.dbc_reader.specs.declared.message.DbcMessage.{DbcMessage}
-use Rattle.capl_meaning.specs.Variable.{Form, Misfit, Variable}
+use Rattle.capl_meaning.specs.Variable.{Array, Form, Message, Misfit, Number, Timer, Variable}
 use Rattle.capl_meaning.specs.Names.{Names}
 use Rattle.capl_meaning.specs.Constant.{elements_of}
 use Rattle.capl_meaning.specs.Size.{size_of_form}
-use Rattle.capl_meaning.specs.Store.{kinds_by, unit_of}
-use Rattle.typed_laws.specs.Laid.{cells_by_form}
+use Rattle.capl_meaning.specs.Message.{Held, HeldFrame, HeldVariable}
+use Rattle.capl_meaning.specs.Store.{Key, key_of, kinds_by, same_key, unit_of}
+use Rattle.typed_laws.specs.Laid.{cell_count, cells_before, cells_by_form, message_slot}
 use Rattle.check_names.specs.declared.variable.Declared.{Declared}
 use Rattle.check_names.specs.Variable.{variables_in}
 use Rattle.type_expressions.specs.declared.layout.Laid.{Laid}
@@ -140,3 +141,32 @@ pub size_whole : (names : Names) (i size whole : ℕ) → length names.variables
 size_whole names i size whole le known =
     let none : size_in names (drop i names.variables) ≡ 0 = ap (size_in names) (none_left names.variables i le) in
     omega (arith, none, known)
+
+-- what a variable of a form has is cells, or a timer
+pub split_size : (elements timers : ℕ) (form : Form) →
+    cells_by_form elements form + timers_with timers form ≡ size_of_form elements form + timers
+split_size elements timers (Number k fixed) = omega arith
+split_size elements timers (Array k fixed size) = omega arith
+split_size elements timers (Message type_) = omega arith
+split_size elements timers (Timer unit) = omega arith
+split_size elements timers Misfit = omega arith
+
+-- the cells before those of a key are no more than the size
+before_few : (names : Names) (vs : List Variable) (k : Key) → cells_before names vs k ≤ size_in names vs
+before_few names [] k = omega arith
+before_few names (v ∷ vs) k = by (same_key (key_of v) k) (before_few names vs k)
+  where
+    by : (b : Bool) → cells_before names vs k ≤ size_in names vs → (if b then 0 else cell_count names v + cells_before names vs k) ≤ size_in names (v ∷ vs)
+    by true rest = omega arith
+    by false rest =
+        omega (
+          arith,
+          rest,
+          split_size (elements_of names v) 0 v.form,
+          sum_by-cons (λ v. size_of_form (elements_of names v) v.form) v vs,
+        )
+
+-- a message of a program with few cells has a low first cell
+pub message_low : (names : Names) (held : Held) → size_in names names.variables ≤ 1000000 → message_slot names held ≤ 1000015
+message_low names (HeldFrame signals) few = omega arith
+message_low names (HeldVariable v signals) few = omega (arith, few, before_few names names.variables (key_of v))

@@ -1,5 +1,5 @@
 -- What is made of expressions, and what for.
-use Rattle.std.specs.Prelude.{ℕ, true, false, List, [], ◌∷◌, Option, Some, None}
+use Rattle.std.specs.Prelude.{ℕ, ◌≤◌, true, false, List, [], ◌∷◌, Option, Some, None}
 use Rattle.int_kinds.specs.declared.operators.BinOp.{BinOp}
 use Rattle.int_kinds.specs.declared.operators.UnOp.{UnOp}
 use Rattle.int_kinds.specs.declared.operators.UnOp.TheVariants as prefix
@@ -18,13 +18,15 @@ use Rattle.check_calls.specs.Calls.{AreCallsOf, order_of}
 use Rattle.type_expressions.specs.declared.made.Shape.{Shape}
 use Rattle.type_expressions.specs.declared.made.Shape.TheVariants as shape
 use Rattle.type_expressions.specs.declared.made.TreeTables.{TreeTables}
-use Rattle.type_expressions.specs.Layout.{IsLayoutOf}
+use Rattle.type_expressions.specs.Layout.{IsLayoutOf, size_in}
 
--- the layout and the calls are those of a program, in which no name is declared twice
+-- the layout and the calls are those of a program in which no name is declared twice, and which has at most
+-- 1,000,000 cells
 pub record AreTreeTables (names : Names) (tables : TreeTables) : Type 0 where
   pub layout : IsLayoutOf names tables.layout.now
   pub calls : AreCallsOf names tables.calls.now
   pub distinct : AreDistinct names.variables
+  pub few : size_in names names.variables ≤ 1000000
 
 -- the order of the functions
 abbrev pub order_in : TreeTables → List ℕ

@@ -1,6 +1,6 @@
 // Where the variables of a program lie in the cells of its typed program.
 
-ghost use Rattle.std.specs.Prelude.{◌≡◌, ◌+◌, ℕ, IfOk, Some, length, slice_get};
+ghost use Rattle.std.specs.Prelude.{◌≡◌, ◌+◌, ◌<◌, ◌^◌, ℕ, IfOk, Some, slice_get};
 ghost use Rattle.capl_meaning.specs.Constant.{elements_of};
 ghost use Rattle.capl_meaning.specs.Names.{Names};
 ghost use Rattle.capl_meaning.specs.Size.{size_of_form};
@@ -91,33 +91,20 @@ fn lay(next: Next, elements: u32, form: &Form) -> Laid
     }
 }
 
-/// What comes behind a variable of a form, if cells and timers are numbered by 32 bits.
-fn behind(next: Next, elements: u32, form: &Form) -> Result<Next, NoMemory>
-    ensures { IfOk result (λ after. after ≡ record {
+/// What comes behind a variable of a form.
+fn behind(next: Next, elements: u32, form: &Form) -> Next
+    requires { next.cell + next.timers + size_of_form elements (form_in form.now) < 2 ^ 32 }
+    ensures { result ≡ record {
       cell = next.cell + cells_by_form elements (form_in form.now);
       timers = timers_with next.timers (form_in form.now);
-    }) }
+    } }
 {
-    let more = match form {
-        Form::Timer(_) => 1,
-        Form::Number { .. } | Form::Array { .. } | Form::Message(_) | Form::Misfit => 0,
+    let cell = next.cell + cells_by_form(elements, form);
+    let timers = match form {
+        Form::Timer(_) => next.timers + 1,
+        Form::Number { .. } | Form::Array { .. } | Form::Message(_) | Form::Misfit => next.timers,
     };
-    let cell = next
-        .cell
-        .checked_add(cells_by_form(elements, form))
-        .ok_or(NoMemory)?;
-    let timers = next.timers.checked_add(more).ok_or(NoMemory)?;
-    Ok(Next { cell, timers })
-}
-
-/// How many variables a program has, if they are numbered by 32 bits.
-pub(crate) fn variable_count(names: &Names) -> Result<u32, NoMemory>
-    ensures { IfOk result (λ count. count ≡ length names.now.variables) }
-{
-    match u32::try_from(names.variables().len()) {
-        Ok(count) => Ok(count),
-        Err(_) => Err(NoMemory),
-    }
+    Next { cell, timers }
 }
 
 impl Layout {
@@ -131,7 +118,7 @@ impl Layout {
         requires { AreConstantsOf names.now constants.now }
         ensures { IfOk result (IsLaidOut names.now) }
     {
-        let count = variable_count(names)?;
+        let count = names.variable_count();
         let mut all = Vec::new(alloc);
         let mut next = Next {
             cell: EVENT_CELLS,
@@ -146,7 +133,7 @@ impl Layout {
                 return Ok(None);
             }
             all.push(lay(next, elements, &form))?;
-            next = behind(next, elements, &form)?;
+            next = behind(next, elements, &form);
         }
         Ok(Some(Layout { all }))
     }

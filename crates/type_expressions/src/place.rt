@@ -1,6 +1,6 @@
 // Places of numbers: those of names, of elements of arrays and of parts of messages.
 
-ghost use Rattle.std.specs.Prelude.{◌≡◌, pos, IfOk, None, Option, Some};
+ghost use Rattle.std.specs.Prelude.{◌≡◌, ◌+◌, ◌<◌, ◌^◌, pos, None, Option, Some};
 ghost use Rattle.std.specs.Option.{option_map_or};
 ghost use Rattle.capl_meaning.specs.Message as meant;
 ghost use Rattle.capl_meaning.specs.Message.{array_in, member_named, signals_of};
@@ -25,7 +25,6 @@ use check_sorts::{
     sort_of_element, sort_of_form, sort_of_member,
 };
 use int_kinds::Kind;
-use texts::NoMemory;
 use typed_tree::{Place, TExpr};
 
 /// The place of a variable that a name means, where it is a number.
@@ -127,55 +126,50 @@ fn signals_of(held: Held<'_>) -> DeclaredSignals<'_>
     }
 }
 
-/// The place of a field of the message at a cell, if its number is one of 32 bits.
-fn place_of_field(at: u32, field: MessageField) -> Result<Place, NoMemory>
-    ensures { IfOk result (λ place. place ≡ place_of_field at field) }
+/// The place of a field of the message at a cell.
+fn place_of_field(at: u32, field: MessageField) -> Place
+    requires { at + 5 < 2 ^ 32 }
+    ensures { result ≡ place_of_field at field }
 {
     match field {
-        MessageField::Id => Ok(Place::Set { msg: at, field: 0 }),
-        MessageField::Dlc => Ok(Place::Set { msg: at, field: 1 }),
-        MessageField::Rtr => Ok(Place::Set { msg: at, field: 2 }),
-        MessageField::Can => Ok(Place::Set { msg: at, field: 3 }),
-        MessageField::Dir => {
-            let slot = at.checked_add(4).ok_or(NoMemory)?;
-            Ok(Place::Cell { slot })
-        }
-        MessageField::Time => {
-            let slot = at.checked_add(5).ok_or(NoMemory)?;
-            Ok(Place::Cell { slot })
-        }
+        MessageField::Id => Place::Set { msg: at, field: 0 },
+        MessageField::Dlc => Place::Set { msg: at, field: 1 },
+        MessageField::Rtr => Place::Set { msg: at, field: 2 },
+        MessageField::Can => Place::Set { msg: at, field: 3 },
+        MessageField::Dir => Place::Cell { slot: at + 4 },
+        MessageField::Time => Place::Cell { slot: at + 5 },
     }
 }
 
 /// The place of a member of the message at a cell, if it is a field or a signal that can be used.
-fn place_of_member(at: u32, member: Member) -> Result<Option<Place>, NoMemory>
-    ensures { IfOk result (λ place. place ≡ place_of_member at (member_in member)) }
+fn place_of_member(at: u32, member: Member) -> Option<Place>
+    requires { at + 5 < 2 ^ 32 }
+    ensures { result ≡ place_of_member at (member_in member) }
 {
     match member {
-        Member::Field(field) => {
-            let place = place_of_field(at, field)?;
-            Ok(Some(place))
-        }
-        Member::Signal(layout) => Ok(Some(Place::Signal { msg: at, layout })),
-        Member::Unusable | Member::Unknown { .. } => Ok(None),
+        Member::Field(field) => Some(place_of_field(at, field)),
+        Member::Signal(layout) => Some(Place::Signal { msg: at, layout }),
+        Member::Unusable | Member::Unknown { .. } => None,
     }
 }
 
 /// A member of a message, by its name.
-pub(crate) fn member(tables: &TreeTables, held: Held, name: &[u8]) -> Result<Walked, NoMemory>
+pub(crate) fn member(tables: &TreeTables, held: Held, name: &[u8]) -> Walked
+    requires { (names : Names) × (message : meant.Held) × AreTreeTables names tables.now
+        × (held_in names held ≡ Some message) }
     ensures { (names : Names) (message : meant.Held) → AreTreeTables names tables.now →
-        held_in names held.entry ≡ Some message → IfOk result (λ walked. walked ≡ record {
+        held_in names held.entry ≡ Some message → result ≡ record {
           shape = shape.Place
               (place_of_member (message_slot names message) (member_named (signals_of message) name.now));
           sort = sort_of_member (member_named (signals_of message) name.now);
-        }) }
+        } }
 {
     let member = member_named(signals_of(held), name);
-    let place = place_of_member(message_slot(tables, held), member)?;
-    Ok(Walked {
+    let place = place_of_member(message_slot(tables, held), member);
+    Walked {
         shape: Shape::Place(place),
         sort: sort_of_member(member),
-    })
+    }
 }
 
 /// Payload bytes of a message as a number of a kind.

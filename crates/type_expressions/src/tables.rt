@@ -5,7 +5,7 @@ ghost use Rattle.capl_meaning.specs.Store.{event_kinds, kinds_by, laid_kinds, ti
 ghost use Rattle.check_sorts.specs.Form.{form_in};
 ghost use Rattle.type_expressions.specs.Layout.{IsLayoutOf};
 
-use crate::layout::{Layout, variable_count};
+use crate::layout::Layout;
 use check_names::Names;
 use check_sorts::{Form, form_of};
 use int_kinds::Kind;
@@ -42,7 +42,7 @@ pub fn cell_kinds(alloc: Global, names: &Names, layout: &Layout) -> Result<Vec<K
     requires { IsLayoutOf names.now layout.now }
     ensures { IfOk result (λ kinds. kinds.items ≡ event_kinds ++ laid_kinds names.now) }
 {
-    let count = variable_count(names)?;
+    let count = names.variable_count();
     let mut kinds = Vec::new(alloc);
     kinds.extend_from_slice(MESSAGE_KINDS.as_slice())?;
     kinds.push(Kind::Char)?;
@@ -77,7 +77,7 @@ fn push_unit(unit: Option<u64>, into: &mut Vec<u64>) -> Result<(), NoMemory>
 pub fn timer_units(alloc: Global, names: &Names) -> Result<Vec<u64>, NoMemory>
     ensures { IfOk result (λ units. units.items ≡ timer_units names.now) }
 {
-    let count = variable_count(names)?;
+    let count = names.variable_count();
     let mut units = Vec::new(alloc);
     for number in 0..count {
         push_unit(unit_of(&form_of(names, number)), &mut units)?;

@@ -56,10 +56,7 @@ pub(crate) fn walk(
         Expr::Member { base, field, .. } => match scope.message_in(base.get()) {
             None => Ok(no_member()),
             Some(held) => match field {
-                Field::Named { name, .. } => {
-                    let found = member(tables, held, name.bytes())?;
-                    Ok(found)
-                }
+                Field::Named { name, .. } => Ok(member(tables, held, name.bytes())),
                 Field::Bytes { kind, index, .. } => {
                     let index = walk(alloc, scope, tables, index.get())?;
                     let index = make_part(alloc, index)?;

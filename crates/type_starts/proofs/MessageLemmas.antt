@@ -1,13 +1,19 @@
 -- Messages once their payloads are written.
-use Rattle.std.proofs.Common.{◌≡◌, ℕ, ◌<◌, ◌≤◌, true, false, List, get_or, length, refl, sym, ap, ◌∙◌}
-use Rattle.std.specs.Prelude.{ℤ, pos, negsuc, map, slice_index}
+use Rattle.std.proofs.Common.{◌≡◌, ℕ, zero, suc, ◌<◌, ◌≤◌, Bool, true, false, List, [], ◌∷◌, Option, Some, None, get_or, length, refl, sym, ap, ◌∙◌, subst, arith}
+use Rattle.std.specs.Prelude.{ℤ, pos, negsuc, All, map, nat_le, not, slice_index, ◌&&◌, ◌||◌, if◌then◌else◌}
+use Rattle.std.specs.List.{list_any}
+use Rattle.std.specs.Option.{option_map_or}
+use Rattle.std.proofs.lemmas.Bool.{leb-false, leb-true}
 use lib.IntN.{nat_abs}
 use lib.Signed.{le_z}
 use Rattle.int_kinds.specs.declared.kinds.Kind.{Kind}
 use Rattle.int_kinds.specs.Arithmetic.{residue}
 use Rattle.message_cells.specs.Message.{bytes_of, bytes_of_number, size}
 use Rattle.signal_codec.specs.declared.layout.Layout.{Layout}
-use Rattle.signal_codec.specs.Signal.{payload_with}
+use Rattle.signal_codec.specs.Signal.{IsUsable, bit_numbers, payload_with}
+use Rattle.dbc_reader.specs.declared.signals.DbcSignal.{DbcSignal}
+use Rattle.capl_meaning.specs.declared.field.MessageField.{MessageField}
+use Rattle.capl_meaning.specs.Message.{IsField, IsSignal, IsUnknown, IsUnusable, can_be_used, field_named, is_usable, member_named, member_of_signal, member_of_signals, signal_named}
 use Rattle.capl_meaning.specs.Initial.{with_bytes_at}
 use Rattle.capl_meaning.specs.Store.{MessageRecord, byte_after, payload, row, with_bytes, with_signal}
 use Rattle.type_starts.specs.declared.message.Message.{Message}
@@ -76,3 +82,53 @@ bytes_held_at k (pos i) raw n raw_n count word message m new back back_n least h
     ∙ ap (λ w. byte_put i (bytes_of_number (size k) w) message.payload j) (word_is ∙ ap (residue k) back_n))
 bytes_held_at k (negsuc i) raw n raw_n count word message m new back back_n least held one two count_is word_is puts =
     absurd (let e : false ≡ true = sym (ap (le_z (pos 0)) back) ∙ least in cc)
+
+-- ---- signals
+
+-- no number is from 64 on
+all_below : (xs : List ℕ) → list_any (λ number. nat_le 64 number) xs ≡ false → All (λ number. number < 64) xs
+all_below [] e = λ k d less. absurd (omega (arith, less))
+all_below (x ∷ xs) e = parts (nat_le 64 x) refl e (λ f. all_below xs f)
+  where
+    parts : (b : Bool) → nat_le 64 x ≡ b → b || list_any (λ number. nat_le 64 number) xs ≡ false →
+        (list_any (λ number. nat_le 64 number) xs ≡ false → All (λ number. number < 64) xs) → All (λ number. number < 64) (x ∷ xs)
+    parts true is e further k d less = absurd (let f : true ≡ false = e in cc)
+    parts false is e further zero d less = leb-false 64 x is
+    parts false is e further (suc k) d less = further e k d (omega (arith, less))
+
+-- a layout that passes the test
+usable : (l : Layout) → is_usable l ≡ true → IsUsable l
+usable l h = go (nat_le 1 l.len) (nat_le l.len 64) (list_any (λ number. nat_le 64 number) (bit_numbers l)) refl refl refl h
+  where
+    go : (a b c : Bool) → nat_le 1 l.len ≡ a → nat_le l.len 64 ≡ b → list_any (λ number. nat_le 64 number) (bit_numbers l) ≡ c →
+        a && (b && not c) ≡ true → IsUsable l
+    go true true false p q r h = record { at_least_one = leb-true 1 l.len p; at_most_64 = leb-true l.len 64 q; in_payload = all_below (bit_numbers l) r }
+    go true true true p q r h = absurd (let f : false ≡ true = h in cc)
+    go true false c p q r h = absurd (let f : false ≡ true = h in cc)
+    go false b c p q r h = absurd (let f : false ≡ true = h in cc)
+
+-- a signal that a name means can be used
+pub usable_member : (signals : Option (List DbcSignal)) (name : List ℕ) (l : Layout) → member_named signals name ≡ IsSignal l → IsUsable l
+usable_member signals name l e = field (field_named name) e
+  where
+    parted : (signal : DbcSignal) (b : Bool) → can_be_used signal ≡ b → (if b then IsSignal signal.layout else IsUnusable) ≡ IsSignal l → IsUsable l
+    parted signal false is e = absurd (let f : IsUnusable ≡ IsSignal l = e in cc)
+    parted signal true is e =
+        let same : signal.layout ≡ l = let f : IsSignal signal.layout ≡ IsSignal l = e in cc in
+        subst IsUsable same (usable signal.layout (first (is_usable signal.layout) (not signal.float) is))
+      where
+        first : (a b : Bool) → a && b ≡ true → a ≡ true
+        first true b h = refl
+        first false b h = absurd (let f : false ≡ true = h in cc)
+
+    found : (o : Option DbcSignal) → member_of_signal o ≡ IsSignal l → IsUsable l
+    found None e = absurd (let f : IsUnknown true ≡ IsSignal l = e in cc)
+    found (Some signal) e = parted signal (can_be_used signal) refl e
+
+    among : (o : Option (List DbcSignal)) → member_of_signals o name ≡ IsSignal l → IsUsable l
+    among None e = absurd (let f : IsUnknown false ≡ IsSignal l = e in cc)
+    among (Some all) e = found (signal_named all name) e
+
+    field : (o : Option MessageField) → option_map_or IsField o (member_of_signals signals name) ≡ IsSignal l → IsUsable l
+    field None e = among signals e
+    field (Some f) e = absurd (let g : IsField f ≡ IsSignal l = e in cc)

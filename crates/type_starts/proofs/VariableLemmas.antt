@@ -1,25 +1,22 @@
 -- The first cells of variables, one behind the other.
-use Rattle.std.proofs.Common.{◌≡◌, ℕ, zero, suc, ◌+◌, ◌<◌, ◌≤◌, List, [], ◌∷◌, ◌++◌, length, take, Option, Some, None, refl, sym, ap, ◌∙◌, append_assoc, arith}
-use Rattle.std.specs.Prelude.{ℤ, pos, flat_map, map, slice_get}
+use Rattle.std.proofs.Common.{◌≡◌, ℕ, zero, suc, ◌+◌, ◌^◌, ◌<◌, ◌≤◌, List, [], ◌∷◌, ◌++◌, length, length-append, take, Option, Some, None, refl, sym, ap, ◌∙◌, append_assoc, arith, subst}
+use Rattle.std.specs.Prelude.{ℤ, pos, flat_map, map, slice_get, sum_by}
+use Rattle.std.specs.Option.{option_map_or}
 use Rattle.std.proofs.lemmas.List.{append-nil}
+use Rattle.std.proofs.lemmas.List.Sums.{sum_by-cons}
 use Rattle.capl_tree.specs.declared.declaration.Init.{Init}
 use Rattle.dbc_reader.specs.declared.message.DbcMessage.{DbcMessage}
-use Rattle.capl_meaning.specs.Variable.{Message, MessageType, Variable}
+use Rattle.capl_meaning.specs.Variable.{Array, Form, Message, MessageType, Misfit, Number, Timer, Variable}
 use Rattle.capl_meaning.specs.Names.{Names, Scope}
 use Rattle.capl_meaning.specs.Constant.{elements_of, scope_of}
-use Rattle.capl_meaning.specs.Initial.{first_message}
+use Rattle.capl_meaning.specs.Initial.{element_of_form, first_message}
+use Rattle.capl_meaning.specs.Size.{size_of_form}
 use Rattle.capl_meaning.specs.Store.{MessageRecord, message_cells, row}
-use Rattle.typed_laws.proofs.Lists.{row_parts}
+use Rattle.typed_laws.specs.Laid.{cell_count, cells_by_form}
+use Rattle.typed_laws.proofs.Lists.{row_long, row_parts}
 use Rattle.type_starts.specs.declared.message.Message as held
 use Rattle.type_starts.specs.Message.{IsMessage}
 use Rattle.typed_laws.specs.Starts.{first_by_form, first_cells_of}
-use Rattle.check_names.specs.declared.variable.Declared.{Declared}
-use Rattle.check_names.specs.Variable.{variables_in}
-
--- variables that are listed are as many
-pub as_many : (base : List DbcMessage) (ds : List Declared) → length (variables_in base ds) ≡ length ds
-as_many base [] = refl
-as_many base (d ∷ ds) = ap suc (as_many base ds)
 
 -- there is an item before the end
 pub there_is : {X : Type 0} (xs : List X) (i : ℕ) → i < length xs → (x : X) × (slice_get xs i ≡ Some x)
@@ -72,3 +69,51 @@ cells_are message m fields bytes held fields_are bytes_are =
     ∙ ap (λ x. m.id ∷ m.dlc ∷ m.rtr ∷ x ∷ pos 0 ∷ pos 0 ∷ row m.byte 0 8) (sym held.can)
     ∙ ap (λ x. m.id ∷ m.dlc ∷ m.rtr ∷ m.can ∷ x ∷ pos 0 ∷ row m.byte 0 8) (sym held.dir)
     ∙ ap (λ x. m.id ∷ m.dlc ∷ m.rtr ∷ m.can ∷ m.dir ∷ x ∷ row m.byte 0 8) (sym held.time)
+
+-- the first cells of a variable are as many as its cells
+first_long : (names : Names) (v : Variable) → length (first_cells_of names v) ≡ cell_count names v
+first_long names v = by_form v.form
+  where
+    by_form : (form : Form) → length (first_by_form names v (elements_of names v) form) ≡ cells_by_form (elements_of names v) form
+    by_form (Number k fixed) = refl
+    by_form (Array k fixed size) = row_long (λ i. element_of_form names v i (Array k fixed size)) 0 (elements_of names v)
+    by_form (Message type_) = refl
+    by_form (Timer unit) = refl
+    by_form Misfit = refl
+
+-- a variable has no more cells than count for it
+count_within : (elements : ℕ) (form : Form) → cells_by_form elements form ≤ size_of_form elements form
+count_within elements (Number k fixed) = omega arith
+count_within elements (Array k fixed size) = omega arith
+count_within elements (Message type_) = omega arith
+count_within elements (Timer unit) = omega arith
+count_within elements Misfit = omega arith
+
+-- the first cells of the variables before one, with its own, are no more than count for all
+pub cells_within : (names : Names) (vs : List Variable) (i : ℕ) (v : Variable) → slice_get vs i ≡ Some v →
+    length (flat_map (first_cells_of names) (take i vs)) + cell_count names v ≤ sum_by (λ v. size_of_form (elements_of names v) v.form) vs
+cells_within names [] i v at = absurd (let e : None ≡ Some v = at in cc)
+cells_within names (u ∷ vs) zero v at =
+    let here : u ≡ v = let e : Some u ≡ Some v = at in cc in
+    let same = ap (cell_count names) here in
+    omega (arith, same, count_within (elements_of names u) u.form, sum_by-cons (λ v. size_of_form (elements_of names v) v.form) u vs)
+cells_within names (u ∷ vs) (suc i) v at =
+    omega (
+      arith,
+      cells_within names vs i v at,
+      count_within (elements_of names u) u.form,
+      first_long names u,
+      length-append (first_cells_of names u) (flat_map (first_cells_of names) (take i vs)),
+      sum_by-cons (λ v. size_of_form (elements_of names v) v.form) u vs,
+    )
+
+-- the room for a variable is that for its form
+pub room_of : (names : Names) (number cell : ℕ) (form : Form) →
+    ((v : Variable) → slice_get names.variables number ≡ Some v → cell + cell_count names v < 2 ^ 32) →
+    (v : Variable) → Some v ≡ slice_get names.variables number →
+    form ≡ option_map_or (λ v. v.form) (slice_get names.variables number) Misfit →
+    cell + cells_by_form (elements_of names v) form < 2 ^ 32
+room_of names number cell form room v at is =
+    subst (λ (f : Form). cell + cells_by_form (elements_of names v) f < 2 ^ 32)
+    (sym (is ∙ ap (λ (o : Option Variable). option_map_or (λ v. v.form) o Misfit) (sym at)))
+    (room v (sym at))

@@ -1,8 +1,12 @@
 // Messages, and the rules by which their members are written.
 
-ghost use Rattle.std.specs.Prelude.{◌≡◌, IfOk};
+ghost use Rattle.std.specs.Prelude.{◌≡◌};
+ghost use Rattle.int_kinds.specs.Kind.{IsNumber};
+ghost use Rattle.signal_codec.specs.Signal.{IsUsable};
+ghost use Rattle.signal_codec.specs.declared.layout.Layout as declared;
 ghost use Rattle.message_cells.specs.Message.{written_id};
 ghost use Rattle.capl_meaning.specs.Initial.{with_bytes_at, with_member};
+ghost use Rattle.capl_meaning.specs.Message.{IsSignal};
 ghost use Rattle.capl_meaning.specs.Store.{MessageRecord, with_field, with_signal};
 ghost use Rattle.check_sorts.specs.Message.{member_in};
 ghost use Rattle.type_starts.specs.Message.{IsMessage};
@@ -10,9 +14,8 @@ ghost use Rattle.type_starts.specs.Message.{IsMessage};
 use crate::payload::{are_bytes, has_eight_bytes, put_bytes, size};
 use capl_meaning::MessageField;
 use check_sorts::Member;
-use int_kinds::{Kind, is_number, residue};
-use signal_codec::{Layout, put, usable};
-use texts::NoMemory;
+use int_kinds::{Kind, residue};
+use signal_codec::{Layout, put};
 
 /// A message whose direction and time are 0.
 #[derive(Clone, Copy, Debug)]
@@ -75,30 +78,29 @@ pub(crate) fn with_bytes(kind: Kind, from: i128, n: i128, message: Message) -> M
     message
 }
 
-/// A message once a number is stored in a signal: its low bits. A signal that cannot be used, and a
-/// number that no variable can have, are refused as if there were no memory for them: no source has them.
-pub(crate) fn with_signal(layout: &Layout, n: i128, message: Message) -> Result<Message, NoMemory>
-    ensures { (m : MessageRecord) → IsMessage message m →
-        IfOk result (λ written. IsMessage written (with_signal layout.now n m)) }
+/// A message once a number is stored in a signal: its low bits.
+pub(crate) fn with_signal(layout: &Layout, n: i128, message: Message) -> Message
+    requires usable { IsUsable layout.now }
+    requires number { IsNumber n }
+    ensures { (m : MessageRecord) → IsMessage message m → IsMessage result (with_signal layout.now n m) }
 {
-    if !usable(layout) || !is_number(n) {
-        return Err(NoMemory);
-    }
     are_bytes(message.payload.as_slice());
     let mut message = message;
     put(layout, &mut message.payload, n);
     has_eight_bytes(&message.payload);
-    Ok(message)
+    message
 }
 
 /// A message once a number is stored in a member.
-pub(crate) fn with_member(member: Member, n: i128, message: Message) -> Result<Message, NoMemory>
+pub(crate) fn with_member(member: Member, n: i128, message: Message) -> Message
+    requires usable { (layout : declared.Layout) → member_in member ≡ IsSignal layout → IsUsable layout }
+    requires number { IsNumber n }
     ensures { (m : MessageRecord) → IsMessage message m →
-        IfOk result (λ written. IsMessage written (with_member (member_in member) n m)) }
+        IsMessage result (with_member (member_in member) n m) }
 {
     match member {
-        Member::Field(field) => Ok(with_field(field, n, message)),
+        Member::Field(field) => with_field(field, n, message),
         Member::Signal(layout) => with_signal(&layout, n, message),
-        Member::Unusable | Member::Unknown { .. } => Ok(message),
+        Member::Unusable | Member::Unknown { .. } => message,
     }
 }

@@ -139,32 +139,28 @@ fn with_field_item(
     field: &Field,
     n: i128,
     message: Message,
-) -> Result<Message, NoMemory>
-    requires { AreConstantsOf spot.now.scope.names.now spot.now.constants.now }
-    ensures { (m : MessageRecord) → IsMessage message m → IfOk result (λ written. IsMessage written
-        (with_field_item (scope_in spot.now.scope) spot.now.token (signals_in signals.entry) field.now n m)) }
+) -> Message
+    requires constants { AreConstantsOf spot.now.scope.names.now spot.now.constants.now }
+    requires number { IsNumber n }
+    ensures { (m : MessageRecord) → IsMessage message m → IsMessage result
+        (with_field_item (scope_in spot.now.scope) spot.now.token (signals_in signals.entry) field.now n m) }
 {
     match field {
         Field::Named { name, .. } => with_member(member_named(signals, name.bytes()), n, message),
         Field::Bytes { kind, index, .. } => {
-            Ok(with_bytes(*kind, number_at(spot, index.get()), n, message))
+            with_bytes(*kind, number_at(spot, index.get()), n, message)
         }
     }
 }
 
 /// A message once an item is written.
-fn with_item(
-    spot: &Spot,
-    signals: DeclaredSignals,
-    item: &Item,
-    message: Message,
-) -> Result<Message, NoMemory>
+fn with_item(spot: &Spot, signals: DeclaredSignals, item: &Item, message: Message) -> Message
     requires { AreConstantsOf spot.now.scope.names.now spot.now.constants.now }
-    ensures { (m : MessageRecord) → IsMessage message m → IfOk result (λ written. IsMessage written
-        (with_item (scope_in spot.now.scope) spot.now.token (signals_in signals.entry) m item.now)) }
+    ensures { (m : MessageRecord) → IsMessage message m → IsMessage result
+        (with_item (scope_in spot.now.scope) spot.now.token (signals_in signals.entry) m item.now) }
 {
     match item {
-        Item::Plain(_) => Ok(message),
+        Item::Plain(_) => message,
         Item::Set { field, value } => {
             with_field_item(spot, signals, field, number_at(spot, value), message)
         }
@@ -172,21 +168,16 @@ fn with_item(
 }
 
 /// A message once items are written, one after another.
-fn with_items(
-    spot: &Spot,
-    signals: DeclaredSignals,
-    items: &[Item],
-    message: Message,
-) -> Result<Message, NoMemory>
+fn with_items(spot: &Spot, signals: DeclaredSignals, items: &[Item], message: Message) -> Message
     requires { AreConstantsOf spot.now.scope.names.now spot.now.constants.now }
-    ensures { (m : MessageRecord) → IsMessage message m → IfOk result (λ written. IsMessage written
-        (fold (with_item (scope_in spot.now.scope) spot.now.token (signals_in signals.entry)) m items.now)) }
+    ensures { (m : MessageRecord) → IsMessage message m → IsMessage result
+        (fold (with_item (scope_in spot.now.scope) spot.now.token (signals_in signals.entry)) m items.now) }
 {
     let mut written = message;
     for item in items {
-        written = with_item(spot, signals, item, written)?;
+        written = with_item(spot, signals, item, written);
     }
-    Ok(written)
+    written
 }
 
 /// The items of an initialiser.
@@ -210,6 +201,5 @@ pub(crate) fn first_message(
         spot.now.token (type_in what.entry) (option_copied init.entry))) }
 {
     let declared = declared_message(what)?;
-    let message = with_items(spot, signals_of_type(what), items_of(init), declared)?;
-    Ok(message)
+    Ok(with_items(spot, signals_of_type(what), items_of(init), declared))
 }

@@ -1,13 +1,14 @@
 // The first cells of variables.
 
-ghost use Rattle.std.specs.Prelude.{◌≡◌, IfOk, List, OnOk, Some, length, slice_get};
+ghost use Rattle.std.specs.Prelude.{◌≡◌, ◌+◌, ◌<◌, ◌≤◌, ◌^◌, IfOk, List, OnOk, Some, slice_get, sum_by};
 ghost use Rattle.std.specs.Option.{option_copied, option_map};
 ghost use Rattle.dbc_reader.specs.declared.message.DbcMessage.{DbcMessage};
-ghost use Rattle.capl_meaning.specs.Constant.{scope_of};
+ghost use Rattle.capl_meaning.specs.Constant.{elements_of, scope_of};
 ghost use Rattle.capl_meaning.specs.Initial.{first_element, first_store};
+ghost use Rattle.capl_meaning.specs.Size.{size_of_form};
 ghost use Rattle.capl_meaning.specs.Store.{MessageRecord, lay, message_cells, row};
 ghost use Rattle.capl_meaning.specs.Variable.{Variable};
-ghost use Rattle.typed_laws.specs.Laid.{AreDistinct};
+ghost use Rattle.typed_laws.specs.Laid.{AreDistinct, cell_count};
 ghost use Rattle.typed_laws.specs.Starts.{first_cells_of};
 ghost use Rattle.typed_source.specs.Program.{starts_from};
 ghost use Rattle.check_names.specs.Variable.{variable_in};
@@ -17,6 +18,7 @@ ghost use Rattle.type_starts.specs.Message.{IsMessage};
 ghost use Rattle.type_starts.specs.Starts.{Goes};
 
 use crate::message::Message;
+use crate::payload::has_eight_bytes;
 use crate::starts::{Starts, push, push_bytes, push_naturals};
 use crate::value::{Spot, first_element, first_message, first_number};
 use capl_tree::Init;
@@ -37,7 +39,8 @@ fn push_elements(
     init: Option<&Init>,
     count: u32,
 ) -> Result<(), NoMemory>
-    requires { AreConstantsOf spot.now.scope.names.now spot.now.constants.now }
+    requires constants { AreConstantsOf spot.now.scope.names.now spot.now.constants.now }
+    requires room { starts.old.cell + count < 2 ^ 32 }
     ensures { OnOk result (Goes starts.old starts.new (row
         (first_element (scope_in spot.now.scope) spot.now.token kind (option_copied init.entry)) 0 count)) }
 {
@@ -49,9 +52,11 @@ fn push_elements(
 
 /// Puts a message in the next cells.
 fn push_message(starts: &mut Starts, message: &Message) -> Result<(), NoMemory>
+    requires { starts.old.cell + 14 < 2 ^ 32 }
     ensures { (m : MessageRecord) → IsMessage message.now m →
         OnOk result (Goes starts.old starts.new (message_cells m)) }
 {
+    has_eight_bytes(&message.payload);
     let fields = [message.id, message.dlc, message.rtr, message.can, 0, 0];
     push_naturals(starts, fields.as_slice())?;
     push_bytes(starts, message.payload.as_slice())?;
@@ -90,16 +95,6 @@ fn declared_at<'a, 'p>(names: &'a Names<'p>, number: u32) -> Option<&'a Declared
     names.variables().get(number as usize)
 }
 
-/// How many variables a program has, if they are numbered by 32 bits.
-fn variable_count(names: &Names) -> Result<u32, NoMemory>
-    ensures { IfOk result (λ count. count ≡ length names.now.variables) }
-{
-    match u32::try_from(names.variables().len()) {
-        Ok(count) => Ok(count),
-        Err(_) => Err(NoMemory),
-    }
-}
-
 /// Puts the first cells of the variable of a number in the next cells.
 pub(crate) fn push_variable(
     starts: &mut Starts,
@@ -107,7 +102,9 @@ pub(crate) fn push_variable(
     constants: &Constants,
     number: u32,
 ) -> Result<(), NoMemory>
-    requires { AreConstantsOf names.now constants.now }
+    requires constants { AreConstantsOf names.now constants.now }
+    requires room { (v : Variable) → slice_get names.now.variables number ≡ Some v →
+        starts.old.cell + cell_count names.now v < 2 ^ 32 }
     ensures { (v : Variable) → slice_get names.now.variables number ≡ Some v →
         OnOk result (Goes starts.old starts.new (first_cells_of names.now v)) }
 {
@@ -142,9 +139,10 @@ pub fn first_values(
 ) -> Result<Vec<(u32, i128)>, NoMemory>
     requires constants { AreConstantsOf names.now constants.now }
     requires distinct { AreDistinct names.now.variables }
+    requires few { sum_by (λ v. size_of_form (elements_of names.now v) v.form) names.now.variables ≤ 1000000 }
     ensures { IfOk result (λ starts. starts.items ≡ starts_from 15 (lay names.now (first_store names.now))) }
 {
-    let count = variable_count(names)?;
+    let count = names.variable_count();
     let mut starts = Starts {
         cell: EVENT_CELLS,
         all: Vec::new(alloc),

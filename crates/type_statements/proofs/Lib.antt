@@ -1,6 +1,7 @@
 -- The lemmas of this crate.
 pub mod AloneLemmas
 pub mod By
+pub mod FormatLemmas
 pub mod MadeLemmas
 pub mod RowLemmas
 pub mod WriteLemmas

@@ -7,7 +7,7 @@ ghost use Rattle.capl_meaning.specs.Sort.{sort_of};
 ghost use Rattle.typed_source.specs.Statement.{argument_by, argument_of, formats_written, numbers_of, pieces_written, text_argument, text_written, writing};
 ghost use Rattle.check_sorts.specs.Scope.{scope_in};
 ghost use Rattle.type_statements.specs.Tables.{AreTables, order_of};
-ghost use Rattle.type_statements.specs.Write.{IsRead};
+ghost use Rattle.type_statements.specs.Write.{FitFor, IsRead};
 
 use crate::tables::StatementTables;
 use capl_meaning::Sort;
@@ -19,7 +19,7 @@ use texts::{NoMemory, Text};
 use type_expressions::make_expression;
 use typed_tree::{TExpr, TStmt};
 use write_format::laws::pieces_are_found;
-use write_format::{ArgKind, Format};
+use write_format::{ArgKind, Format, FormatRefusal};
 
 /// What is made of the arguments of a `write`.
 #[derive(Drop)]
@@ -128,14 +128,17 @@ fn make_arguments(
     Ok(made)
 }
 
-/// The format of a text and arguments.
+/// The format of a text that fits these arguments.
 fn read_format(alloc: Global, text: &[u8], kinds: &[ArgKind]) -> Result<Format, NoMemory>
+    requires { FitFor text.now kinds.now }
     ensures { IfOk result (IsRead text.now kinds.now) }
 {
     pieces_are_found();
     match Format::read(alloc, text, kinds) {
         Ok(format) => Ok(format),
-        Err(_) => Err(NoMemory),
+        // Each argument has its code, which shows it.
+        Err(FormatRefusal::Wrong { .. }) => unreachable!(),
+        Err(FormatRefusal::NoMemory) => Err(NoMemory),
     }
 }
 

@@ -3,7 +3,7 @@ use Rattle.std.proofs.Common.{◌∙◌, sym}
 use Rattle.check_sorts.specs.Scope.{scope_in}
 use Rattle.type_expressions.specs.Made.{order_in}
 use Rattle.type_expressions.proofs.CallLemmas.{call_place}
-use Rattle.type_expressions.proofs.WalkLemmas.{assignment_made, bytes_made, call_sort_made, call_tree_made, choice_made, named_made, part_of, prefix_made}
+use Rattle.type_expressions.proofs.WalkLemmas.{assignment_made, bytes_made, call_sort_made, call_tree_made, choice_made, named_made, part_of, prefix_made, there}
 use Rattle.type_expressions.proofs.walk.+walk.Goals as goal
 
 pub walk-returns-in_ok-call-in-Call-clause-value :
@@ -25,26 +25,28 @@ walk-returns-in_ok-call-in-Call-clause-sort t c =
     c.in-Call.is c.bytes-in-Call.ensures c.as_slice.ensures c.as_slice-in-Call.ensures c.in_ok-row-in-Call.ensures.sorts
     c.in_ok-call-in-Call.ensures.sort
 
-pub walk-returns-in_ok-found-in-Named-clause-value :
-    goal.walk-returns-in_ok-found-in-Named-clause-value
-walk-returns-in_ok-found-in-Named-clause-value t c =
-    (named_made (scope_in c.args.scope) (order_in c.args.tables.now) c.args.e.now _ _ _ _ _ _ _ _ c.in_ok-found-in-Named.found
-    c.in-Member.is c.in-Named.is c.get-in-Member.ensures c.bytes-in-Named.ensures c.in-Some.ensures
-    (λ message held_is. c.in_ok-found-in-Named.ensures c.args.scope.names.now message c.requires held_is)).value
+pub walk-member-requires : goal.walk-member-requires
+walk-member-requires t c =
+    let message = there (scope_in c.args.scope) c.in-Some.held c.get-in-Member.result.now c.in-Some.ensures in
+    (c.args.scope.names.now, message.message, c.requires, message.held_is)
 
-pub walk-returns-in_ok-found-in-Named-clause-place :
-    goal.walk-returns-in_ok-found-in-Named-clause-place
-walk-returns-in_ok-found-in-Named-clause-place t c =
-    (named_made (scope_in c.args.scope) (order_in c.args.tables.now) c.args.e.now _ _ _ _ _ _ _ _ c.in_ok-found-in-Named.found
+pub walk-returns-in-Named-clause-value : goal.walk-returns-in-Named-clause-value
+walk-returns-in-Named-clause-value t c =
+    (named_made (scope_in c.args.scope) (order_in c.args.tables.now) c.args.e.now _ _ _ _ _ _ _ _ c.member.result
     c.in-Member.is c.in-Named.is c.get-in-Member.ensures c.bytes-in-Named.ensures c.in-Some.ensures
-    (λ message held_is. c.in_ok-found-in-Named.ensures c.args.scope.names.now message c.requires held_is)).place
+    (λ message held_is. c.member.ensures c.args.scope.names.now message c.requires held_is)).value
 
-pub walk-returns-in_ok-found-in-Named-clause-sort :
-    goal.walk-returns-in_ok-found-in-Named-clause-sort
-walk-returns-in_ok-found-in-Named-clause-sort t c =
-    (named_made (scope_in c.args.scope) (order_in c.args.tables.now) c.args.e.now _ _ _ _ _ _ _ _ c.in_ok-found-in-Named.found
+pub walk-returns-in-Named-clause-place : goal.walk-returns-in-Named-clause-place
+walk-returns-in-Named-clause-place t c =
+    (named_made (scope_in c.args.scope) (order_in c.args.tables.now) c.args.e.now _ _ _ _ _ _ _ _ c.member.result
     c.in-Member.is c.in-Named.is c.get-in-Member.ensures c.bytes-in-Named.ensures c.in-Some.ensures
-    (λ message held_is. c.in_ok-found-in-Named.ensures c.args.scope.names.now message c.requires held_is)).sort
+    (λ message held_is. c.member.ensures c.args.scope.names.now message c.requires held_is)).place
+
+pub walk-returns-in-Named-clause-sort : goal.walk-returns-in-Named-clause-sort
+walk-returns-in-Named-clause-sort t c =
+    (named_made (scope_in c.args.scope) (order_in c.args.tables.now) c.args.e.now _ _ _ _ _ _ _ _ c.member.result
+    c.in-Member.is c.in-Named.is c.get-in-Member.ensures c.bytes-in-Named.ensures c.in-Some.ensures
+    (λ message held_is. c.member.ensures c.args.scope.names.now message c.requires held_is)).sort
 
 pub walk-returns-in_ok-index-in-Bytes-2-clause-value :
     goal.walk-returns-in_ok-index-in-Bytes-2-clause-value

@@ -12,6 +12,8 @@ use Rattle.capl_meaning.specs.Names.{Scope}
 use Rattle.capl_meaning.specs.Store.{MessageRecord}
 use Rattle.check_sorts.specs.Scope.{scope_in}
 use Rattle.type_starts.specs.Message.{IsMessage}
+use Rattle.check_sorts.specs.Form.{signals_in}
+use Rattle.type_starts.proofs.MessageLemmas.{usable_member}
 use Rattle.type_starts.proofs.StartLemmas.{passed}
 use Rattle.type_starts.proofs.value.with_field_item.Goals as goal
 
@@ -29,3 +31,7 @@ returns-in-Bytes c = λ m held.
     (bytes_item (scope_in c.args.spot.now.scope) c.args.spot.now.token _ c.args.field.now c.in-Bytes.kind c.in-Bytes.index _ _ _ c.args.n _ _ m
     c.in-Bytes.is c.get.ensures (passed c.number_at.result (record { sfits = c.number_at.type_inv })) (passed c.args.n c.ranges.n) c.number_at.ensures.same)
     (c.with_bytes.ensures m held)
+
+pub with_member-requires-clause-usable : goal.with_member-requires-clause-usable
+with_member-requires-clause-usable c = λ layout is.
+    usable_member (signals_in c.args.signals) c.bytes.result.now layout (sym c.member_named.ensures ∙ is)

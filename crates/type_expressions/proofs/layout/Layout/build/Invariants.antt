@@ -8,5 +8,6 @@ invariant-loop-number l = record {
   laid : l.all.items ++ laid_from l.names l.next.cell l.next.timers (drop l.number l.names.variables)
       ≡ laid_from l.names 15 0 l.names.variables;
   size : l.size + size_in l.names (drop l.number l.names.variables) ≡ size_in l.names l.names.variables;
+  room : l.next.cell + l.next.timers ≡ 15 + l.size;
   most : l.size ≤ 1000000;
 }
