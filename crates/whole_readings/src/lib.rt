@@ -1,0 +1,4 @@
+//! Each text has a reading or a refusal: laws that stand over the definitions of the readers alone.
+#![tactic(auto)]
+
+pub mod laws;
