@@ -11,7 +11,7 @@ use sim_play::Show;
 
 /// What is done with the inputs of a scenario.
 #[derive(Clone, Copy, Debug, PartialEq, Eq)]
-pub(crate) enum Command {
+pub enum Command {
     /// Whether the inputs are accepted.
     Check,
     /// The texts that the nodes write.

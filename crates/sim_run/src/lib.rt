@@ -10,6 +10,7 @@
 #![tactic(auto)]
 
 pub use answer::simulate;
+pub use command::Command;
 pub use status::Status;
 
 mod answer;
