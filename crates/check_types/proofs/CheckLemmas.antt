@@ -17,7 +17,7 @@ use Rattle.check_calls.specs.declared.calls.Calls.{Calls}
 use Rattle.check_calls.specs.Calls.{AreCallsOf, GoForward, order_of}
 use Rattle.type_expressions.specs.declared.layout.Layout.{Layout}
 use Rattle.type_expressions.specs.Layout.{IsLaidOut, IsLayoutOf, size_in}
-use Rattle.check_types.specs.Accepted.{IsAccepted, IsTooLarge}
+use Rattle.check_types.specs.Accepted.{IsTooLarge, IsTypedOf}
 use Rattle.check_types.specs.Lines.{line_in}
 
 -- names are those of their own database
@@ -81,22 +81,27 @@ good_calls base program names calls built none are readable orders forward =
     (orders names calls are
     (subst GoForward (sym built) (forward base program readable (none_refused base program names built none))))
 
--- an accepted program, where it is sound if its order is good
-pub accepted : (base : List DbcMessage) (program : Program) (names : Names) (calls : Calls) (lines : List (List ℕ)) (typed : Typed) →
+-- the typed program of a program without offences
+pub typed_of : (base : List DbcMessage) (program : Program) (names : Names) (calls : Calls) (lines : List (List ℕ)) (typed : Typed) →
     names ≡ names_of base program → offences_of names.base program ≡ [] → size_in names names.variables ≤ 1000000 →
     AreCallsOf names calls → typed ≡ typed_program names.base program (order_of calls) (line_in lines) →
+    IsTypedOf base program lines typed
+typed_of base program names calls lines typed built none few are made = record {
+  no_offence = none_refused base program names built none;
+  few_cells = cells_few base program names built few;
+  order = order_of calls;
+  has_each = subst (λ (n : Names). HasEach n (order_of calls)) built are.has_each;
+  has_no_other = subst (λ (n : Names). HasNoOther n (order_of calls)) built are.has_no_other;
+  once = are.once;
+  typed_is = made ∙ ap (λ (b : List DbcMessage). typed_program b program (order_of calls) (line_in lines)) (same_base base program names built);
+}
+
+-- it is sound where its order is good
+pub typed_sound : (base : List DbcMessage) (program : Program) (names : Names) (calls : Calls) (lines : List (List ℕ)) (typed : Typed) →
+    names ≡ names_of base program → typed ≡ typed_program names.base program (order_of calls) (line_in lines) →
     IsGoodOrder (names_of base program) (order_of calls) →
     ((line : ℕ → ℕ → ℕ) → IsGoodOrder (names_of base program) (order_of calls) → IsSound (typed_program base program (order_of calls) line)) →
-    IsAccepted base program lines typed
-accepted base program names calls lines typed built none few are made good sound =
+    IsSound typed
+typed_sound base program names calls lines typed built made good sound =
     let typed_is = made ∙ ap (λ (b : List DbcMessage). typed_program b program (order_of calls) (line_in lines)) (same_base base program names built) in
-    record {
-      no_offence = none_refused base program names built none;
-      few_cells = cells_few base program names built few;
-      order = order_of calls;
-      has_each = subst (λ (n : Names). HasEach n (order_of calls)) built are.has_each;
-      has_no_other = subst (λ (n : Names). HasNoOther n (order_of calls)) built are.has_no_other;
-      once = are.once;
-      typed_is = typed_is;
-      sound = subst IsSound (sym typed_is) (sound (line_in lines) good);
-    }
+    subst IsSound (sym typed_is) (sound (line_in lines) good)

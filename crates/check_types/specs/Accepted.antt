@@ -14,10 +14,9 @@ use Rattle.check_types.specs.Lines.{line_in}
 abbrev pub most_cells : ℕ
 most_cells = 1000000
 
--- A program with a database is accepted, and this is its typed program: it breaks no rule and has few enough
--- cells; its functions stand in some order, each once; the lines of its event procedures are those of these
--- tokens; and the typed program is sound.
-pub record IsAccepted (base : List DbcMessage) (program : Program) (lines : List (List ℕ)) (typed : Typed) :
+-- A program with a database breaks no rule and has few enough cells, and this is its typed program: its
+-- functions stand in some order, each once, and the lines of its event procedures are those of these tokens.
+pub record IsTypedOf (base : List DbcMessage) (program : Program) (lines : List (List ℕ)) (typed : Typed) :
     Type 0 where
   pub no_offence : offences_of base program ≡ []
   pub few_cells : cells_of_program base program ≤ most_cells
@@ -26,6 +25,11 @@ pub record IsAccepted (base : List DbcMessage) (program : Program) (lines : List
   pub has_no_other : HasNoOther (names_of base program) order
   pub once : AllPairs (λ one other. one ≢ other) order
   pub typed_is : typed ≡ typed_program base program order (line_in lines)
+
+-- a program with a database is accepted: this is its typed program, and it is sound
+pub record IsAccepted (base : List DbcMessage) (program : Program) (lines : List (List ℕ)) (typed : Typed) :
+    Type 0 where
+  pub made : IsTypedOf base program lines typed
   pub sound : IsSound typed
 
 -- a program breaks no rule, but has too many cells

@@ -4,7 +4,8 @@ ghost use Rattle.std.specs.Prelude.{◌≡◌, ◌<◌, ◌^◌, IfErr, IfOk, ma
 ghost use Rattle.capl_tree.specs.Weight.{weight};
 ghost use Rattle.check_names.specs.Names.{messages_of};
 ghost use Rattle.sound_programs.specs.Given.{IsReadable};
-ghost use Rattle.check_types.specs.Accepted.{IsAccepted};
+ghost use Rattle.typed_tree.specs.Sound.{IsSound};
+ghost use Rattle.check_types.specs.Accepted.{IsTypedOf};
 ghost use Rattle.check_types.specs.Refusal.{IsRefusalOf};
 
 use crate::handlers::Source;
@@ -49,8 +50,8 @@ impl From<NoMemory> for CheckRefusal {
 }
 
 /// The typed program of a program with a database, if it has one, where these are the lines of the tokens of
-/// its files, in program order. It is sound, and the one of the source, where the program is readable and
-/// weighs less than 2^35, as each program of parsed files does.
+/// its files, in program order. It is sound where the program is readable and weighs less than 2^35, as each
+/// program of parsed files does.
 ///
 /// # Errors
 ///
@@ -62,9 +63,10 @@ pub fn check(
     lines: &[Vec<u32>],
     base: Option<&Database>,
 ) -> Result<Typed, CheckRefusal>
+    ensures typed { let rows = map (λ row. row.items) lines.now in
+        IfOk result (IsTypedOf (messages_of base.entry) program.now rows) }
     // A program of parsed files is readable and as light as that.
-    ensures accepted { IsReadable program.now → weight program.now < 2 ^ 35 →
-        IfOk result (IsAccepted (messages_of base.entry) program.now (map (λ row. row.items) lines.now)) }
+    ensures sound { IsReadable program.now → weight program.now < 2 ^ 35 → IfOk result IsSound }
     ensures refused { IfErr result (IsRefusalOf (messages_of base.entry) program.now) }
 {
     let names = Names::build(alloc, program, base)?;

@@ -61,9 +61,9 @@ cells_counted base program order line =
 pub few_cells : (base : List DbcMessage) (program : Program) (lines : List (List ℕ)) (typed : Typed) →
     IsAccepted base program lines typed → cell_count typed ≤ most
 few_cells base program lines typed is =
-    subst (λ (t : Typed). cell_count t ≤ most) (sym is.typed_is)
-    (let counted = cells_counted base program is.order (line_in lines) in
-    let few = is.few_cells in
+    subst (λ (t : Typed). cell_count t ≤ most) (sym is.made.typed_is)
+    (let counted = cells_counted base program is.made.order (line_in lines) in
+    let few = is.made.few_cells in
     omega arith)
 
 small_told : (told number : ℕ) → told ≡ saturated number → number ≤ most → told ≡ number
@@ -74,8 +74,8 @@ pub cells_told : (base : List DbcMessage) (program : Program) (lines : List (Lis
     IsAccepted base program lines typed → told ≡ saturated (cell_count typed) → told ≡ cells_of_program base program
 cells_told base program lines typed told is said =
     let counted : cell_count typed ≡ cells_of_program base program =
-    ap (λ (t : Typed). cell_count t) is.typed_is ∙ cells_counted base program is.order (line_in lines) in
-    small_told told (cells_of_program base program) (said ∙ ap saturated counted) is.few_cells
+    ap (λ (t : Typed). cell_count t) is.made.typed_is ∙ cells_counted base program is.made.order (line_in lines) in
+    small_told told (cells_of_program base program) (said ∙ ap saturated counted) is.made.few_cells
 
 -- the weight that is told of a program that is not too heavy is the program's
 pub weight_told : (program : Program) (told : ℕ) → weight program ≤ most → told ≡ saturated (weight program) → told ≡ weight program
@@ -86,5 +86,5 @@ pub within_weight : (base : List DbcMessage) (program : Program) (lines : List (
     ((order : List ℕ) (line : ℕ → ℕ → ℕ) → HasNoOther (names_of base program) order → AllPairs (λ one other. one ≢ other) order →
     IsSound (typed_program base program order line) → size (typed_program base program order line) ≤ weight program) → size typed ≤ weight program
 within_weight base program lines typed is within =
-    subst (λ (t : Typed). size t ≤ weight program) (sym is.typed_is)
-    (within is.order (line_in lines) is.has_no_other is.once (subst IsSound is.typed_is is.sound))
+    subst (λ (t : Typed). size t ≤ weight program) (sym is.made.typed_is)
+    (within is.made.order (line_in lines) is.made.has_no_other is.made.once (subst IsSound is.made.typed_is is.sound))

@@ -34,16 +34,16 @@ use Rattle.source_laws.specs.Code.{HasSourceTables, IsEntryOf, IsSourceCode}
 module _ (base : List DbcMessage) (program : Program) (lines : List (List ℕ)) (typed : Typed) (is : IsAccepted base program lines typed) where
   -- no name is declared twice
   pub distinct_names : AreDistinct (variables_of base program)
-  distinct_names = distinct_without_offences base program is.no_offence
+  distinct_names = distinct_without_offences base program is.made.no_offence
 
   -- it does what the source does
   pub typed_does : ProgramDoesAs base program typed
-  typed_does = subst (λ (t : Typed). ProgramDoesAs base program t) (sym is.typed_is) (program_does base program is.order (line_in lines) is.has_each is.has_no_other)
+  typed_does = subst (λ (t : Typed). ProgramDoesAs base program t) (sym is.made.typed_is) (program_does base program is.made.order (line_in lines) is.made.has_each is.made.has_no_other)
 
   -- its code is within the source's weight
   pub typed_small : size typed ≤ weight program
-  typed_small = subst (λ (t : Typed). size t ≤ weight program) (sym is.typed_is)
-      (program_small base program is.order (line_in lines) is.has_no_other is.once (subst IsSound is.typed_is is.sound))
+  typed_small = subst (λ (t : Typed). size t ≤ weight program) (sym is.made.typed_is)
+      (program_small base program is.made.order (line_in lines) is.made.has_no_other is.made.once (subst IsSound is.made.typed_is is.sound))
 
 -- ---- the tables
 
@@ -67,9 +67,9 @@ source_tables base program lines code is =
     let functions : ℕ = length typed.functions in
     record {
       handlers =
-          let listed : code.handlers ≡ handler_table (typed_handlers accepted.order (line_in lines) (length (formats_of_functions (names_of base program) accepted.order)) (handlers_in base program)) functions =
-          is.code_is.handlers ∙ ap (λ (t : Typed). handler_table t.handlers functions) accepted.typed_is in
-          subst (AllZip (IsEntryOf lines) (handlers_in base program)) (sym listed) (entries_of lines accepted.order (handlers_in base program) _ functions);
+          let listed : code.handlers ≡ handler_table (typed_handlers accepted.made.order (line_in lines) (length (formats_of_functions (names_of base program) accepted.made.order)) (handlers_in base program)) functions =
+          is.code_is.handlers ∙ ap (λ (t : Typed). handler_table t.handlers functions) accepted.made.typed_is in
+          subst (AllZip (IsEntryOf lines) (handlers_in base program)) (sym listed) (entries_of lines accepted.made.order (handlers_in base program) _ functions);
       cells = is.code_is.cells ∙ does.fits.kinds;
       starts =
           ap (λ (n : ℕ). with_starts (replicate n (pos 0)) code.starts) (ap (λ (xs : List Kind). length xs) is.code_is.cells)

@@ -1,7 +1,7 @@
 -- What is built of the program tells why it is refused or accepted.
 use Rattle.check_names.specs.Names.{messages_of}
 use Rattle.check_calls.specs.Calls.{order_of}
-use Rattle.check_types.proofs.CheckLemmas.{accepted, cells_few, distinct_names, first_refused, good_calls, laid_out, none_refused, of_own_base, too_large}
+use Rattle.check_types.proofs.CheckLemmas.{cells_few, distinct_names, first_refused, good_calls, laid_out, none_refused, of_own_base, too_large, typed_of, typed_sound}
 use Rattle.check_types.proofs.checking.check.Goals as goal
 
 pub first_offence-requires-clause-names : goal.first_offence-requires-clause-names
@@ -32,19 +32,28 @@ make_program-requires-clause-tables c =
         distinct =
             distinct_names (messages_of c.args.base) c.args.program.now names c.in_ok-names.ensures
             (c.in_ok-offence.ensures.none c.in_default.is);
+        few = (laid_out names c.in_ok-layout.field-0 c.in-Some-2.layout c.in-Some-2.is c.in_ok-layout.ensures).0;
       };
       constants = c.in_ok-constants.ensures;
     }
 
-pub returns-clause-accepted : goal.returns-clause-accepted
-returns-clause-accepted c = λ readable light.
+pub returns-clause-typed : goal.returns-clause-typed
+returns-clause-typed c =
+    let names = c.in_ok-names.names in
+    let none = c.in_ok-offence.ensures.none c.in_default.is in
+    let few = (laid_out names c.in_ok-layout.field-0 c.in-Some-2.layout c.in-Some-2.is c.in_ok-layout.ensures).0 in
+    typed_of (messages_of c.args.base) c.args.program.now names c.in_ok-calls.calls _ c.in_ok-typed.typed c.in_ok-names.ensures none few
+    c.in_ok-calls.ensures c.in_ok-typed.ensures
+
+pub returns-clause-sound : goal.returns-clause-sound
+returns-clause-sound c = λ readable light.
     let base = messages_of c.args.base in
     let program = c.args.program.now in
     let names = c.in_ok-names.names in
     let calls = c.in_ok-calls.calls in
     let none = c.in_ok-offence.ensures.none c.in_default.is in
     let few = (laid_out names c.in_ok-layout.field-0 c.in-Some-2.layout c.in-Some-2.is c.in_ok-layout.ensures).0 in
-    accepted base program names calls _ c.in_ok-typed.typed c.in_ok-names.ensures none few c.in_ok-calls.ensures c.in_ok-typed.ensures
+    typed_sound base program names calls _ c.in_ok-typed.typed c.in_ok-names.ensures c.in_ok-typed.ensures
     (good_calls base program names calls c.in_ok-names.ensures none c.in_ok-calls.ensures readable c.orders_are_good.ensures
     c.functions_do_not_reach_their_callers.ensures)
     (λ line good. c.programs_without_offences_are_sound.ensures base program (order_of calls) line readable

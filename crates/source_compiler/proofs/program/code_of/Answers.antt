@@ -45,7 +45,7 @@ returns-in_err-code c =
     judged_on {A = Code} {B = Compiled} (λ code. IsCodeOf c.in_ok-typed.typed code × (weight program ≤ most))
     (λ blame. (most < weight program) × (blame ≡ file_blame name (source_rule 29))) (IsCompiled base files) (IsProgramBlame base name files)
     c.in_err-code.field-0.0 c.from_residual-in_err-code.result c.from_residual-in_err-code.ensures.1
-    (λ blame heavy. inr (inr (c.in_ok-screen_files.ensures, (program, c.in_ok-program.ensures, inr (c.in_ok-typed.ensures.no_offence, inr heavy.0, heavy.1)))))
+    (λ blame heavy. inr (inr (c.in_ok-screen_files.ensures, (program, c.in_ok-program.ensures, inr (c.in_ok-typed.ensures.made.no_offence, inr heavy.0, heavy.1)))))
     c.in_err-code.ensures
 
 -- a program that is compiled
