@@ -1,0 +1,19 @@
+// Calls of the laws of all inputs.
+
+#[test]
+fn each_text_has_a_reading_or_a_refusal() {
+    whole_readings::laws::each_text_has_tokens_or_a_bad_place();
+    whole_readings::laws::each_text_is_a_scenario_or_breaks_a_rule();
+    whole_readings::laws::each_text_is_a_database_or_has_a_wrong_statement();
+    whole_readings::laws::each_log_has_a_replay_or_a_bad_line();
+    whole_readings::laws::each_token_list_is_right_or_has_a_first_break();
+    whole_readings::laws::each_token_list_spells_a_tree_or_has_a_first_wrong();
+    whole_readings::laws::each_program_is_right_or_has_a_first_offence();
+    whole_readings::laws::each_expansion_has_an_outcome();
+}
+
+#[test]
+fn each_input_has_one_answer() {
+    sim_answers::laws::one_of_three_holds();
+    sim_answers::laws::each_input_has_one_answer();
+}

@@ -1,0 +1,7 @@
+//! Calls of the laws of whole_readings and sim_answers.
+//!
+//! They stand here, above those crates, so that each of those is proved without them.
+#![tactic(auto)]
+
+#[cfg(test)]
+mod laws;
