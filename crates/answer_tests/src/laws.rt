@@ -16,4 +16,5 @@ fn each_text_has_a_reading_or_a_refusal() {
 fn each_input_has_one_answer() {
     sim_answers::laws::one_of_three_holds();
     sim_answers::laws::each_input_has_one_answer();
+    sim_answers::laws::commands_without_a_blame_have_a_whole_answer();
 }

@@ -100,3 +100,13 @@ answer_by law contents words (inr (inr finds)) = (
 -- any words have an answer over any contents
 pub some_answer : AcceptedAnswers → (contents : Contents) (words : List (List ℕ)) → HasAnswer contents words
 some_answer law contents words = answer_by law contents words (one_of_three contents words)
+
+-- a command without a blame has one of status 0
+pub whole_answer : AcceptedAnswers → (contents : Contents) (words : List (List ℕ)) → (IsNoCommand words → ⊥) → (FindsBlame contents words → ⊥)
+    → (bytes : List ℕ) × (rows : List MeterRow) × IsAnswer contents words Done bytes rows
+whole_answer law contents words command blameless = elim (one_of_three contents words) [
+  | inl none ↦ absurd (command none)
+  | inr (inl finds) ↦
+      law contents finds.held words finds.what finds.name finds.scenario finds.base finds.sources finds.replay finds.asked finds.accepted
+  | inr (inr finds) ↦ absurd (blameless finds)
+]

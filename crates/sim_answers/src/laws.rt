@@ -38,3 +38,13 @@ pub fn each_input_has_one_answer()
     one_answer();
     accepted_inputs_have_an_answer();
 }
+
+/// A command whose inputs have no first blame has an answer of status 0, so `simulate` gives it where neither
+/// a read nor a write fails and there is memory.
+pub fn commands_without_a_blame_have_a_whole_answer()
+    ensures { (contents : Contents) (words : List (List ℕ)) →
+        (IsNoCommand words → ⊥) → (FindsBlame contents words → ⊥) →
+        (bytes : List ℕ) × (rows : List MeterRow) × IsAnswer contents words Status.Done bytes rows }
+{
+    accepted_inputs_have_an_answer();
+}
