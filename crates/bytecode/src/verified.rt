@@ -24,11 +24,11 @@ impl Model for Verified {
 
     ghost Value = { Code };
 
-    ghost use Rattle.bytecode.specs.Verified.{IsVerified};
+    ghost use Rattle.bytecode.specs.Verified.{IsShortCode, IsVerified};
 
     ghost view = { λ verified. verified.code };
 
-    ghost invariant = { λ verified. IsVerified verified.code };
+    ghost invariant = { λ verified. IsVerified verified.code × IsShortCode verified.code };
 }
 
 impl Verified {
@@ -36,6 +36,7 @@ impl Verified {
     pub fn code(&self) -> &Code
         ensures same { result.now ≡ self.now }
         ensures verified { IsVerified result.now }
+        ensures short { IsShortCode result.now }
     {
         &self.code
     }
@@ -50,6 +51,7 @@ pub fn verify(alloc: Global, code: Code) -> Result<Verified, VerifyRefusal>
     requires { IsShortCode code }
     ensures same { IfOk result (λ verified. verified ≡ code) }
     ensures verified { IfOk result IsVerified }
+    ensures short { IfOk result IsShortCode }
     ensures unverified { IfErr result (IsRefusalOf code) }
 {
     match first_failure(alloc, &code)? {

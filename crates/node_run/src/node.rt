@@ -107,10 +107,11 @@ impl Node {
         first_row: usize,
         turns: u64,
     ) -> Result<Node, NoMemory>
+        requires rows { first_row + length code.handlers < 2 ^ 64 }
         ensures loaded { IfOk result (λ node. node ≡ loaded code first_row turns) }
         ensures sound { IfOk result (λ node. IsSound node.doing.node) }
     {
-        let room = room_of(alloc, &code, first_row)?;
+        let room = room_of(alloc, &code)?;
         let procedures = Procedures::of_code(alloc, code)?;
         Ok(Node {
             alloc,
@@ -273,32 +274,17 @@ struct Room {
     timers: TimerQueue,
 }
 
-/// The room of this code, none of its timers being active. The rows of its handlers can stand from
-/// `first_row` on.
-fn room_of(alloc: Global, code: &Verified, first_row: usize) -> Result<Room, NoMemory>
+/// The room of this code, none of its timers being active.
+fn room_of(alloc: Global, code: &Verified) -> Result<Room, NoMemory>
     ensures cells { IfOk result (λ room.
         room.memory.cells ≡ with_starts (replicate (length code.now.cells) (pos 0)) code.now.starts) }
     ensures memory { IfOk result (λ room. IsMemoryOf code.now room.memory) }
     ensures timers { IfOk result (λ room. room.timers ≡ inactive (length code.now.timers)) }
-    ensures numbered { IsOk result → length code.now.handlers < 2 ^ 32 }
-    ensures rows { IsOk result → first_row + length code.now.handlers < 2 ^ 64 }
+    ensures numbered { length code.now.handlers < 2 ^ 32 }
 {
-    let timers = count(code.code().timers.len())?;
-    let handlers = code.code().handlers.len();
-    let _ = count(handlers)?;
-    if first_row.checked_add(handlers).is_none() {
-        return Err(NoMemory);
-    }
-    let timers = TimerQueue::make(alloc, timers)?;
+    let timers = TimerQueue::make(alloc, code.code().timers.len() as u32)?;
     let memory = Memory::make(alloc, code)?;
     Ok(Room { memory, timers })
-}
-
-/// A number of things that can be named by numbers of 32 bits.
-fn count(things: usize) -> Result<u32, NoMemory>
-    ensures { IfOk result (λ number. number ≡ things) }
-{
-    u32::try_from(things).map_err(|_| NoMemory)
 }
 
 /// Whether a timer is due at a moment.

@@ -44,7 +44,6 @@ impl Model for Procedures {
 impl Procedures {
     /// Tables of this code. Takes time and memory linear in the code, but for a sort of the selectors.
     pub(crate) fn of_code(alloc: Global, code: Verified) -> Result<Procedures, NoMemory>
-        requires { length code.handlers < 2 ^ 32 }
         ensures { IfOk result (λ procedures. procedures ≡ code) }
     {
         let handlers = code.code().handlers.as_slice();

@@ -46,9 +46,7 @@ fn load_node(alloc: Global, code: Verified, turns: u64, meter: &mut Meter) -> Re
     ensures sound { IfOk result (λ node. IsSound node.doing.node) }
     ensures rows { OnOk result (meter.new ≡ meter.old ++ replicate (rows_of_code code) no_run) }
 {
-    let Ok(handlers) = u32::try_from(code.code().handlers.len()) else {
-        return Err(NoMemory);
-    };
+    let handlers = code.code().handlers.len() as u32;
     let first_row = meter.open_rows(handlers)?;
     Node::load(alloc, code, first_row, turns)
 }

@@ -1,14 +1,14 @@
 -- The room that runs of verified code need.
 use Rattle.std.proofs.Common.{◌≡◌, ◌≤◌, ◌<◌, ◌+◌, ◌-◌, ℕ, zero, suc, List, [], ◌∷◌, length, drop, slice_get, get_or, Some, sym, ap, ◌∙◌, subst, arith, length-take}
 use Rattle.std.specs.List.{AllByRecursion, sum_by}
-use Rattle.std.proofs.lemmas.List.Sums.{sum_by-drop_more, sum_by-take-drop}
+use Rattle.std.proofs.lemmas.List.Sums.{sum_by-cons, sum_by-drop_more, sum_by-take-drop}
 use Rattle.std.proofs.lemmas.Option.{get_or_from_slice_get, slice_get_within}
 use Rattle.bytecode.specs.declared.code.Code.{Code}
 use Rattle.bytecode.specs.declared.code.Fun.{Fun}
 use Rattle.bytecode.specs.Machine.{Machine}
 use Rattle.bytecode.specs.Rule.{IsIn}
 use Rattle.bytecode.specs.Runs.{IsStartOf, Reaches}
-use Rattle.bytecode.specs.Verified.{IsVerified}
+use Rattle.bytecode.specs.Verified.{Cover, IsVerified}
 use Rattle.bytecode.proofs.ListItems.{drop-drop, item_below, slice_get-drop, slice_get-take}
 use Rattle.bytecode.proofs.MachineStates.{Below, IsAt, Stands}
 use Rattle.bytecode.proofs.PlaceRules.{lies_in_code}
@@ -67,6 +67,22 @@ sum_later : {A : Type 0} (f : A → ℕ) (xs : List A) (i j : ℕ) → i ≤ j �
 sum_later f xs i j h =
     let e : sum_by f (drop j xs) ≡ sum_by f (drop (j - i) (drop i xs)) = ap (sum_by f) (drop-drop i (j - i) j xs (omega arith)) in
     omega (arith, e, sum_by-take-drop f (drop i xs) (j - i))
+
+-- functions that cover places need no more room than these
+pub covered_room : (depths : List ℕ) (from : ℕ) (functions : List Fun) (end : ℕ) → Cover from functions end →
+    from + sum_by (room_of depths) functions ≤ end
+covered_room depths from [] end covers = omega (arith, covers)
+covered_room depths from (function ∷ functions) end covers =
+    let others = covered_room depths function.end functions end covers.2 in
+    omega (arith, sum_by-cons (room_of depths) function functions, covers.0, covers.1, others)
+
+-- and so do those before some, with the next of these
+pub room_so_far : (code : Code) → IsVerified code → (i : ℕ) (d : Fun) → i < length code.functions →
+    (so_far : ℕ) → so_far + sum_by (room_of code.depths) (drop i code.functions) ≡ numbers_room code →
+    so_far + room_of code.depths (get_or code.functions i d) ≤ length code.instrs
+room_so_far code verified i d within so_far is =
+    let all = covered_room code.depths 0 code.functions (length code.instrs) verified.laid_out.covered in
+    omega (arith, all, is, sum_by-drop_more (room_of code.depths) code.functions i d within)
 
 -- ---- what the callers of a function have on the stack
 

@@ -51,7 +51,7 @@ impl Memory {
         ensures calls { IfOk result (λ memory. memory.calls_room ≡ calls_room code.now) }
     {
         let code = code.code();
-        let numbers = numbers_room(code)?;
+        let numbers = numbers_room(code);
         let cells = code.cells.len();
         let functions = code.functions.len();
         let mut state = State::make(alloc, cells, numbers, functions)?;

@@ -1,6 +1,6 @@
 // What runs have taken.
 
-ghost use Rattle.std.specs.Prelude.{◌≡◌, ◌<◌, ◌++◌, [], length, replicate, slice_get, IfOk, OnErr, OnOk};
+ghost use Rattle.std.specs.Prelude.{◌≡◌, ◌<◌, ◌+◌, ◌^◌, ◌++◌, [], length, replicate, slice_get, IfOk, OnErr, OnOk};
 ghost use Rattle.stack_vm.specs.Meter.{AddsRun};
 
 use std::alloc::Global;
@@ -47,13 +47,12 @@ impl Meter {
     pub fn open_rows(&mut self, n: u32) -> Result<usize, NoMemory>
         ensures opened { OnOk result (self.new ≡ self.old ++ replicate n (record { runs = 0; turns = 0 })) }
         ensures first { IfOk result (λ first. first ≡ length self.old) }
+        ensures counted { IfOk result (λ first. first + n < 2 ^ 64) }
         ensures refused { OnErr result (self.new ≡ self.old) }
     {
         let first = self.rows.len();
-        let Some(rows) = first.checked_add(n as usize) else {
-            return Err(NoMemory);
-        };
-        self.rows.resize(rows, MeterRow { runs: 0, turns: 0 })?;
+        self.rows
+            .resize(first + n as usize, MeterRow { runs: 0, turns: 0 })?;
         Ok(first)
     }
 

@@ -1,24 +1,23 @@
 // How much room the runs of code need.
 
-ghost use Rattle.std.specs.Prelude.{◌≡◌, ◌≤◌, length, IfOk};
+ghost use Rattle.std.specs.Prelude.{◌≡◌, ◌≤◌, ◌<◌, ◌^◌, length};
 ghost use Rattle.bytecode.specs.Verified.{IsVerified};
 ghost use Rattle.stack_vm.specs.Room.{greatest, numbers_room, room_of};
 
 use bytecode::{Code, Fun};
-use texts::NoMemory;
 
-/// How many numbers the runs of this code may have on the stack. A number above what memory can
-/// hold is no memory. Takes time linear in the code.
-pub(crate) fn numbers_room(code: &Code) -> Result<usize, NoMemory>
-    requires { IsVerified code.now }
-    ensures { IfOk result (λ room. room ≡ numbers_room code.now) }
+/// How many numbers the runs of this code may have on the stack: at most as many as it has
+/// instructions. Takes time linear in the code.
+pub(crate) fn numbers_room(code: &Code) -> usize
+    requires verified { IsVerified code.now }
+    requires short { length code.now.instrs < 2 ^ 32 }
+    ensures { result ≡ numbers_room code.now }
 {
     let mut room = 0usize;
     for function in code.functions.as_slice() {
-        let more = room_of(code.depths.as_slice(), function) as usize;
-        room = room.checked_add(more).ok_or(NoMemory)?;
+        room += room_of(code.depths.as_slice(), function) as usize;
     }
-    Ok(room)
+    room
 }
 
 /// How many numbers a function may have: as many as its greatest depth, and no more than places.

@@ -1,5 +1,5 @@
 -- The tables are those of the code.
-use Rattle.std.proofs.Common.{arith, ◌∙◌, ap, sym, subst, inl, inr, List, None, length}
+use Rattle.std.proofs.Common.{◌<◌, ◌^◌, arith, ◌∙◌, ap, sym, subst, inl, inr, List, None, length}
 use Rattle.std.proofs.lemmas.Bool.{cases_lt}
 use Rattle.std.proofs.lemmas.List.{get_or_past}
 use Rattle.bytecode.specs.declared.code.Code.{Code}
@@ -25,7 +25,7 @@ invariant_of-result c =
     (subst (λ (hs : List Handler). IsTable Timers (events_of hs) c.len.result c.in_ok-timers.timers.items) same c.in_ok-timers.ensures) in
     record {
       verified = verified;
-      numbered = c.requires;
+      numbered = subst (λ (code : Code). length code.handlers < 2 ^ 32) c.code-2.ensures.same c.code-2.ensures.short.handlers;
       timers = λ timer. elim (cases_lt timer (length c.args.code.timers)) [
         | inl here ↦ timers.each timer here
         | inr behind ↦

@@ -14,13 +14,13 @@ use Rattle.stack_vm.proofs.memory.Memory.make.Goals as goal
 pub loop-start-init : goal.loop-start-init
 loop-start-init c =
     let code = c.args.code.now in
-    let made : c.in_ok-state.state ≡ record { place = 0; stack = []; calls = []; cells = replicate c.len-cells.result (pos 0); turns = 0; numbers_room = c.in_ok-numbers.numbers; calls_room = c.len-functions.result } = c.in_ok-state.ensures in
+    let made : c.in_ok-state.state ≡ record { place = 0; stack = []; calls = []; cells = replicate c.len-cells.result (pos 0); turns = 0; numbers_room = c.numbers_room-numbers.result; calls_room = c.len-functions.result } = c.in_ok-state.ensures in
     let len : length c.code-code.result.now.cells ≡ length code.cells = ap (λ (z : Code). length z.cells) c.code-code.ensures.same in
     let zeros : c.in_ok-state.state.cells ≡ replicate (length code.cells) (pos 0) = ap (λ (z : RunState). z.cells) made ∙ ap (λ (n : ℕ). replicate n (pos 0)) (c.len-cells.ensures ∙ len) in
     record {
       starts = ap (λ (cells : List ℤ). with_starts cells code.starts) zeros;
       held = subst (λ (cells : List ℤ). HoldKinds code.cells cells) (sym zeros) (HoldKinds-zeros code.cells);
-      numbers = ap (λ (z : RunState). z.numbers_room) made ∙ c.in_ok-numbers.ensures ∙ ap numbers_room c.code-code.ensures.same;
+      numbers = ap (λ (z : RunState). z.numbers_room) made ∙ c.numbers_room-numbers.ensures ∙ ap numbers_room c.code-code.ensures.same;
       calls = ap (λ (z : RunState). z.calls_room) made ∙ c.len-functions.ensures ∙ ap (λ (z : Code). length z.functions) c.code-code.ensures.same;
     }
 
