@@ -3,7 +3,7 @@
 ghost use Rattle.std.specs.Prelude.{◌≡◌, ◌+◌, ◌<◌, ◌≤◌, ◌^◌, false, All, IfOk, IfErr, OnOk, IfSome, IsErrOf, length};
 ghost use Rattle.capl_lexer.specs.Reading.{token_limit};
 ghost use Rattle.texts.specs.Fault.{HasRisen, raised, raised_by};
-ghost use Rattle.capl_include.specs.Expansion.{Went, has_met};
+ghost use Rattle.capl_include.specs.Expansion.{Went, file_limit, has_met};
 ghost use Rattle.capl_include.specs.Answer.{IsAnswer, IsOnly, HaveDifferentNames, token_count};
 ghost use Rattle.capl_include.specs.Text.{AreOfTexts, IsOfText};
 ghost use Rattle.capl_include.specs.Inside.Once.{GoesOnce, ReadsEach};
@@ -48,6 +48,7 @@ pub fn expand<F: Files>(
     ensures reads { IfOk result (λ expanded.
         F.reads files.new ≡ raised_by (length expanded.files) (F.reads files.old)) }
     ensures few { IfOk result (λ expanded. token_count expanded.files ≤ token_limit) }
+    ensures few_files { IfOk result (λ expanded. length expanded.files ≤ file_limit) }
     // The tokens of each file are those of some text, also where the contents are not told.
     ensures texts { IfOk result (λ expanded. AreOfTexts expanded.files) }
     ensures rose { IsErrOf result ExpandRefusal.Failed → HasRisen (F.faults files.old) (F.faults files.new) }
@@ -82,6 +83,10 @@ fn visit<F: Files>(
         ≡ token_count progress.old.files + progress.new.count) }
     ensures texts { OnOk result (AreOfTexts progress.old.files → AreOfTexts progress.new.files) }
     ensures grows { OnOk result (length progress.old.met < length progress.new.met) }
+    // As many files were appended as were met, which are no more than a program may have.
+    ensures appends { OnOk result (length progress.new.files + length progress.old.met
+        ≡ length progress.old.files + length progress.new.met) }
+    ensures few_files { OnOk result (length progress.new.met ≤ file_limit) }
     ensures rose { IsErrOf result ExpandRefusal.Failed → HasRisen (F.faults files.old) (F.faults files.new) }
     ensures faults_stay { F.faults files.old ≤ F.faults files.new }
     ensures contents_stay { F.held files.new ≡ F.held files.old }

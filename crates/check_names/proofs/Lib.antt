@@ -13,6 +13,7 @@ mod NameLemmas
 mod NamedFirst
 pub mod NamedLemmas
 mod NumberLemmas
+mod PartLemmas
 mod PositionLemmas
 mod PurposeLemmas
 mod RangeLemmas

@@ -1,4 +1,5 @@
 -- The definitions of this crate.
+pub mod Few
 pub mod First
 pub mod Function
 pub mod Inside

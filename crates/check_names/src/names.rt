@@ -6,6 +6,7 @@ ghost use Rattle.std.specs.List.Sorted.{IsStrictlyIncreasing};
 ghost use Rattle.std.specs.Str.{bytes_eq};
 ghost use Rattle.capl_meaning.specs.Names.{Scope, is_global, is_local, means, names_of};
 ghost use Rattle.capl_meaning.specs.Variable.{message_named};
+ghost use Rattle.check_names.specs.Few.{IsFew};
 ghost use Rattle.check_names.specs.First.{IsFirstOf};
 ghost use Rattle.check_names.specs.Function.{functions_in};
 ghost use Rattle.check_names.specs.Named.{named_offences};
@@ -80,6 +81,7 @@ impl<'p> Names<'p> {
         program: &'p Program,
         base: Option<&'p Database>,
     ) -> Result<Names<'p>, NoMemory>
+        requires { IsFew program.now }
         ensures { IfOk result (λ names. names ≡ names_of (messages_of base.entry) program.now) }
     {
         let parts = program_parts(alloc, program)?;
@@ -203,7 +205,8 @@ impl<'p> Names<'p> {
     /// procedures for the same, the heads of procedures, and the types of declarations. Takes time
     /// n log n in the program, but for names of one hash.
     pub fn first(&self, alloc: Global, program: &Program) -> Result<Option<Offence>, NoMemory>
-        requires { self.now ≡ names_of self.now.base program.now }
+        requires names { self.now ≡ names_of self.now.base program.now }
+        requires few { IsFew program.now }
         ensures { IfOk result (λ first. IsFirstOf first (named_offences self.now.base program.now)) }
     {
         let parts = program_parts(alloc, program)?;

@@ -1,8 +1,9 @@
 // The parts of a program.
 
-ghost use Rattle.std.specs.Prelude.{◌≡◌, IfOk, OnOk};
+ghost use Rattle.std.specs.Prelude.{◌≡◌, ◌≤◌, ◌<◌, ◌+◌, ◌^◌, ◌∷◌, [], IfOk, OnOk, length};
 ghost use Rattle.capl_meaning.specs.Variable.{parts_of};
-ghost use Rattle.check_names.specs.Part.{AreItemsListed, IsItemListed, parts_in};
+ghost use Rattle.check_names.specs.Few.{IsFew};
+ghost use Rattle.check_names.specs.Part.{AreItemsListed, IsItemListed, parts_in, parts_of_file};
 
 use capl_tree::{Decl, Proc, Program, TopItem};
 use std::alloc::Global;
@@ -33,11 +34,15 @@ pub enum ProgramPart<'p> {
 fn list_item<'p>(
     file: u32,
     item: &'p TopItem,
-    next: &mut u32,
+    procedures: &mut u32,
     into: &mut Vec<ProgramPart<'p>>,
 ) -> Result<(), NoMemory>
-    ensures { OnOk result (IsItemListed file item.now next.old (parts_in into.old.items)
-        next.new (parts_in into.new.items)) }
+    requires counted { procedures.old ≤ length into.old.items }
+    requires few { length into.old.items
+        + length (parts_of_file file (item.now ∷ []) procedures.old) < 2 ^ 32 }
+    ensures listed { OnOk result (IsItemListed file item.now procedures.old (parts_in into.old.items)
+        procedures.new (parts_in into.new.items)) }
+    ensures counted { OnOk result (procedures.new ≤ length into.new.items) }
 {
     match item {
         TopItem::Includes(_) => {}
@@ -46,12 +51,12 @@ fn list_item<'p>(
             declarations: declarations.as_slice(),
         })?,
         TopItem::Proc(procedure) => {
+            *procedures += 1;
             into.push(ProgramPart::Procedure {
-                number: *next,
+                number: *procedures,
                 file,
                 procedure,
             })?;
-            *next = next.checked_add(1).ok_or(NoMemory)?;
         }
     }
     Ok(())
@@ -61,14 +66,18 @@ fn list_item<'p>(
 fn list_items<'p>(
     file: u32,
     items: &'p [TopItem],
-    next: &mut u32,
+    procedures: &mut u32,
     into: &mut Vec<ProgramPart<'p>>,
 ) -> Result<(), NoMemory>
-    ensures { OnOk result (AreItemsListed file items.now next.old (parts_in into.old.items)
-        next.new (parts_in into.new.items)) }
+    requires counted { procedures.old ≤ length into.old.items }
+    requires few { length into.old.items
+        + length (parts_of_file file items.now procedures.old) < 2 ^ 32 }
+    ensures listed { OnOk result (AreItemsListed file items.now procedures.old (parts_in into.old.items)
+        procedures.new (parts_in into.new.items)) }
+    ensures counted { OnOk result (procedures.new ≤ length into.new.items) }
 {
     for item in items {
-        list_item(file, item, next, into)?;
+        list_item(file, item, procedures, into)?;
     }
     Ok(())
 }
@@ -78,14 +87,15 @@ pub fn program_parts<'p>(
     alloc: Global,
     program: &'p Program,
 ) -> Result<Vec<ProgramPart<'p>>, NoMemory>
+    requires { IsFew program.now }
     ensures { IfOk result (λ parts. parts_in parts.items ≡ parts_of program.now) }
 {
     let mut parts = Vec::new(alloc);
-    let mut next = 1;
+    let mut procedures = 0;
     let mut file = 0u32;
     for tree in program.files.as_slice() {
-        list_items(file, tree.items.as_slice(), &mut next, &mut parts)?;
-        file = file.checked_add(1).ok_or(NoMemory)?;
+        list_items(file, tree.items.as_slice(), &mut procedures, &mut parts)?;
+        file += 1;
     }
     Ok(parts)
 }

@@ -85,15 +85,15 @@ pub(crate) fn tables_of<'p>(
     seed: Seed,
     variables: &[Declared<'p>],
 ) -> Result<Vec<NameTable<'p>>, NoMemory>
-    ensures first { (base : List DbcMessage) →
+    requires { length variables.now < 2 ^ 32 }
+    ensures { (base : List DbcMessage) →
         IfOk result (λ tables. AreTables tables.items (variables_in base variables.now)) }
-    ensures few { IfOk result (λ tables. length variables.now < 2 ^ 32) }
 {
     let mut tables = Vec::new(alloc);
     let mut number = 0u32;
     for variable in variables {
         note_variable(alloc, seed, number, variable, &mut tables)?;
-        number = number.checked_add(1).ok_or(NoMemory)?;
+        number += 1;
     }
     Ok(tables)
 }

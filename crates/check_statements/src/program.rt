@@ -2,6 +2,7 @@
 
 ghost use Rattle.std.specs.Prelude.{◌≡◌, [], IfOk, IfSome, None};
 ghost use Rattle.check_calls.specs.Calls.{AreCallsOf};
+ghost use Rattle.check_names.specs.Few.{IsFew};
 ghost use Rattle.capl_meaning.specs.Names.{names_of};
 ghost use Rattle.capl_meaning.specs.Offences.{IsFirstOffence, offences_of};
 ghost use Rattle.check_sorts.specs.Constant.{AreConstantsOf};
@@ -27,6 +28,7 @@ pub fn first_offence(
     requires names { names.now ≡ names_of names.now.base program.now }
     requires constants { AreConstantsOf names.now constants.now }
     requires calls { AreCallsOf names.now calls.now }
+    requires few { IsFew program.now }
     ensures none { IfOk result (λ first. first ≡ None → offences_of names.now.base program.now ≡ []) }
     ensures first { IfOk result (λ first. IfSome first (IsFirstOffence names.now.base program.now)) }
 {

@@ -1,5 +1,7 @@
 // What check_names says that names mean, and noted offences.
 
+ghost use Rattle.check_names.specs.Few.{IsFew};
+
 use capl_meaning::Offence;
 use capl_tree::{DeclType, Expr, Program, Sel, SelWhat};
 use check_names::{Names, laws, note, note_type, push_ranges};
@@ -124,7 +126,9 @@ fn check_messages(
     alloc: Global,
     program: &Program,
     base: &Database,
-) -> Result<(), Fail> {
+) -> Result<(), Fail>
+    requires { IsFew program.now }
+{
     let names = Names::build(alloc, program, Some(base))?;
     assert!(rt; names.message(b"M").is_some_and(|message| message.id == 5));
     assert!(rt; names.message(b"N").is_none());

@@ -1,6 +1,7 @@
 // Expressions and programs that break rules, and such that break none.
 
 ghost use Rattle.check_calls.specs.Calls.{AreCallsOf};
+ghost use Rattle.check_names.specs.Few.{IsFew};
 
 use capl_meaning::{Offence, Sort};
 use capl_tree::{Expr, Program};
@@ -76,7 +77,9 @@ fn expressions_are_judged(rt: HostRuntime) -> Result<(), Fail> {
 }
 
 /// The first offence of a program without a database.
-fn first_of(alloc: Global, program: &Program) -> Result<Option<Offence>, Fail> {
+fn first_of(alloc: Global, program: &Program) -> Result<Option<Offence>, Fail>
+    requires { IsFew program.now }
+{
     let names = Names::build(alloc, program, None)?;
     let constants = Constants::build(alloc, &names)?;
     let calls = Calls::build(alloc, &names)?;

@@ -1,5 +1,6 @@
 // Scopes, sorts, formats and constants of check_sorts.
 
+ghost use Rattle.check_names.specs.Few.{IsFew};
 ghost use Rattle.check_sorts.specs.Constant.{AreConstantsOf};
 
 use capl_meaning::{Builtin, MessageField, Sort};
@@ -86,7 +87,9 @@ fn check_array(rt: &impl Abort, alloc: Global, names: &Names) -> Result<(), Fail
 }
 
 /// What is declared outside of procedures.
-fn check_declared(rt: &impl Abort, alloc: Global, program: &Program) -> Result<(), Fail> {
+fn check_declared(rt: &impl Abort, alloc: Global, program: &Program) -> Result<(), Fail>
+    requires { IsFew program.now }
+{
     let names = Names::build(alloc, program, None)?;
     check_words(rt, &names);
     check_array(rt, alloc, &names)?;
@@ -144,7 +147,9 @@ fn check_beside(
     alloc: Global,
     program: &Program,
     base: &Database,
-) -> Result<(), Fail> {
+) -> Result<(), Fail>
+    requires { IsFew program.now }
+{
     let names = Names::build(alloc, program, Some(base))?;
     check_message(rt, alloc, &names)?;
     check_constant(rt, alloc, &names)

@@ -1,16 +1,20 @@
 // The trees of short sources, for tests of what stands above the parser.
 
-ghost use Rattle.std.specs.Prelude.{◌≡◌, []};
+ghost use Rattle.std.specs.Prelude.{◌≡◌, [], IfOk};
+ghost use Rattle.check_names.specs.Few.{IsFew};
 
 use capl_lexer::lex;
 use capl_parser::parse;
 use capl_tree::{Expr, Program, Stmt, TopItem};
 use items::Items;
+use small_trees::laws::programs_declare_no_more_than_their_tokens;
 use std::alloc::Global;
 use std::test::Fail;
 
-/// The program of one file that is this source.
-pub fn program(alloc: Global, source: &str) -> Result<Program, Fail> {
+/// The program of one file that is this source, which is short, so that the program declares few.
+pub fn program(alloc: Global, source: &str) -> Result<Program, Fail>
+    ensures { IfOk result (λ program. IsFew program) }
+{
     let source = source.as_bytes();
     if source.len() > 100_000 {
         return Err("it is long".into());
@@ -21,6 +25,7 @@ pub fn program(alloc: Global, source: &str) -> Result<Program, Fail> {
     let Ok(file) = parse(alloc, &tokens) else {
         return Err("it is no file".into());
     };
+    programs_declare_no_more_than_their_tokens();
     Ok(Program {
         files: Items::from_list(vec![in alloc; file]?),
     })
@@ -57,7 +62,8 @@ pub fn number(value: u64, at: u32) -> Expr {
 
 /// A program of no file, which declares nothing.
 pub fn undeclared(alloc: Global) -> Program
-    ensures { result ≡ record { files = [] } }
+    ensures none { result ≡ record { files = [] } }
+    ensures few { IsFew result }
 {
     Program {
         files: Items::new(alloc),

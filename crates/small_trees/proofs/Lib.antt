@@ -8,3 +8,4 @@ mod SmallDeclarations
 mod SmallStatements
 mod SmallFiles
 mod SmallTokens
+mod FewNames

@@ -86,7 +86,7 @@ parameter_small : IsSmallWhere spell.parameter (λ p. ⊤)
 parameter_small p ts short small = (tt, small.1.1)
 
 -- parameters
-parameters_longer : (all : List Param) (void : Bool) (ts : List Tok) → length all + length ts ≤ length (spell.parameters all void ts)
+pub parameters_longer : (all : List Param) (void : Bool) (ts : List Tok) → length all + length ts ≤ length (spell.parameters all void ts)
 parameters_longer [] true ts = omega arith
 parameters_longer [] false ts = omega arith
 parameters_longer (p ∷ all) true ts = separated_longer spell.parameter parameter_longer (p ∷ all) ts
@@ -102,7 +102,7 @@ parameters_small (p ∷ all) false ts short small =
     (separated_small spell.parameter (λ p. ⊤) parameter_longer parameter_small (p ∷ all) ts short small).1
 
 -- what a function gives
-gives_longer : (kind : Option Kind) (void : Bool) (ts : List Tok) → length ts ≤ length (spell.gives kind void ts)
+pub gives_longer : (kind : Option Kind) (void : Bool) (ts : List Tok) → length ts ≤ length (spell.gives kind void ts)
 gives_longer (Some kind) true ts = omega arith
 gives_longer (Some kind) false ts = omega arith
 gives_longer None true ts = omega arith
@@ -124,7 +124,7 @@ key_small None ts small = small.1
 key_small (Some value) ts small = small.1
 
 -- a head
-head_longer : (voids : Voids) (h : Head) (ts : List Tok) → length ts ≤ length (spell.procedure_head voids h ts)
+pub head_longer : (voids : Voids) (h : Head) (ts : List Tok) → length ts ≤ length (spell.procedure_head voids h ts)
 head_longer voids head.PreStart ts = omega arith
 head_longer voids head.Start ts = omega arith
 head_longer voids head.Stop ts = omega arith
@@ -216,7 +216,8 @@ item_small voids (top.Variables declarations) ts is short small =
     (it.0, it.1.1)
 item_small voids (top.Proc p) ts is short small = procedure_small voids p ts is short small
 
-item_light : (voids : Voids) (item : TopItem) (ts : List Tok) → IsTopItem item → top_item_weight item + 8 * length ts ≤ 8 * length (spell.top_item voids item ts)
+-- an item weighs at most eight times as much as there are tokens that spell it
+pub item_light : (voids : Voids) (item : TopItem) (ts : List Tok) → IsTopItem item → top_item_weight item + 8 * length ts ≤ 8 * length (spell.top_item voids item ts)
 item_light voids (top.Includes names) ts is = omega (arith, each_longer spell.included included_longer names (tok.Sign sign.CloseBrace ∷ ts))
 item_light voids (top.Variables declarations) ts is = omega (arith, each_longer declaration declaration_longer declarations (tok.Sign sign.CloseBrace ∷ ts))
 item_light voids (top.Proc p) ts is = procedure_light voids p ts is

@@ -1,6 +1,6 @@
 //! Laws of the trees of texts. Each call does nothing: its contract is the law.
 
-ghost use Rattle.std.specs.Prelude.{◌≤◌, ◌*◌, ℕ, List, All, length, map, sum_by};
+ghost use Rattle.std.specs.Prelude.{◌≡◌, ◌≤◌, ◌*◌, ℕ, List, All, length, map, sum_by};
 ghost use Rattle.std.specs.List.{AllZip};
 ghost use Rattle.capl_lexer.specs.Reading.{IsReading};
 ghost use Rattle.capl_lexer.specs.declared.token.Tok.{Tok};
@@ -8,6 +8,8 @@ ghost use Rattle.capl_lexer.specs.declared.token.Token.{Token};
 ghost use Rattle.capl_tree.specs.Tree.{IsTreeOf};
 ghost use Rattle.capl_tree.specs.Weight.{weight};
 ghost use Rattle.capl_tree.specs.declared.file.Program.{Program};
+ghost use Rattle.dbc_reader.specs.declared.message.DbcMessage.{DbcMessage};
+ghost use Rattle.capl_meaning.specs.Variable.{parts_of, variables_of};
 ghost use Rattle.sound_programs.specs.Given.{IsReadable};
 ghost use Rattle.sound_programs.specs.Small.{IsShortList};
 ghost use Rattle.small_trees.specs.Tokens.{AreBytes, AreSmallToks, IsSmallText};
@@ -30,6 +32,16 @@ pub fn programs_weigh_eight_times_their_tokens()
         weight program ≤ 8 * sum_by length texts }
 {}
 
+/// A program has as many files as texts, and no more parts and no more variables than tokens.
+pub fn programs_declare_no_more_than_their_tokens()
+    ensures files { (texts : List (List Tok)) (program : Program) → AllZip IsTreeOf texts program.files →
+        length program.files ≡ length texts }
+    ensures parts { (texts : List (List Tok)) (program : Program) → AllZip IsTreeOf texts program.files →
+        length (parts_of program) ≤ sum_by length texts }
+    ensures variables { (texts : List (List Tok)) (base : List DbcMessage) (program : Program) →
+        AllZip IsTreeOf texts program.files → length (variables_of base program) ≤ sum_by length texts }
+{}
+
 #[cfg(test)]
 mod tests {
     #[test]
@@ -37,5 +49,6 @@ mod tests {
         super::tokens_of_texts_are_small();
         super::programs_of_small_texts_are_readable();
         super::programs_weigh_eight_times_their_tokens();
+        super::programs_declare_no_more_than_their_tokens();
     }
 }

@@ -20,7 +20,7 @@ use Rattle.sound_programs.proofs.Starts.{starts_fine}
 pub all_sound : (base : List DbcMessage) (program : Program) (order : List ℕ) (line : ℕ → ℕ → ℕ) → IsReadable program → offences_of base program ≡ [] → IsGoodOrder (names_of base program) order →
     cells_of_program base program ≤ 1000000 → weight program < 2 ^ 35 → IsSound (typed_program base program order line)
 all_sound base program order line readable none good few light =
-    let short = short_lists base program order line good light in
+    let short = short_lists base program order line good.has_no_other good.once light in
     let tables = tables_there base program order line readable none in
     let cells = few_cells base program order line readable none few in
     record {

@@ -21,7 +21,7 @@ ghost use Rattle.capl_meaning.specs.Names.{Scope, names_of};
 ghost use Rattle.capl_meaning.specs.Offences.{offences_of};
 ghost use Rattle.capl_meaning.specs.Size.{cells_of_program};
 ghost use Rattle.capl_meaning.specs.Sort.{sort_of};
-ghost use Rattle.typed_source.specs.Program.{IsGoodOrder, typed_program};
+ghost use Rattle.typed_source.specs.Program.{HasNoOther, IsGoodOrder, typed_program};
 ghost use Rattle.typed_source.specs.Sound.{HasTables, IsOfNumber};
 ghost use Rattle.typed_source.specs.Statement.{statement_of};
 ghost use Rattle.sound_programs.specs.Given.{HasShortLists, HaveForms, IsReadable, StandsIn, in_procedure};
@@ -115,11 +115,11 @@ pub fn functions_do_not_reach_their_callers()
 {}
 
 /// The typed program of a program whose weight is below 2^35 has fewer than 2^32 functions, event procedures
-/// and formats, in each order in which functions stand behind those that they call.
+/// and formats, in each order in which only functions of the program stand, and none twice.
 pub fn light_programs_have_short_lists()
     ensures { (base : List DbcMessage) (program : Program) (order : List ℕ) (line : ℕ → ℕ → ℕ) →
-        IsGoodOrder (names_of base program) order → weight program < 2 ^ 35 →
-        HasShortLists (typed_program base program order line) }
+        HasNoOther (names_of base program) order → AllPairs (λ one other. one ≢ other) order →
+        weight program < 2 ^ 35 → HasShortLists (typed_program base program order line) }
 {}
 
 /// The typed program of a readable program without offences, with at most 1,000,000 cells and a weight

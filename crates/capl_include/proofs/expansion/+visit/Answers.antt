@@ -20,8 +20,8 @@ use Rattle.capl_include.proofs.expansion.+visit.Goals as goal
 many_files : (count : ℕ) (full : Bool) → full ≡ nat_le file_limit count → full ≡ true → file_limit ≤ count
 many_files count full is holds = grind (arith, nat_tests)
 
-few_files : (count : ℕ) (full : Bool) → full ≡ nat_le file_limit count → full ≡ false → count < file_limit
-few_files count full is fails = grind (arith, nat_tests)
+below_limit : (count : ℕ) (full : Bool) → full ≡ nat_le file_limit count → full ≡ false → count < file_limit
+below_limit count full is fails = grind (arith, nat_tests)
 
 counts_first : (name : List ℕ) (list : List Token) (old at : Expansion) → at ≡ meeting name list old
     → token_count at.files + (old.count + length list) ≡ token_count old.files + at.count
@@ -63,7 +63,7 @@ returns-in_err-tokens-clause-stopped g t c =
     let name = c.args.name.now in
     let old = c.args.progress.now in
     let refusal = c.in_err-tokens.field-0.0 in
-    let few = few_files (length old.met) c.is_full.result c.is_full.ensures c.if-is_full.false in
+    let few = below_limit (length old.met) c.is_full.result c.is_full.ensures c.if-is_full.false in
     told_from (g.F.Files.held c.args.files.now) (λ contents. ReadAgrees contents name c.count.result (Err refusal))
     (λ contents. IfErr c.from_residual.result (IsVisitRefusal contents root name old))
     (λ contents agrees. passed_on c.from_residual.result refusal (IsVisitRefusal contents root name old) c.from_residual.ensures.1
@@ -79,7 +79,7 @@ returns-in_err-next-clause-stopped g t c =
     let place = c.loop-token.token-index in
     let list = c.deref-token-items.result.now in
     let refusal = c.in_err-next.field-0.0 in
-    let few = few_files (length old.met) c.is_full.result c.is_full.ensures c.if-is_full.false in
+    let few = below_limit (length old.met) c.is_full.result c.is_full.ensures c.if-is_full.false in
     told_from_two (g.F.Files.held c.args.files.now) (λ contents. IsRead contents name c.count.result c.in_ok-tokens.tokens.items)
     (λ contents. GoesFrom contents root name list old place at)
     (λ contents. IfErr c.from_residual-in_err-next.result (IsVisitRefusal contents root name old))
@@ -99,7 +99,7 @@ returns-in_err-visit-clause-stopped g t c =
     let place = c.loop-token.token-index in
     let list = c.deref-token-items.result.now in
     let refusal = c.in_err-visit.field-0.0 in
-    let few = few_files (length old.met) c.is_full.result c.is_full.ensures c.if-is_full.false in
+    let few = below_limit (length old.met) c.is_full.result c.is_full.ensures c.if-is_full.false in
     let step = subst (λ (n : Option (List ℕ)). StepAgrees name c.token-item.result at.met (Ok n)) c.in-Some.is c.in_ok-next.ensures.told in
     told_from_three (g.F.Files.held c.args.files.now) (λ contents. IsRead contents name c.count.result c.in_ok-tokens.tokens.items)
     (λ contents. GoesFrom contents root name list old place at)
@@ -128,6 +128,14 @@ loop-token-init g t c =
       reads = reads_first (g.F.Files.reads c.args.files.now) (g.F.Files.reads c.read_tokens.new.files) old c.meet.new.self done.reads
           (ap (λ (e : Expansion). e.files) is);
       grows = subst (λ (p : Expansion). length old.met < length p.met) (sym is) (omega (arith, length-append old.met (name ∷ [])));
+      appends = subst (λ (p : Expansion). length p.files + (length old.met + 1) ≡ length old.files + length p.met) (sym is)
+          (omega (arith, length-append old.met (name ∷ [])));
+      few_files = subst (λ (p : Expansion). length p.met ≤ file_limit) (sym is)
+          (omega (
+            arith,
+            length-append old.met (name ∷ []),
+            below_limit (length old.met) c.is_full.result c.is_full.ensures c.if-is_full.false,
+          ));
       few = subst (λ (p : Expansion). p.count ≤ token_limit) (sym is)
           (omega (arith, done.few, c.count.ensures, ap length c.deref-token-items.ensures.value));
       counts = counts_first name list old c.meet.new.self is;
@@ -161,6 +169,9 @@ loop-token-preserved g t c =
                 before.reads done.reads);
             once = subst (GoesOnce (meeting name list old)) (sym w.progress-is) (once_then (meeting name list old) at new before.once done.once);
             grows = subst (λ (p : Expansion). length old.met < length p.met) (sym w.progress-is) (omega (arith, before.grows, done.grows));
+            appends = subst (λ (p : Expansion). length p.files + (length old.met + 1) ≡ length old.files + length p.met) (sym w.progress-is)
+                (omega (arith, before.appends, done.appends));
+            few_files = subst (λ (p : Expansion). length p.met ≤ file_limit) (sym w.progress-is) done.few_files;
             few = subst (λ (p : Expansion). p.count ≤ token_limit) (sym w.progress-is) done.within_limit;
             counts = counts_then (length list) old at new _ w.progress-is before.counts done.counts;
             texts = λ are. subst (λ (p : Expansion). AreOfTexts p.files) (sym w.progress-is) (done.texts (before.texts are));
@@ -180,6 +191,8 @@ loop-token-preserved g t c =
                 before.reads;
             once = subst (GoesOnce (meeting name list old)) (sym w.progress-is) before.once;
             grows = subst (λ (p : Expansion). length old.met < length p.met) (sym w.progress-is) before.grows;
+            appends = subst (λ (p : Expansion). length p.files + (length old.met + 1) ≡ length old.files + length p.met) (sym w.progress-is) before.appends;
+            few_files = subst (λ (p : Expansion). length p.met ≤ file_limit) (sym w.progress-is) before.few_files;
             few = subst (λ (p : Expansion). p.count ≤ token_limit) (sym w.progress-is) before.few;
             counts = subst (λ (p : Expansion). token_count p.files + (old.count + length list) ≡ token_count old.files + p.count) (sym w.progress-is) before.counts;
             texts = λ are. subst (λ (p : Expansion). AreOfTexts p.files) (sym w.progress-is) (before.texts are);
@@ -201,7 +214,7 @@ returns-clause-went g t c =
     let place = c.loop-token.token-index in
     let list = c.deref-token-items.result.now in
     let new = c.append.new.self in
-    let few = few_files (length old.met) c.is_full.result c.is_full.ensures c.if-is_full.false in
+    let few = below_limit (length old.met) c.is_full.result c.is_full.ensures c.if-is_full.false in
     let named : c.in_ok-make.field-0 ≡ name = c.in_ok-make.ensures ∙ c.bytes.ensures in
     let listed : c.from_list.result ≡ list = c.from_list.ensures ∙ sym c.deref-token-items.ensures.value in
     let file : (n : List ℕ) → List Token → SourceFile = λ n tokens. record { name = n; tokens = tokens } in
@@ -240,6 +253,14 @@ returns-clause-counts g t c =
     let file : SourceFile = record { name = c.in_ok-make.field-0; tokens = c.from_list.result } in
     counts_last c.deref-token-items.result.now c.args.progress.now c.loop-token.progress c.append.new.self file
     (c.from_list.ensures ∙ sym c.deref-token-items.ensures.value) c.in_ok-append.ensures.appended c.loop-token.invariant.counts
+
+pub returns-clause-appends : goal.returns-clause-appends
+returns-clause-appends g t c =
+    let old = c.args.progress.now in
+    let at = c.loop-token.progress in
+    let file : SourceFile = record { name = c.in_ok-make.field-0; tokens = c.from_list.result } in
+    subst (λ (p : Expansion). length p.files + length old.met ≡ length old.files + length p.met) (sym c.in_ok-append.ensures.appended)
+    (omega (arith, length-append at.files (file ∷ []), c.loop-token.invariant.appends))
 
 pub returns-clause-texts : goal.returns-clause-texts
 returns-clause-texts g t c = λ are.

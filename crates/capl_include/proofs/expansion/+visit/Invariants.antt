@@ -14,6 +14,8 @@ invariant-loop-token g l = record {
   once : GoesOnce (meeting l.name l.token-items l.fn.progress) l.progress;
   reads : ReadsEach 1 (g.F.Files.reads l.fn.files) (g.F.Files.reads l.files) l.fn.progress l.progress;
   grows : length l.fn.progress.met < length l.progress.met;
+  appends : length l.progress.files + (length l.fn.progress.met + 1) ≡ length l.fn.progress.files + length l.progress.met;
+  few_files : length l.progress.met ≤ file_limit;
   few : l.progress.count ≤ token_limit;
   counts : token_count l.progress.files + (l.fn.progress.count + length l.token-items)
       ≡ token_count l.fn.progress.files + l.progress.count;

@@ -1,5 +1,5 @@
 -- The visit of the first file is the answer.
-use Rattle.std.proofs.Common.{◌∙◌, Ok, sym, ap, subst, length}
+use Rattle.std.proofs.Common.{◌∙◌, Ok, sym, ap, arith, subst, length}
 use Rattle.std.proofs.lemmas.List.Elements.{All-nil}
 use Rattle.texts.specs.Fault.{raised_by}
 use Rattle.capl_include.specs.Text.{AreOfTexts, IsOfText}
@@ -56,6 +56,13 @@ returns-clause-reads g c =
     let before = g.F.Files.reads c.args.files.now in
     reads_all before (g.F.Files.reads c.visit.new.files) c.new-progress.result c.visit.new.progress none c.in_ok-visit.ensures.reads
     ∙ ap (λ files. raised_by (length files) before) (sym c.into_expanded.ensures)
+
+pub returns-clause-few_files : goal.returns-clause-few_files
+returns-clause-few_files g c =
+    let done = c.in_ok-visit.ensures in
+    let none = ap (λ (e : Expansion). e.files) c.new-progress.ensures in
+    let unmet = ap (λ (e : Expansion). e.met) c.new-progress.ensures in
+    omega (arith, done.appends, done.few_files, ap length none, ap length unmet, ap length c.into_expanded.ensures)
 
 pub returns-clause-texts : goal.returns-clause-texts
 returns-clause-texts g c =

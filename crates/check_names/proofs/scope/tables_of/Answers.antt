@@ -1,5 +1,5 @@
 -- One more variable.
-use Rattle.std.proofs.Common.{◌∙◌, List, arith, sym, subst, rules, take}
+use Rattle.std.proofs.Common.{◌∙◌, List, sym, subst, rules, take}
 use Rattle.std.proofs.lemmas.List.{take_all}
 use Rattle.capl_meaning.specs.Variable.{Variable}
 use Rattle.check_names.specs.declared.variable.Declared.{Declared}
@@ -12,7 +12,6 @@ use Rattle.check_names.proofs.scope.tables_of.Goals as goal
 pub loop-variable-preserved : goal.loop-variable-preserved
 loop-variable-preserved c = record {
   number = search rules;
-  fits = search rules;
   tables = λ base.
       let i = c.loop-variable.variable-index in
       let all = c.args.variables.now in
@@ -26,12 +25,9 @@ loop-variable-preserved c = record {
       (λ owner name. c.in_ok-note_variable.ensures base owner name));
 }
 
-pub returns-clause-first : goal.returns-clause-first
-returns-clause-first c = λ base.
+pub returns : goal.returns
+returns c = λ base.
     let i = c.loop-variable.variable-index in
     let all = c.args.variables.now in
     subst (λ (ds : List Declared). AreTables c.loop-variable.tables.items (variables_in base ds))
     (take_all i all c.loop-variable-test.false) (c.loop-variable.invariant.tables base)
-
-pub returns-clause-few : goal.returns-clause-few
-returns-clause-few c = omega arith

@@ -16,7 +16,7 @@ returns c =
     let purposes = ap parts_in c.as_slice-2.ensures.value ∙ c.in_ok-parts.ensures in
     let heads = ap parts_in c.as_slice-3.ensures.value ∙ c.in_ok-parts.ensures in
     named_first names c.args.program.now c.note_outer_names.new.first c.note_purposes.new.first c.note_parts.new.first
-    c.note_inner_names.new.first c.requires
+    c.note_inner_names.new.first c.requires.names
     (c.in_ok-note_outer_names.ensures ∙ ap (λ (ps : List Part). noted None (outer_name_offences ps)) outer)
     (c.in_ok-note_purposes.ensures ∙ ap (λ (ps : List Part). noted c.note_outer_names.new.first (purpose_offences names ps)) purposes)
     (c.in_ok-note_parts.ensures ∙ ap (λ (ps : List Part). noted c.note_purposes.new.first (flat_map (head_and_types names) ps)) heads)
