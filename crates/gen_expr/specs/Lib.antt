@@ -1,4 +1,5 @@
 -- The definitions of this crate.
 pub mod Exit
+pub mod Fields
 pub mod Meaning
 pub mod Target

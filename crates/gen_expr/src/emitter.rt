@@ -50,9 +50,9 @@ impl Emitter {
         self.instrs.push(instr)?;
         match self.depths.push(depth) {
             Ok(()) => Ok(()),
-            Err(_) => {
+            Err(error) => {
                 let _ = self.instrs.pop();
-                Err(NoMemory)
+                Err(NoMemory::from(error))
             }
         }
     }

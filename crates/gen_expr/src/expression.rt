@@ -1,11 +1,12 @@
 // The code of an expression.
 
-ghost use Rattle.std.specs.Prelude.{◌≡◌, ◌+◌, ◌<◌, ◌^◌, ◌++◌, length, sum_by, OnOk};
+ghost use Rattle.std.specs.Prelude.{◌≡◌, ◌+◌, ◌<◌, ◌^◌, ◌++◌, length, sum_by, All, OnOk};
 ghost use Rattle.typed_tree.specs.Size.{dropped_size, index_size, test_size, value_size};
 ghost use Rattle.code_listing.specs.Exit.{own_truth};
 ghost use Rattle.code_listing.specs.Expression.{index_code, test_code, value_code};
 ghost use Rattle.code_listing.specs.Statement.{dropped_code, values_code};
 ghost use Rattle.gen_expr.specs.Exit.{exit_of};
+ghost use Rattle.gen_expr.specs.Fields.{HasFieldCells, PlaceHasFieldCells};
 ghost use Rattle.gen_expr.specs.Meaning.{MeansValue};
 
 use crate::emitter::Emitter;
@@ -25,6 +26,7 @@ use typed_tree::{Place, TExpr, Typed};
 ///
 /// After an error, what was appended is a beginning of the code.
 pub fn emit(e: &TExpr, typed: &Typed, depth: u32, into: &mut Emitter) -> Result<(), NoMemory>
+    requires fields { HasFieldCells e.now }
     requires room { length into.old + value_size typed.now e.now < 2 ^ 32 }
     requires depth { depth + value_size typed.now e.now < 2 ^ 32 }
     ensures grows { OnOk result (length into.new ≡ length into.old + value_size typed.now e.now) }
@@ -40,6 +42,7 @@ pub fn emit(e: &TExpr, typed: &Typed, depth: u32, into: &mut Emitter) -> Result<
 /// Appends the code of an expression as a value.
 #[cycle(expression)]
 fn emit_value(e: &TExpr, typed: &Typed, depth: u32, into: &mut Emitter) -> Result<(), NoMemory>
+    requires fields { HasFieldCells e.now }
     requires room { length into.old + value_size typed.now e.now < 2 ^ 32 }
     requires depth { depth + value_size typed.now e.now < 2 ^ 32 }
     ensures grows { OnOk result (length into.new ≡ length into.old + value_size typed.now e.now) }
@@ -184,7 +187,8 @@ fn emit_value(e: &TExpr, typed: &Typed, depth: u32, into: &mut Emitter) -> Resul
 ///
 /// After an error, what was appended is a beginning of the code.
 pub fn emit_dropped(e: &TExpr, typed: &Typed, into: &mut Emitter) -> Result<(), NoMemory>
-    requires { length into.old + dropped_size typed.now e.now < 2 ^ 32 }
+    requires fields { HasFieldCells e.now }
+    requires room { length into.old + dropped_size typed.now e.now < 2 ^ 32 }
     ensures grows { OnOk result (length into.new ≡ length into.old + dropped_size typed.now e.now) }
     ensures code { OnOk result (into.new ≡ into.old ++ dropped_code typed.now e.now (length into.old)) }
 {
@@ -237,6 +241,7 @@ pub fn emit_test(
     depth: u32,
     into: &mut Emitter,
 ) -> Result<(), NoMemory>
+    requires fields { HasFieldCells e.now }
     requires room { length into.old + test_size typed.now when (own_truth (exit_of exit)) e.now < 2 ^ 32 }
     requires depth { depth + test_size typed.now when (own_truth (exit_of exit)) e.now < 2 ^ 32 }
     ensures grows { OnOk result (length into.new
@@ -301,6 +306,7 @@ pub fn emit_test(
 /// Appends the code of a place's index, if it has one.
 #[cycle(expression)]
 fn emit_index(place: &Place, typed: &Typed, depth: u32, into: &mut Emitter) -> Result<(), NoMemory>
+    requires fields { PlaceHasFieldCells place.now }
     requires room { length into.old + index_size typed.now place.now < 2 ^ 32 }
     requires depth { depth + index_size typed.now place.now < 2 ^ 32 }
     ensures grows { OnOk result (length into.new ≡ length into.old + index_size typed.now place.now) }
@@ -327,6 +333,7 @@ pub fn emit_values(
     depth: u32,
     into: &mut Emitter,
 ) -> Result<(), NoMemory>
+    requires fields { All HasFieldCells all.now }
     requires room { length into.old + sum_by (value_size typed.now) all.now < 2 ^ 32 }
     requires depth { depth + sum_by (value_size typed.now) all.now < 2 ^ 32 }
     ensures grows { OnOk result (length into.new ≡ length into.old + sum_by (value_size typed.now) all.now) }

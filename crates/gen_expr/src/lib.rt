@@ -5,6 +5,9 @@
 //! the depth at which they begin. Its targets are made of sizes, which [`value_size`] and
 //! [`test_size`] count before the code is there, so nothing is filled in afterwards. An [`Emitter`]
 //! holds the code so far, each instruction with its depth.
+//!
+//! Instructions hold the numbers of cells in 32 bits. So the cell of each message field in an
+//! expression has to have such a number, which it has in every sound program.
 #![tactic(auto, unfolding(crate::proofs::By::tree, crate::proofs::By::row))]
 
 pub use emitter::Emitter;

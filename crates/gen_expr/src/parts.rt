@@ -1,6 +1,6 @@
 // The parts of an expression's code that hold no code of another expression.
 
-ghost use Rattle.std.specs.Prelude.{◌≡◌, ◌+◌, ◌*◌, ◌<◌, ◌^◌, if◌then◌else◌, [], ◌∷◌, ◌++◌, length, IfSome, OnOk};
+ghost use Rattle.std.specs.Prelude.{◌≡◌, ◌+◌, ◌*◌, ◌<◌, ◌^◌, if◌then◌else◌, [], ◌∷◌, ◌++◌, length, OnOk};
 ghost use Rattle.bytecode.specs.declared.instr.Instr.TheVariants as instr;
 ghost use Rattle.typed_tree.specs.Shape.{has_index, is_checked_first, is_wrapped_first};
 ghost use Rattle.typed_tree.specs.Size.{bump_size, exit_size, one_if, truth_size};
@@ -9,6 +9,7 @@ ghost use Rattle.code_listing.specs.Expression.{opposite_op, params_code, prefix
 ghost use Rattle.code_listing.specs.Listing.{instr_if};
 ghost use Rattle.code_listing.specs.Place.{bump_at_index_code, bump_code, bump_in_place_code, bump_op, index_count, index_depth, kind_at_index, read_instr, write_instr};
 ghost use Rattle.gen_expr.specs.Exit.{exit_of};
+ghost use Rattle.gen_expr.specs.Fields.{PlaceHasFieldCells};
 
 use crate::emitter::Emitter;
 use crate::exit::{Exit, exit_instr, own_truth};
@@ -19,18 +20,16 @@ use texts::NoMemory;
 use typed_tree::{Place, TExpr, Typed};
 
 /// The instruction that reads a place. Its index, if it has one, is on top.
-///
-/// There is none where the cell of a message's field has no number of 32 bits, which is so in no
-/// sound tree.
-pub(crate) fn read_instr(place: &Place) -> Option<Instr>
-    ensures { IfSome result (λ instr. instr ≡ read_instr place.now) }
+fn read_instr(place: &Place) -> Instr
+    requires { PlaceHasFieldCells place.now }
+    ensures { result ≡ read_instr place.now }
 {
     match place {
-        Place::Cell { slot } => Some(Instr::Load(*slot)),
-        Place::Elem { base, len, .. } => Some(Instr::Elem(*base, *len)),
-        Place::Set { msg, field } => Some(Instr::Load(msg.checked_add(u32::from(*field))?)),
-        Place::Bytes { msg, kind, .. } => Some(Instr::Bytes(*kind, *msg)),
-        Place::Signal { msg, layout } => Some(Instr::Sig(*layout, *msg)),
+        Place::Cell { slot } => Instr::Load(*slot),
+        Place::Elem { base, len, .. } => Instr::Elem(*base, *len),
+        Place::Set { msg, field } => Instr::Load(*msg + u32::from(*field)),
+        Place::Bytes { msg, kind, .. } => Instr::Bytes(*kind, *msg),
+        Place::Signal { msg, layout } => Instr::Sig(*layout, *msg),
     }
 }
 
@@ -184,18 +183,19 @@ pub(crate) fn add_check(
 
 /// Appends what reads a place. Its index, if it has one, is on top.
 pub(crate) fn add_read(place: &Place, depth: u32, into: &mut Emitter) -> Result<(), NoMemory>
+    requires { PlaceHasFieldCells place.now }
     ensures grows { OnOk result (length into.new ≡ length into.old + 1) }
     ensures code { OnOk result (into.new ≡ into.old ++ (read_instr place.now, depth) ∷ []) }
 {
-    let instr = read_instr(place).ok_or(NoMemory)?;
-    into.add(instr, depth)?;
+    into.add(read_instr(place), depth)?;
     Ok(())
 }
 
 /// Appends what reads a place, whose index, if it has one, stays below the number. The depth is that
 /// without the index.
 pub(crate) fn add_read_again(place: &Place, depth: u32, into: &mut Emitter) -> Result<(), NoMemory>
-    requires { depth + 2 < 2 ^ 32 }
+    requires fields { PlaceHasFieldCells place.now }
+    requires depth { depth + 2 < 2 ^ 32 }
     ensures grows { OnOk result (length into.new ≡ length into.old + (one_if (has_index place.now) + 1)) }
     ensures code { OnOk result (into.new ≡ into.old
         ++ (instr_if (has_index place.now) (instr.Dup, depth + 1)
@@ -265,7 +265,8 @@ pub(crate) fn add_bump(
     depth: u32,
     into: &mut Emitter,
 ) -> Result<(), NoMemory>
-    requires { depth + 3 < 2 ^ 32 }
+    requires fields { PlaceHasFieldCells place.now }
+    requires depth { depth + 3 < 2 ^ 32 }
     ensures grows { OnOk result (length into.new ≡ length into.old + bump_size place.now bump.post) }
     ensures code { OnOk result (into.new ≡ into.old
         ++ bump_code typed.now place.now bump.kind bump.up bump.post depth) }
@@ -286,7 +287,8 @@ fn add_bump_at_index(
     depth: u32,
     into: &mut Emitter,
 ) -> Result<(), NoMemory>
-    requires { depth + 3 < 2 ^ 32 }
+    requires fields { PlaceHasFieldCells place.now }
+    requires depth { depth + 3 < 2 ^ 32 }
     ensures grows { OnOk result
         (length into.new ≡ length into.old + (1 + (4 + (if bump.post then 2 else 0)))) }
     ensures code { OnOk result (into.new ≡ into.old
@@ -314,7 +316,8 @@ fn add_bump_in_place(
     depth: u32,
     into: &mut Emitter,
 ) -> Result<(), NoMemory>
-    requires { depth + 3 < 2 ^ 32 }
+    requires fields { PlaceHasFieldCells place.now }
+    requires depth { depth + 3 < 2 ^ 32 }
     ensures grows { OnOk result (length into.new ≡ length into.old + (4 + (if bump.post then 2 else 0))) }
     ensures code { OnOk result (into.new ≡ into.old
         ++ bump_in_place_code place.now bump.kind bump.up bump.post depth) }

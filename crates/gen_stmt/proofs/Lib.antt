@@ -1,7 +1,9 @@
 -- Lemmas on the definitions of this crate.
 pub mod By
 pub mod Emitted
+pub mod Fields
 pub mod Nonempty
 pub mod Rows
 pub mod SoundExamples
+pub mod SoundFields
 pub mod Steps

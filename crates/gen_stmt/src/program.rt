@@ -1,8 +1,10 @@
 // The code of procedures and of whole programs.
 
-ghost use Rattle.std.specs.Prelude.{◌≡◌, ◌+◌, ◌<◌, ◌≤◌, ◌^◌, [], ◌∷◌, ◌++◌, length, map, IfOk, OnOk};
+ghost use Rattle.std.specs.Prelude.{◌≡◌, ◌+◌, ◌<◌, ◌≤◌, ◌^◌, [], ◌∷◌, ◌++◌, length, map, All, IfOk, OnOk};
 ghost use Rattle.typed_tree.specs.Size.{procedure_size, size, tail_size};
+ghost use Rattle.typed_tree.specs.Sound.{IsSound};
 ghost use Rattle.code_listing.specs.Program.{IsCodeOf, function_table, handler_table, procedure_code, procedures_code, tail_code};
+ghost use Rattle.gen_stmt.specs.Inside.Fields.{BodyHasFieldCells};
 ghost use Rattle.gen_stmt.specs.Inside.Procedures.{entry_of, of_function, of_handler};
 ghost use Rattle.code_size.specs.Rows.{functions_size, handlers_size};
 
@@ -40,7 +42,8 @@ fn emit_procedure(
     typed: &Typed,
     into: &mut Emitter,
 ) -> Result<(), NoMemory>
-    requires { length into.old + procedure_size typed.now gives body.now < 2 ^ 32 }
+    requires fields { BodyHasFieldCells body.now }
+    requires room { length into.old + procedure_size typed.now gives body.now < 2 ^ 32 }
     ensures grows { OnOk result
         (length into.new ≡ length into.old + procedure_size typed.now gives body.now) }
     ensures code { OnOk result (into.new ≡ into.old
@@ -64,7 +67,8 @@ fn add_procedure(
     code: &mut Emitter,
     table: &mut Vec<Fun>,
 ) -> Result<(), NoMemory>
-    requires { length code.old + procedure_size typed.now gives body.now < 2 ^ 32 }
+    requires fields { BodyHasFieldCells body.now }
+    requires room { length code.old + procedure_size typed.now gives body.now < 2 ^ 32 }
     ensures grows { OnOk result
         (length code.new ≡ length code.old + procedure_size typed.now gives body.now) }
     ensures some { OnOk result (length code.old < length code.new) }
@@ -88,7 +92,8 @@ fn add_functions(
     code: &mut Emitter,
     table: &mut Vec<Fun>,
 ) -> Result<(), NoMemory>
-    requires { length code.old + functions_size typed.now functions.now < 2 ^ 32 }
+    requires fields { All (λ function. BodyHasFieldCells function.body) functions.now }
+    requires room { length code.old + functions_size typed.now functions.now < 2 ^ 32 }
     ensures grows { OnOk result (length code.new ≡ length code.old + functions_size typed.now functions.now) }
     ensures code { OnOk result (code.new ≡ code.old
         ++ procedures_code typed.now (map of_function functions.now) (length code.old)) }
@@ -110,6 +115,7 @@ fn add_handlers(
     code: &mut Emitter,
     table: &mut Vec<Fun>,
 ) -> Result<Vec<Handler>, NoMemory>
+    requires fields { All (λ handler. BodyHasFieldCells handler.body) handlers.now }
     requires room { length code.old + handlers_size typed.now handlers.now < 2 ^ 32 }
     requires few { length table.old.items ≤ length code.old }
     ensures code { OnOk result (code.new ≡ code.old
@@ -147,7 +153,8 @@ fn copy_formats(alloc: Global, formats: &[Format]) -> Result<Items<Format>, NoMe
 /// The code of a typed program, with its tables. Takes time linear in the code and in the tables, once
 /// for each level of nesting.
 pub fn make_code(alloc: Global, typed: &Typed) -> Result<Code, NoMemory>
-    requires { size typed.now < 2 ^ 32 }
+    requires sound { IsSound typed.now }
+    requires room { size typed.now < 2 ^ 32 }
     ensures { IfOk result (IsCodeOf typed.now) }
 {
     let mut code = Emitter::new(alloc);

@@ -1,12 +1,13 @@
 // The code of a statement.
 
-ghost use Rattle.std.specs.Prelude.{◌≡◌, ℕ, ◌+◌, ◌<◌, ◌^◌, ◌&&◌, ◌++◌, length, nat_lt, sum, sum_by, OnOk};
+ghost use Rattle.std.specs.Prelude.{◌≡◌, ℕ, ◌+◌, ◌<◌, ◌^◌, ◌&&◌, ◌++◌, length, nat_lt, sum, sum_by, All, IfSome, OnOk};
 ghost use Rattle.typed_tree.specs.Shape.{goes_on};
 ghost use Rattle.typed_tree.specs.Size.{for_test_size, jump_size, one_if, returned_size, stmt_size};
 ghost use Rattle.code_listing.specs.Listing.{Listing, instr_if, jump_code};
 ghost use Rattle.code_listing.specs.Program.{body_code};
 ghost use Rattle.code_listing.specs.Statement.{for_test_code, return_code, stmt_code};
 ghost use Rattle.gen_stmt.specs.Inside.Exits.{exits_of};
+ghost use Rattle.gen_stmt.specs.Inside.Fields.{ArmHasFieldCells, BodyHasFieldCells, GroupHasFieldCells, OptionHasFieldCells, StmtHasFieldCells};
 ghost use Rattle.gen_stmt.specs.Inside.Rows.{arms_code_of, groups_code_of, part_code_of, switch_code_of};
 ghost use Rattle.code_size.specs.Rows.{arms_size_of, group_sizes_of, kept_if, part_size_of, switch_size_of};
 
@@ -34,7 +35,8 @@ fn add_jump(over: u32, into: &mut Emitter) -> Result<(), NoMemory>
 
 /// Appends a `return`.
 fn emit_return(value: &Option<TExpr>, typed: &Typed, into: &mut Emitter) -> Result<(), NoMemory>
-    requires { length into.old + (returned_size typed.now value.now + 1) < 2 ^ 32 }
+    requires fields { OptionHasFieldCells value.now }
+    requires room { length into.old + (returned_size typed.now value.now + 1) < 2 ^ 32 }
     ensures grows { OnOk result
         (length into.new ≡ length into.old + (returned_size typed.now value.now + 1)) }
     ensures code { OnOk result (into.new ≡ into.old ++ return_code typed.now value.now (length into.old)) }
@@ -60,7 +62,8 @@ fn emit_for_test(
     typed: &Typed,
     into: &mut Emitter,
 ) -> Result<(), NoMemory>
-    requires { length into.old + for_test_size typed.now test.now < 2 ^ 32 }
+    requires fields { OptionHasFieldCells test.now }
+    requires room { length into.old + for_test_size typed.now test.now < 2 ^ 32 }
     ensures grows { OnOk result (length into.new ≡ length into.old + for_test_size typed.now test.now) }
     ensures code { OnOk result
         (into.new ≡ into.old ++ for_test_code typed.now test.now target (length into.old)) }
@@ -87,6 +90,7 @@ pub(crate) fn emit_stmt(
     exits: Exits,
     into: &mut Emitter,
 ) -> Result<(), NoMemory>
+    requires fields { StmtHasFieldCells s.now }
     requires room { length into.old + stmt_size typed.now s.now < 2 ^ 32 }
     ensures grows { OnOk result (length into.new ≡ length into.old + stmt_size typed.now s.now) }
     ensures code { OnOk result
@@ -227,7 +231,8 @@ pub(crate) fn emit_stmts(
     exits: Exits,
     into: &mut Emitter,
 ) -> Result<(), NoMemory>
-    requires { length into.old + sum_by (stmt_size typed.now) all.now < 2 ^ 32 }
+    requires fields { BodyHasFieldCells all.now }
+    requires room { length into.old + sum_by (stmt_size typed.now) all.now < 2 ^ 32 }
     ensures grows { OnOk result (length into.new ≡ length into.old + sum_by (stmt_size typed.now) all.now) }
     ensures code { OnOk result
         (into.new ≡ into.old ++ body_code typed.now (exits_of exits) all.now (length into.old)) }
@@ -248,7 +253,8 @@ fn emit_arms(
     exits: Exits,
     into: &mut Emitter,
 ) -> Result<(), NoMemory>
-    requires { length into.old + arms_size_of typed.now arms.now other < 2 ^ 32 }
+    requires fields { All ArmHasFieldCells arms.now }
+    requires room { length into.old + arms_size_of typed.now arms.now other < 2 ^ 32 }
     ensures grows { OnOk result
         (length into.new + other ≡ length into.old + arms_size_of typed.now arms.now other) }
     ensures code { OnOk result ((behind : ℕ → Listing) →
@@ -283,7 +289,8 @@ fn emit_part(
     exits: Exits,
     into: &mut Emitter,
 ) -> Result<(), NoMemory>
-    requires { length into.old + part_size_of typed.now part.now < 2 ^ 32 }
+    requires fields { IfSome part.now StmtHasFieldCells }
+    requires room { length into.old + part_size_of typed.now part.now < 2 ^ 32 }
     ensures grows { OnOk result (length into.new ≡ length into.old + part_size_of typed.now part.now) }
     ensures code { OnOk result
         (into.new ≡ into.old ++ part_code_of typed.now (exits_of exits) part.now (length into.old)) }
@@ -306,7 +313,8 @@ fn emit_switch(
     exits: Exits,
     into: &mut Emitter,
 ) -> Result<(), NoMemory>
-    requires { length into.old + switch_size_of typed.now groups.now < 2 ^ 32 }
+    requires fields { All GroupHasFieldCells groups.now }
+    requires room { length into.old + switch_size_of typed.now groups.now < 2 ^ 32 }
     ensures grows { OnOk result (length into.new ≡ length into.old + switch_size_of typed.now groups.now) }
     ensures code { OnOk result (into.new ≡ into.old
         ++ switch_code_of typed.now (exits_of exits) groups.now (length into.old)) }
@@ -332,7 +340,8 @@ fn emit_groups(
     exits: Exits,
     into: &mut Emitter,
 ) -> Result<(), NoMemory>
-    requires { length into.old + sum (group_sizes_of typed.now groups.now) < 2 ^ 32 }
+    requires fields { All GroupHasFieldCells groups.now }
+    requires room { length into.old + sum (group_sizes_of typed.now groups.now) < 2 ^ 32 }
     ensures grows { OnOk result
         (length into.new ≡ length into.old + sum (group_sizes_of typed.now groups.now)) }
     ensures code { OnOk result
@@ -354,7 +363,8 @@ fn emit_group(
     exits: Exits,
     into: &mut Emitter,
 ) -> Result<(), NoMemory>
-    requires { length into.old + sum_by (stmt_size typed.now) (kept_if last all.now) < 2 ^ 32 }
+    requires fields { BodyHasFieldCells all.now }
+    requires room { length into.old + sum_by (stmt_size typed.now) (kept_if last all.now) < 2 ^ 32 }
     ensures grows { OnOk result
         (length into.new ≡ length into.old + sum_by (stmt_size typed.now) (kept_if last all.now)) }
     ensures code { OnOk result

@@ -1,11 +1,13 @@
 -- The pieces of each expression's code, one behind the other.
-use Rattle.std.proofs.Common.{◌<◌, length, ap, ◌∙◌, rules, arith}
-use Rattle.std.specs.Prelude.{sum_by}
+use Rattle.std.proofs.Common.{◌<◌, length, ap, sym, subst, ◌∙◌, rules, arith}
+use Rattle.std.specs.Prelude.{sum_by, All}
 use Rattle.std.proofs.lemmas.List.Sums.{sum_by-drop_more}
 use Rattle.typed_tree.specs.declared.expression.TExpr.{the_lemmas}
 use Rattle.typed_tree.specs.Size.{value_size}
 use Rattle.gen_expr.proofs.Emitted.{store_emitted, update_emitted, unary_emitted, binary_emitted, both_emitted, either_emitted, choice_emitted, convert_emitted, call_emitted, index_some, binary_size, store_size, value_some, values_next}
 use Rattle.code_size.proofs.Rows.{call_size}
+use Rattle.gen_expr.specs.Fields.{HasFieldCells}
+use Rattle.gen_expr.proofs.Fields.{call_fields}
 use Rattle.gen_expr.proofs.expression.+expression.Goals as goal
 
 pub emit_value-overflow_add-inner-in-Store : goal.emit_value-overflow_add-inner-in-Store
@@ -23,7 +25,8 @@ pub emit_value-emit_values-requires : goal.emit_value-emit_values-requires
 emit_value-emit_values-requires t c =
     let size = call_size c.args.typed.now c.args.e.now c.in-Call.function c.in-Call.args c.in-Call.is in
     let same = ap (sum_by (value_size c.args.typed.now)) c.as_slice.ensures in
-    (search (rules, the_lemmas, c.in-Call.is, c.as_slice.ensures), (omega (arith, size, same, c.requires.room), omega (arith, size, same, c.requires.depth)))
+    let fields = subst (All HasFieldCells) (sym c.as_slice.ensures) (call_fields c.args.e.now c.in-Call.function c.in-Call.args c.in-Call.is c.requires.fields) in
+    (search (rules, the_lemmas, c.in-Call.is, c.as_slice.ensures), (fields, (omega (arith, size, same, c.requires.room), omega (arith, size, same, c.requires.depth))))
 
 pub emit_value-returns-in_ok-add-in-Store-clause-code : goal.emit_value-returns-in_ok-add-in-Store-clause-code
 emit_value-returns-in_ok-add-in-Store-clause-code t c =

@@ -1,11 +1,23 @@
 -- The code and the tables of all procedures.
-use Rattle.std.proofs.Common.{◌≡◌, length, ap, ◌∙◌, arith, rules}
-use Rattle.std.specs.Prelude.{map}
+use Rattle.std.proofs.Common.{◌≡◌, length, sym, subst, ap, ◌∙◌, arith, rules}
+use Rattle.std.specs.Prelude.{All, map}
+use Rattle.typed_tree.specs.declared.program.TFun.{TFun}
+use Rattle.typed_tree.specs.declared.program.THandler.{THandler}
 use Rattle.code_listing.specs.Program.{handler_table, program_code}
+use Rattle.gen_stmt.specs.Inside.Fields.{BodyHasFieldCells}
 use Rattle.gen_stmt.proofs.Emitted.{program_emitted, table_made}
 use Rattle.gen_stmt.proofs.Nonempty.{functions_count}
+use Rattle.gen_stmt.proofs.SoundFields.{functions_fields, handlers_fields}
 use Rattle.gen_stmt.proofs.Steps.{entries_count}
 use Rattle.gen_stmt.proofs.program.make_code.Goals as goal
+
+pub add_functions-requires-clause-fields : goal.add_functions-requires-clause-fields
+add_functions-requires-clause-fields c =
+    subst (All (λ (function : TFun). BodyHasFieldCells function.body)) (sym c.as_slice.ensures) (functions_fields c.args.typed.now c.requires.sound)
+
+pub add_handlers-requires-clause-fields : goal.add_handlers-requires-clause-fields
+add_handlers-requires-clause-fields c =
+    subst (All (λ (handler : THandler). BodyHasFieldCells handler.body)) (sym c.as_slice-events.ensures) (handlers_fields c.args.typed.now c.requires.sound)
 
 pub add_handlers-requires-clause-few : goal.add_handlers-requires-clause-few
 add_handlers-requires-clause-few c =

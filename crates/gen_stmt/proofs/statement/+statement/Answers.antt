@@ -1,13 +1,15 @@
 -- The pieces of each statement's code, one behind the other.
-use Rattle.std.proofs.Common.{◌≡◌, ◌+◌, ◌++◌, length, sym, ap, ◌∙◌, rules, arith}
-use Rattle.std.specs.Prelude.{sum_by}
+use Rattle.std.proofs.Common.{◌≡◌, ◌+◌, ◌++◌, length, sym, subst, ap, ◌∙◌, rules, arith}
+use Rattle.std.specs.Prelude.{All, sum_by}
 use Rattle.typed_tree.specs.declared.statement.TStmt.{the_lemmas}
 use Rattle.typed_tree.specs.Size.{jump_size, stmt_size, value_size}
 use Rattle.code_listing.specs.Program.{body_code}
 use Rattle.gen_stmt.specs.Inside.Exits.{exits_of}
+use Rattle.gen_stmt.specs.Inside.Fields.{ArmHasFieldCells, BodyHasFieldCells, GroupHasFieldCells}
 use Rattle.gen_stmt.specs.Inside.Rows.{arms_code_of, part_code_of}
 use Rattle.code_size.specs.Rows.{arms_size_of, group_sizes_of, labels_of_groups, part_size_of, switch_size_of}
 use Rattle.gen_stmt.proofs.Emitted.{for_emitted, switch_emitted, while_emitted}
+use Rattle.gen_stmt.proofs.Fields.{block_fields, if_fields, switch_fields}
 use Rattle.gen_stmt.proofs.Rows.{block_code, if_code}
 use Rattle.code_size.proofs.Rows.{block_size, if_size, switch_size}
 use Rattle.gen_stmt.proofs.Steps.{before_default_le, values_count}
@@ -16,31 +18,36 @@ use Rattle.gen_stmt.proofs.statement.+statement.Goals as goal
 
 pub emit_stmt-emit_stmts-requires : goal.emit_stmt-emit_stmts-requires
 emit_stmt-emit_stmts-requires t c =
-    (search (rules, the_lemmas, c.in-Block.is, c.as_slice.ensures), omega (arith, block_size c.args.typed.now c.args.s.now c.in-Block.all c.in-Block.is, ap (sum_by (stmt_size c.args.typed.now)) c.as_slice.ensures, c.requires))
+    let fields = subst BodyHasFieldCells (sym c.as_slice.ensures) (block_fields c.args.s.now c.in-Block.all c.in-Block.is c.requires.fields) in
+    (search (rules, the_lemmas, c.in-Block.is, c.as_slice.ensures), (fields, omega (arith, block_size c.args.typed.now c.args.s.now c.in-Block.all c.in-Block.is, ap (sum_by (stmt_size c.args.typed.now)) c.as_slice.ensures, c.requires.room)))
 
 pub emit_stmt-part_size-size-requires : goal.emit_stmt-part_size-size-requires
 emit_stmt-part_size-size-requires t c =
-    omega (arith, if_size c.args.typed.now c.args.s.now c.in-If.arms c.in-If.other c.in-If.is, arms_other c.args.typed.now c.in-If.arms (part_size_of c.args.typed.now c.in-If.other), c.requires)
+    omega (arith, if_size c.args.typed.now c.args.s.now c.in-If.arms c.in-If.other c.in-If.is, arms_other c.args.typed.now c.in-If.arms (part_size_of c.args.typed.now c.in-If.other), c.requires.room)
 
 pub emit_stmt-emit_arms-requires : goal.emit_stmt-emit_arms-requires
 emit_stmt-emit_arms-requires t c =
     let typed = c.args.typed.now in
     let arms = ap (λ l. arms_size_of typed l c.part_size-size.result) c.as_slice-in-If.ensures in
     let other = ap (arms_size_of typed c.in-If.arms) c.part_size-size.ensures in
-    (search (rules, the_lemmas, c.in-If.is, c.as_slice-in-If.ensures), omega (arith, if_size typed c.args.s.now c.in-If.arms c.in-If.other c.in-If.is, arms, other, c.requires))
+    let fields = if_fields c.args.s.now c.in-If.arms c.in-If.other c.in-If.is c.requires.fields in
+    (search (rules, the_lemmas, c.in-If.is, c.as_slice-in-If.ensures), (subst (All ArmHasFieldCells) (sym c.as_slice-in-If.ensures) fields.0, omega (arith, if_size typed c.args.s.now c.in-If.arms c.in-If.other c.in-If.is, arms, other, c.requires.room)))
 
 pub emit_stmt-emit_part-requires : goal.emit_stmt-emit_part-requires
 emit_stmt-emit_part-requires t c =
     let typed = c.args.typed.now in
     let arms = ap (λ l. arms_size_of typed l c.part_size-size.result) c.as_slice-in-If.ensures in
     let other = ap (arms_size_of typed c.in-If.arms) c.part_size-size.ensures in
-    (search (rules, the_lemmas, c.in-If.is), omega (arith, if_size typed c.args.s.now c.in-If.arms c.in-If.other c.in-If.is, arms, other, c.part_size-size.ensures, c.in_ok-emit_arms-in-If.ensures.grows, c.requires))
+    let fields = if_fields c.args.s.now c.in-If.arms c.in-If.other c.in-If.is c.requires.fields in
+    (search (rules, the_lemmas, c.in-If.is), (fields.1, omega (arith, if_size typed c.args.s.now c.in-If.arms c.in-If.other c.in-If.is, arms, other, c.part_size-size.ensures, c.in_ok-emit_arms-in-If.ensures.grows, c.requires.room)))
 
 pub emit_stmt-emit_switch-requires : goal.emit_stmt-emit_switch-requires
 emit_stmt-emit_switch-requires t c =
     let typed = c.args.typed.now in
     let size = switch_size typed c.args.s.now c.in-Switch.on c.in-Switch.groups c.in-Switch.is in
-    (search (rules, the_lemmas, c.in-Switch.is, c.as_slice-in-Switch.ensures), omega (arith, size, ap (switch_size_of typed) c.as_slice-in-Switch.ensures, c.in_ok-emit-in-Switch.ensures.grows, c.requires))
+    let fields = switch_fields c.args.s.now c.in-Switch.on c.in-Switch.groups c.in-Switch.is c.requires.fields in
+    let groups = subst (All GroupHasFieldCells) (sym c.as_slice-in-Switch.ensures) fields.1 in
+    (search (rules, the_lemmas, c.in-Switch.is, c.as_slice-in-Switch.ensures), (groups, omega (arith, size, ap (switch_size_of typed) c.as_slice-in-Switch.ensures, c.in_ok-emit-in-Switch.ensures.grows, c.requires.room)))
 
 pub emit_stmt-overflow_cast-len : goal.emit_stmt-overflow_cast-len
 emit_stmt-overflow_cast-len t c =
@@ -133,4 +140,4 @@ pub emit_switch-add_jump-requires : goal.emit_switch-add_jump-requires
 emit_switch-add_jump-requires t c =
     let over = c.switch_sizes-sizes.ensures.over in
     let groups = c.args.groups.now in
-    omega (arith, over, ap jump_size over, before_default_le (labels_of_groups groups) (group_sizes_of c.args.typed.now groups), c.in_ok-add_cases.ensures.grows, c.in_ok-add.ensures.grows, c.requires)
+    omega (arith, over, ap jump_size over, before_default_le (labels_of_groups groups) (group_sizes_of c.args.typed.now groups), c.in_ok-add_cases.ensures.grows, c.in_ok-add.ensures.grows, c.requires.room)
