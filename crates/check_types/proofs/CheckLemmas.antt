@@ -1,5 +1,6 @@
 -- What is known of a program by the names that were built of it.
-use Rattle.std.proofs.Common.{◌≡◌, ◌<◌, ◌≤◌, ◌∙◌, ℕ, List, [], Option, None, Some, ap, subst, sym}
+use Rattle.std.proofs.Common.{◌≡◌, ◌≢◌, ◌<◌, ◌≤◌, ◌^◌, ◌++◌, ◌∙◌, ℕ, List, [], Option, None, Some, ap, length, subst, sym}
+use Rattle.std.specs.Prelude.{AllPairs}
 use Rattle.std.specs.Option.{IfSome}
 use Rattle.dbc_reader.specs.declared.message.DbcMessage.{DbcMessage}
 use Rattle.capl_tree.specs.declared.file.Program.{Program}
@@ -8,11 +9,12 @@ use Rattle.typed_tree.specs.Sound.{IsSound}
 use Rattle.capl_meaning.specs.declared.offence.Offence.{Offence}
 use Rattle.capl_meaning.specs.Names.{Names, names_of}
 use Rattle.capl_meaning.specs.Offences.{IsFirstOffence, offences_of}
+use Rattle.capl_meaning.specs.Procedure.{handlers_of}
 use Rattle.typed_laws.specs.Laid.{AreDistinct}
 use Rattle.typed_laws.proofs.Distinct.{distinct_without_offences}
 use Rattle.capl_meaning.specs.Size.{cells_of_program}
-use Rattle.sound_programs.specs.Given.{IsReadable}
-use Rattle.typed_source.specs.Program.{HasEach, HasNoOther, IsGoodOrder, typed_program}
+use Rattle.sound_programs.specs.Given.{HasShortLists, IsReadable}
+use Rattle.typed_source.specs.Program.{HasEach, HasNoOther, IsGoodOrder, formats_of_functions, formats_of_handlers, typed_program}
 use Rattle.check_calls.specs.declared.calls.Calls.{Calls}
 use Rattle.check_calls.specs.Calls.{AreCallsOf, GoForward, order_of}
 use Rattle.type_expressions.specs.declared.layout.Layout.{Layout}
@@ -69,6 +71,16 @@ laid_out names layout laid is out = subst (IsLaidOut names) is out
 pub cells_few : (base : List DbcMessage) (program : Program) (names : Names) → names ≡ names_of base program →
     size_in names names.variables ≤ 1000000 → cells_of_program base program ≤ 1000000
 cells_few base program names built few = subst (λ (n : Names). size_in n n.variables ≤ 1000000) built few
+
+-- few formats
+pub formats_few : (base : List DbcMessage) (program : Program) (names : Names) (calls : Calls) → names ≡ names_of base program →
+    AreCallsOf names calls →
+    ((order : List ℕ) (line : ℕ → ℕ → ℕ) → HasNoOther (names_of base program) order → AllPairs (λ one other. one ≢ other) order →
+    HasShortLists (typed_program base program order line)) →
+    length (formats_of_functions names (order_of calls) ++ formats_of_handlers (handlers_of names program)) < 2 ^ 32
+formats_few base program names calls built are short =
+    subst (λ (n : Names). length (formats_of_functions n (order_of calls) ++ formats_of_handlers (handlers_of n program)) < 2 ^ 32) (sym built)
+    (short (order_of calls) (λ file token. 0) (subst (λ (n : Names). HasNoOther n (order_of calls)) built are.has_no_other) are.once).formats
 
 -- functions stand behind those that they call
 pub good_calls : (base : List DbcMessage) (program : Program) (names : Names) (calls : Calls) → names ≡ names_of base program →

@@ -1,4 +1,6 @@
 -- The lemmas of this crate.
 mod CheckLemmas
+mod IdentifierLemmas
 mod MadeLemmas
 mod NameLemmas
+mod RoomLemmas

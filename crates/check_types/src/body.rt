@@ -1,6 +1,6 @@
 // The bodies of procedures.
 
-ghost use Rattle.std.specs.Prelude.{◌≡◌, ◌++◌, IfOk, OnOk, length};
+ghost use Rattle.std.specs.Prelude.{◌≡◌, ◌<◌, ◌^◌, ◌++◌, IfOk, OnOk, length};
 ghost use Rattle.check_sorts.specs.Scope.{scope_in};
 ghost use Rattle.type_statements.specs.Tables.{AreTables, order_of};
 ghost use Rattle.typed_source.specs.Program.{body_of, formats_of_body};
@@ -22,7 +22,8 @@ pub(crate) fn make_body(
     formats: &mut Vec<Format>,
     body: &[Stmt],
 ) -> Result<Items<TStmt>, NoMemory>
-    requires { AreTables scope.names.now tables.now }
+    requires tables { AreTables scope.names.now tables.now }
+    requires room { length (formats.old.items ++ formats_of_body (scope_in scope) body.now) < 2 ^ 32 }
     ensures trees { IfOk result (λ trees. trees ≡
         body_of (scope_in scope.entry) (order_of tables.now) (length formats.old.items) body.now) }
     ensures formats { OnOk result (formats.new.items ≡

@@ -2,6 +2,7 @@
 
 ghost use Rattle.std.specs.Prelude.{◌≡◌, ◌<◌, ◌^◌, IfErr, IfOk, map};
 ghost use Rattle.capl_tree.specs.Weight.{weight};
+ghost use Rattle.check_names.specs.Few.{IsFew};
 ghost use Rattle.check_names.specs.Names.{messages_of};
 ghost use Rattle.sound_programs.specs.Given.{IsReadable};
 ghost use Rattle.typed_tree.specs.Sound.{IsSound};
@@ -19,7 +20,8 @@ use check_sorts::Constants;
 use check_statements::first_offence;
 use dbc_reader::Database;
 use sound_programs::laws::{
-    functions_do_not_reach_their_callers, programs_without_offences_are_sound,
+    functions_do_not_reach_their_callers, light_programs_have_short_lists,
+    programs_without_offences_are_sound,
 };
 use std::alloc::Global;
 use texts::NoMemory;
@@ -50,8 +52,7 @@ impl From<NoMemory> for CheckRefusal {
 }
 
 /// The typed program of a program with a database, if it has one, where these are the lines of the tokens of
-/// its files, in program order. It is sound where the program is readable and weighs less than 2^35, as each
-/// program of parsed files does.
+/// its files, in program order. It is sound where the program is readable, as that of parsed files is.
 ///
 /// # Errors
 ///
@@ -63,10 +64,12 @@ pub fn check(
     lines: &[Vec<u32>],
     base: Option<&Database>,
 ) -> Result<Typed, CheckRefusal>
+    requires few { IsFew program.now }
+    // A program of parsed files is as light as that, so that each format has a number of 32 bits.
+    requires light { weight program.now < 2 ^ 35 }
     ensures typed { let rows = map (λ row. row.items) lines.now in
         IfOk result (IsTypedOf (messages_of base.entry) program.now rows) }
-    // A program of parsed files is readable and as light as that.
-    ensures sound { IsReadable program.now → weight program.now < 2 ^ 35 → IfOk result IsSound }
+    ensures sound { IsReadable program.now → IfOk result IsSound }
     ensures refused { IfErr result (IsRefusalOf (messages_of base.entry) program.now) }
 {
     let names = Names::build(alloc, program, base)?;
@@ -90,6 +93,7 @@ pub fn check(
         lines,
         tables: &tables,
     };
+    light_programs_have_short_lists();
     let typed = make_program(alloc, program, &source)?;
     // The compiler asks for a sound typed program; that of a program without offences is one.
     orders_are_good();

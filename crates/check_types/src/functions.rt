@@ -1,6 +1,6 @@
 // The functions of a typed program.
 
-ghost use Rattle.std.specs.Prelude.{◌≡◌, ◌++◌, IfOk, OnOk, Some, length};
+ghost use Rattle.std.specs.Prelude.{◌≡◌, ◌<◌, ◌^◌, ◌++◌, IfOk, OnOk, Some, length};
 ghost use Rattle.capl_meaning.specs.Calls.{function_numbered};
 ghost use Rattle.capl_meaning.specs.Names.{inside_function};
 ghost use Rattle.capl_meaning.specs.Variable.{variable_of_parameter};
@@ -73,6 +73,8 @@ fn make_function(
     requires tables { AreTables names.now tables.now }
     requires plain { ArePlain names.now }
     requires listed { function_numbered names.now function.now.number ≡ Some (function_in function.now) }
+    requires room { length (formats.old.items
+        ++ formats_of_function names.now (Some (function_in function.now))) < 2 ^ 32 }
     ensures tree { IfOk result (λ tree. tree ≡ function_of names.now (order_of tables.now)
         (length formats.old.items) (Some (function_in function.now))) }
     ensures formats { OnOk result (formats.new.items ≡
@@ -104,6 +106,8 @@ pub(crate) fn make_functions(
 ) -> Result<Items<TFun>, NoMemory>
     requires tables { AreTables names.now tables.now }
     requires plain { ArePlain names.now }
+    requires room { let order = order_of tables.now in
+        length (formats.old.items ++ formats_of_functions names.now order) < 2 ^ 32 }
     ensures trees { IfOk result (λ trees. trees ≡ functions_of names.now (order_of tables.now)
         (length formats.old.items) (order_of tables.now)) }
     ensures formats { OnOk result (formats.new.items ≡

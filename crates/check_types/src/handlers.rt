@@ -1,6 +1,6 @@
 // The event procedures of a typed program.
 
-ghost use Rattle.std.specs.Prelude.{◌≡◌, ◌++◌, IfOk, OnOk, flat_map, length, map};
+ghost use Rattle.std.specs.Prelude.{◌≡◌, ◌<◌, ◌^◌, ◌++◌, IfOk, OnOk, flat_map, length, map};
 ghost use Rattle.std.specs.Option.{option_to_list};
 ghost use Rattle.capl_meaning.specs.Procedure.{handlers_of_part};
 ghost use Rattle.check_names.specs.Part.{part_in, parts_in};
@@ -53,7 +53,9 @@ fn make_handler(
     formats: &mut Vec<Format>,
     part: ProgramPart,
 ) -> Result<Option<THandler>, NoMemory>
-    requires { AreTables source.now.names.now source.now.tables.now }
+    requires tables { AreTables source.now.names.now source.now.tables.now }
+    requires room { length (formats.old.items
+        ++ formats_of_handlers (handlers_of_part source.now.names.now (part_in part))) < 2 ^ 32 }
     ensures trees { IfOk result (λ handler. option_to_list handler ≡
         typed_handlers (order_of source.now.tables.now) (line_in (lines_of source.now))
         (length formats.old.items) (handlers_of_part source.now.names.now (part_in part.entry))) }
@@ -110,7 +112,9 @@ pub(crate) fn make_handlers(
     formats: &mut Vec<Format>,
     parts: &[ProgramPart],
 ) -> Result<Items<THandler>, NoMemory>
-    requires { AreTables source.now.names.now source.now.tables.now }
+    requires tables { AreTables source.now.names.now source.now.tables.now }
+    requires room { let handlers = flat_map (handlers_of_part source.now.names.now) (parts_in parts.now) in
+        length (formats.old.items ++ formats_of_handlers handlers) < 2 ^ 32 }
     ensures trees { IfOk result (λ handlers. handlers ≡
         typed_handlers (order_of source.now.tables.now) (line_in (lines_of source.now))
         (length formats.old.items) (flat_map (handlers_of_part source.now.names.now) (parts_in parts.now))) }

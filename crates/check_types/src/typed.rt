@@ -1,11 +1,14 @@
 // The typed program of a program.
 
-ghost use Rattle.std.specs.Prelude.{◌≡◌, IfOk};
+ghost use Rattle.std.specs.Prelude.{◌≡◌, ◌<◌, ◌^◌, ◌++◌, [], IfOk, length};
 ghost use Rattle.capl_meaning.specs.Names.{names_of};
+ghost use Rattle.check_names.specs.Few.{IsFew};
+ghost use Rattle.capl_meaning.specs.Offences.{offences_of};
+ghost use Rattle.capl_meaning.specs.Procedure.{handlers_of};
 ghost use Rattle.check_types.specs.Lines.{line_in};
 ghost use Rattle.check_types.specs.Handlers.{lines_of};
 ghost use Rattle.type_statements.specs.Tables.{AreTables, order_of};
-ghost use Rattle.typed_source.specs.Program.{typed_program};
+ghost use Rattle.typed_source.specs.Program.{formats_of_functions, formats_of_handlers, typed_program};
 
 use crate::functions::make_functions;
 use crate::handlers::{Source, make_handlers};
@@ -18,14 +21,19 @@ use type_expressions::{cell_kinds, timer_units};
 use type_starts::first_values;
 use typed_tree::Typed;
 
-/// The typed program of a program, by what it declares.
+/// The typed program of a program that breaks no rule, by what it declares.
 pub(crate) fn make_program(
     alloc: Global,
     program: &Program,
     source: &Source,
 ) -> Result<Typed, NoMemory>
     requires names { source.now.names.now ≡ names_of source.now.names.now.base program.now }
+    requires no_offence { offences_of source.now.names.now.base program.now ≡ [] }
     requires tables { AreTables source.now.names.now source.now.tables.now }
+    requires few { IsFew program.now }
+    requires few_formats { let names = source.now.names.now in length (
+        formats_of_functions names (order_of source.now.tables.now)
+        ++ formats_of_handlers (handlers_of names program.now)) < 2 ^ 32 }
     ensures { IfOk result (λ typed. typed ≡ typed_program source.now.names.now.base program.now
         (order_of source.now.tables.now) (line_in (lines_of source.now))) }
 {

@@ -1,37 +1,18 @@
 // What checking short sources gives.
 
-use capl_lexer::lex;
-use capl_parser::parse;
-use capl_tree::Program;
+use capl_tree::weight_of;
 use check_types::{CheckRefusal, check};
-use items::Items;
+use parser_tests::sources::program;
 use std::alloc::Global;
 use std::test::Fail;
 use typed_tree::Typed;
 
-/// The program of one file.
-fn program(alloc: Global, source: &str) -> Result<Program, Fail> {
-    let text = source.as_bytes();
-    if text.len() > 1_000 {
-        return Err(Fail::new("long text"));
-    }
-    let Ok(tokens) = lex(alloc, text) else {
-        return Err(Fail::new("no tokens"));
-    };
-    if tokens.len() > 1_000 {
-        return Err(Fail::new("long"));
-    }
-    match parse(alloc, &tokens) {
-        Ok(tree) => Ok(Program {
-            files: Items::from_list(vec![in alloc; tree]?),
-        }),
-        Err(_) => Err(Fail::new("no tree")),
-    }
-}
-
 /// What checking a source gives, where each token of it stands on line 7.
 fn checked(alloc: Global, source: &str) -> Result<Result<Typed, CheckRefusal>, Fail> {
     let program = program(alloc, source)?;
+    if weight_of(&program) > 1_000_000 {
+        return Err(Fail::new("heavy"));
+    }
     let row = vec![in alloc; 7u32; 200]?;
     let lines = vec![in alloc; row]?;
     Ok(check(alloc, &program, lines.as_slice(), None))

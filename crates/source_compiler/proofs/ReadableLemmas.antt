@@ -1,4 +1,4 @@
--- The program of files is readable and light.
+-- The program of files is readable and light, and declares few.
 use Rattle.std.proofs.Common.{◌≡◌, ◌+◌, ◌*◌, ◌≤◌, ◌<◌, ◌^◌, ℕ, List, [], ◌∷◌, length, map, All, refl, arith}
 use Rattle.std.specs.Prelude.{sum_by}
 use Rattle.std.specs.List.{AllZip}
@@ -6,6 +6,7 @@ use Rattle.std.proofs.lemmas.List.{length-map}
 use Rattle.std.proofs.lemmas.List.Elements.{All-cons, All-nil, All-head, All-tail, recursion_from_All}
 use Rattle.std.proofs.lemmas.List.Sums.{sum_by-cons}
 use Rattle.capl_include.specs.Answer.{token_count}
+use Rattle.capl_include.specs.Expansion.{file_limit}
 use Rattle.capl_include.specs.Text.{AreOfTexts, IsOfText}
 use Rattle.capl_include.specs.declared.expanded.SourceFile.{SourceFile}
 use Rattle.capl_lexer.specs.Reading.{IsReading, token_limit}
@@ -16,6 +17,9 @@ use Rattle.capl_tree.specs.Tree.{IsTreeOf}
 use Rattle.capl_tree.specs.Weight.{weight}
 use Rattle.capl_tree.specs.declared.file.FileTree.{FileTree}
 use Rattle.capl_tree.specs.declared.file.Program.{Program}
+use Rattle.dbc_reader.specs.declared.message.DbcMessage.{DbcMessage}
+use Rattle.capl_meaning.specs.Variable.{parts_of, variables_of}
+use Rattle.check_names.specs.Few.{IsFew}
 use Rattle.sound_programs.specs.Given.{IsReadable}
 use Rattle.sound_programs.specs.Small.{IsShortList}
 use Rattle.small_trees.specs.Tokens.{AreBytes, AreSmallToks, IsSmallText}
@@ -65,3 +69,20 @@ pub files_light : ((texts : List (List Tok)) (p : Program) → AllZip IsTreeOf t
 files_light law files program trees few =
     let most = law (texts_of files) program (text_trees files program.files trees) in
     omega (arith, most, few, texts_counted files)
+
+-- the program declares few
+pub files_few : ((texts : List (List Tok)) (p : Program) → AllZip IsTreeOf texts p.files → length p.files ≡ length texts) →
+    ((texts : List (List Tok)) (p : Program) → AllZip IsTreeOf texts p.files → length (parts_of p) ≤ sum_by length texts) →
+    ((texts : List (List Tok)) (base : List DbcMessage) (p : Program) → AllZip IsTreeOf texts p.files →
+    length (variables_of base p) ≤ sum_by length texts) →
+    (files : List SourceFile) (program : Program) → AreTreesOf files program → length files ≤ file_limit →
+    token_count files ≤ token_limit → IsFew program
+files_few counted parts variables files program trees few_files few =
+    let texts = texts_of files in
+    let are = text_trees files program.files trees in
+    let many : length texts ≡ length files = length-map files (λ (file : SourceFile). toks file.tokens) in
+    record {
+      files = omega (arith, counted texts program are, many, few_files);
+      parts = omega (arith, parts texts program are, few, texts_counted files);
+      variables = λ base. omega (arith, variables texts base program are, few, texts_counted files);
+    }

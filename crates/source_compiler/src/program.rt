@@ -3,9 +3,11 @@
 ghost use Rattle.std.specs.Prelude.{◌≡◌, ◌≤◌, ◌<◌, ◌-◌, ◌^◌, ◌⊎◌, All, IfOk, length, map, slice_get};
 ghost use Rattle.capl_include.specs.Answer.{token_count};
 ghost use Rattle.capl_include.specs.Blame.{file_blame, source_rule};
+ghost use Rattle.capl_include.specs.Expansion.{file_limit};
 ghost use Rattle.capl_include.specs.Text.{AreOfTexts, IsOfText};
 ghost use Rattle.capl_lexer.specs.Reading.{token_limit};
 ghost use Rattle.capl_tree.specs.Weight.{weight};
+ghost use Rattle.check_names.specs.Few.{IsFew};
 ghost use Rattle.check_names.specs.Names.{messages_of};
 ghost use Rattle.check_types.specs.Accepted.{IsAccepted};
 ghost use Rattle.sound_programs.specs.Given.{IsReadable};
@@ -32,8 +34,8 @@ use gen_stmt::{CompileRefusal, cells_of, compile};
 use input_refusals::{InputRefusal, blamed_file, blamed_place};
 use items::Items;
 use small_trees::laws::{
-    programs_of_small_texts_are_readable, programs_weigh_eight_times_their_tokens,
-    tokens_of_texts_are_small,
+    programs_declare_no_more_than_their_tokens, programs_of_small_texts_are_readable,
+    programs_weigh_eight_times_their_tokens, tokens_of_texts_are_small,
 };
 use std::alloc::Global;
 use texts::{NoMemory, Text};
@@ -48,6 +50,7 @@ pub(crate) fn code_of(
     files: &[SourceFile],
     base: Option<&Database>,
 ) -> Result<Compiled, InputRefusal>
+    requires few_files { length files.now ≤ file_limit }
     requires few { token_count files.now ≤ token_limit }
     requires texts { AreOfTexts files.now }
     ensures { Judges (IsCompiled (messages_of base.entry) files.now)
@@ -58,6 +61,7 @@ pub(crate) fn code_of(
     tokens_of_texts_are_small();
     programs_of_small_texts_are_readable();
     programs_weigh_eight_times_their_tokens();
+    programs_declare_no_more_than_their_tokens();
     let typed = check_program(alloc, name, files, &program, base)?;
     code_is_within_the_weight();
     let code = compile_program(alloc, name, &program, &typed)?;
@@ -159,7 +163,7 @@ fn column_past(token: &Token) -> u32
     token.column + token.to.saturating_sub(token.from)
 }
 
-/// The typed program of these files, whose program is readable and not too heavy to be sound.
+/// The typed program of these files, whose program is readable, not too heavy to be sound, and declares few.
 fn check_program(
     alloc: Global,
     name: &Text,
@@ -169,6 +173,7 @@ fn check_program(
 ) -> Result<Typed, InputRefusal>
     requires readable { IsReadable program.now }
     requires light { weight program.now < 2 ^ 35 }
+    requires few { IsFew program.now }
     ensures { Judges (IsAccepted (messages_of base.entry) program.now (lines_of files.now))
         (λ blame. IsOffenceBlame (messages_of base.entry) files.now program.now blame
         ⊎ IsSizeBlame (messages_of base.entry) name.now program.now blame) result }

@@ -1,7 +1,8 @@
 // The source of a node.
 
-ghost use Rattle.std.specs.Prelude.{◌≡◌, ◌≤◌, IfOk, IfSome, IsErrOf};
+ghost use Rattle.std.specs.Prelude.{◌≡◌, ◌≤◌, IfOk, IfSome, IsErrOf, length};
 ghost use Rattle.capl_include.specs.Answer.{token_count};
+ghost use Rattle.capl_include.specs.Expansion.{file_limit};
 ghost use Rattle.capl_include.specs.Text.{AreOfTexts};
 ghost use Rattle.capl_lexer.specs.Reading.{token_limit};
 ghost use Rattle.check_names.specs.Names.{messages_of};
@@ -53,6 +54,7 @@ fn read_files<F: Files>(
 ) -> Result<Items<SourceFile>, InputRefusal>
     ensures told { IfSome (F.held files.old) (λ contents.
         Agrees (FilesAt contents name.now) (IsFilesBlame contents name.now) result) }
+    ensures few_files { IfOk result (λ sources. length sources ≤ file_limit) }
     ensures few { IfOk result (λ sources. token_count sources ≤ token_limit) }
     ensures texts { IfOk result (λ sources. AreOfTexts sources) }
     ensures failed { IsErrOf result InputRefusal.Failed → HasRisen (F.faults files.old) (F.faults files.new) }

@@ -1,11 +1,12 @@
 -- The first cells of variables, one behind the other.
 use Rattle.std.proofs.Common.{◌≡◌, ℕ, zero, suc, ◌+◌, ◌^◌, ◌<◌, ◌≤◌, List, [], ◌∷◌, ◌++◌, length, length-append, take, Option, Some, None, refl, sym, ap, ◌∙◌, append_assoc, arith, subst}
-use Rattle.std.specs.Prelude.{ℤ, pos, flat_map, map, slice_get, sum_by}
+use Rattle.std.specs.Prelude.{ℤ, pos, All, flat_map, map, slice_get, sum_by}
 use Rattle.std.specs.Option.{option_map_or}
 use Rattle.std.proofs.lemmas.List.{append-nil}
+use Rattle.std.proofs.lemmas.List.Elements.{All-get_or}
 use Rattle.std.proofs.lemmas.List.Sums.{sum_by-cons}
+use Rattle.std.proofs.lemmas.Option.{get_or_from_slice_get, slice_get_within}
 use Rattle.capl_tree.specs.declared.declaration.Init.{Init}
-use Rattle.dbc_reader.specs.declared.message.DbcMessage.{DbcMessage}
 use Rattle.capl_meaning.specs.Variable.{Array, Form, Message, MessageType, Misfit, Number, Timer, Variable}
 use Rattle.capl_meaning.specs.Names.{Names, Scope}
 use Rattle.capl_meaning.specs.Constant.{elements_of, scope_of}
@@ -15,6 +16,7 @@ use Rattle.capl_meaning.specs.Store.{MessageRecord, message_cells, row}
 use Rattle.typed_laws.specs.Laid.{cell_count, cells_by_form}
 use Rattle.typed_laws.proofs.Lists.{row_long, row_parts}
 use Rattle.type_starts.specs.declared.message.Message as held
+use Rattle.type_starts.specs.Identifier.{HasShortIdentifier, IsDeclaredShort}
 use Rattle.type_starts.specs.Message.{IsMessage}
 use Rattle.typed_laws.specs.Starts.{first_by_form, first_cells_of}
 
@@ -117,3 +119,17 @@ room_of names number cell form room v at is =
     subst (λ (f : Form). cell + cells_by_form (elements_of names v) f < 2 ^ 32)
     (sym (is ∙ ap (λ (o : Option Variable). option_map_or (λ v. v.form) o Misfit) (sym at)))
     (room v (sym at))
+
+-- what holds of all things holds of that of a number
+pub all_at : {X : Type 0} (Holds : X → Type 0) (xs : List X) (i : ℕ) (x : X) → All Holds xs → slice_get xs i ≡ Some x → Holds x
+all_at Holds xs i x all at = subst Holds (get_or_from_slice_get xs i x x at) (All-get_or Holds xs i x (slice_get_within xs i x at) all)
+
+-- the identifier of a message is that of its variable
+pub identifier_of : (names : Names) (number : ℕ) (type_ : MessageType) →
+    ((v : Variable) → slice_get names.variables number ≡ Some v → IsDeclaredShort v.form) →
+    (v : Variable) → Some v ≡ slice_get names.variables number →
+    Message type_ ≡ option_map_or (λ v. v.form) (slice_get names.variables number) Misfit →
+    HasShortIdentifier type_
+identifier_of names number type_ short v at is =
+    subst IsDeclaredShort (sym (is ∙ ap (λ (o : Option Variable). option_map_or (λ v. v.form) o Misfit) (sym at)))
+    (short v (sym at))

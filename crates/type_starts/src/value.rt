@@ -1,6 +1,6 @@
 // The first numbers of variables, elements and messages.
 
-ghost use Rattle.std.specs.Prelude.{◌≡◌, IfOk, fold, slice_get};
+ghost use Rattle.std.specs.Prelude.{◌≡◌, fold, slice_get};
 ghost use Rattle.std.specs.Option.{option_copied};
 ghost use Rattle.int_kinds.specs.Kind.{IsNumber};
 ghost use Rattle.capl_meaning.specs.Initial.{declared_message, first_element, first_message, items_of, number_at, number_of_item, number_of_text, with_field_item, with_item};
@@ -10,13 +10,13 @@ ghost use Rattle.capl_meaning.specs.Store.{MessageRecord};
 ghost use Rattle.check_sorts.specs.Constant.{AreConstantsOf};
 ghost use Rattle.check_sorts.specs.Form.{signals_in, type_in};
 ghost use Rattle.check_sorts.specs.Scope.{scope_in};
+ghost use Rattle.type_starts.specs.Identifier.{HasShortIdentifier};
 ghost use Rattle.type_starts.specs.Message.{IsMessage};
 
 use crate::message::{Message, with_bytes, with_member};
 use capl_tree::{Expr, Field, Init, Item};
 use check_sorts::{Constants, DeclaredSignals, MessageType, Scope, member_named, text_in};
 use int_kinds::{Kind, wrap};
-use texts::NoMemory;
 
 /// Where an initialiser stands.
 #[derive(Clone, Copy, Debug)]
@@ -113,23 +113,23 @@ fn signals_of_type(what: MessageType<'_>) -> DeclaredSignals<'_>
     }
 }
 
-/// A message as it is declared. An identifier above 2^64 - 1, which no message has, is refused as if
-/// there were no memory for it.
-fn declared_message(what: MessageType) -> Result<Message, NoMemory>
-    ensures { IfOk result (λ message. IsMessage message (declared_message (type_in what.entry))) }
+/// A message as it is declared.
+fn declared_message(what: MessageType) -> Message
+    requires { HasShortIdentifier (type_in what) }
+    ensures { IsMessage result (declared_message (type_in what.entry)) }
 {
     let (id, dlc) = match what {
-        MessageType::ByIdentifier(id) => (u64::try_from(id).map_err(|_| NoMemory)?, 8),
+        MessageType::ByIdentifier(id) => (id as u64, 8),
         MessageType::ByName(None) => (0, 8),
         MessageType::ByName(Some(message)) => (u64::from(message.id), u64::from(message.len)),
     };
-    Ok(Message {
+    Message {
         id,
         dlc,
         rtr: 0,
         can: 1,
         payload: [0; 8],
-    })
+    }
 }
 
 /// A message once a number is stored in a field, payload bytes or a signal.
@@ -191,15 +191,12 @@ fn items_of(init: Option<&Init>) -> &[Item]
 }
 
 /// The first value of a message.
-pub(crate) fn first_message(
-    spot: &Spot,
-    what: MessageType,
-    init: Option<&Init>,
-) -> Result<Message, NoMemory>
-    requires { AreConstantsOf spot.now.scope.names.now spot.now.constants.now }
-    ensures { IfOk result (λ message. IsMessage message (first_message (scope_in spot.now.scope)
-        spot.now.token (type_in what.entry) (option_copied init.entry))) }
+pub(crate) fn first_message(spot: &Spot, what: MessageType, init: Option<&Init>) -> Message
+    requires constants { AreConstantsOf spot.now.scope.names.now spot.now.constants.now }
+    requires identifier { HasShortIdentifier (type_in what) }
+    ensures { IsMessage result (first_message (scope_in spot.now.scope)
+        spot.now.token (type_in what.entry) (option_copied init.entry)) }
 {
-    let declared = declared_message(what)?;
-    Ok(with_items(spot, signals_of_type(what), items_of(init), declared))
+    let declared = declared_message(what);
+    with_items(spot, signals_of_type(what), items_of(init), declared)
 }

@@ -1,6 +1,6 @@
 // The first cells of variables.
 
-ghost use Rattle.std.specs.Prelude.{◌≡◌, ◌+◌, ◌<◌, ◌≤◌, ◌^◌, IfOk, List, OnOk, Some, slice_get, sum_by};
+ghost use Rattle.std.specs.Prelude.{◌≡◌, ◌+◌, ◌<◌, ◌≤◌, ◌^◌, All, IfOk, List, OnOk, Some, slice_get, sum_by};
 ghost use Rattle.std.specs.Option.{option_copied, option_map};
 ghost use Rattle.dbc_reader.specs.declared.message.DbcMessage.{DbcMessage};
 ghost use Rattle.capl_meaning.specs.Constant.{elements_of, scope_of};
@@ -14,6 +14,7 @@ ghost use Rattle.typed_source.specs.Program.{starts_from};
 ghost use Rattle.check_names.specs.Variable.{variable_in};
 ghost use Rattle.check_sorts.specs.Constant.{AreConstantsOf};
 ghost use Rattle.check_sorts.specs.Scope.{scope_in};
+ghost use Rattle.type_starts.specs.Identifier.{IsDeclaredShort};
 ghost use Rattle.type_starts.specs.Message.{IsMessage};
 ghost use Rattle.type_starts.specs.Starts.{Goes};
 
@@ -103,6 +104,8 @@ pub(crate) fn push_variable(
     number: u32,
 ) -> Result<(), NoMemory>
     requires constants { AreConstantsOf names.now constants.now }
+    requires identifier { (v : Variable) → slice_get names.now.variables number ≡ Some v →
+        IsDeclaredShort v.form }
     requires room { (v : Variable) → slice_get names.now.variables number ≡ Some v →
         starts.old.cell + cell_count names.now v < 2 ^ 32 }
     ensures { (v : Variable) → slice_get names.now.variables number ≡ Some v →
@@ -123,7 +126,7 @@ pub(crate) fn push_variable(
             push_elements(starts, &spot, kind, init, constants.elements(names, number))
         }
         Form::Message(what) => {
-            let message = first_message(&spot, what, init)?;
+            let message = first_message(&spot, what, init);
             push_message(starts, &message)
         }
         Form::Timer(_) | Form::Misfit => Ok(()),
@@ -131,7 +134,9 @@ pub(crate) fn push_variable(
 }
 
 /// What the cells of a program's variables hold at first, behind the cells of the event: the cells that do
-/// not begin with 0, each with its number. Takes time linear in the number of cells and the initialisers.
+/// not begin with 0, each with its number. The identifiers by which messages are declared are those of frames
+/// in a program without offences, and so are short. Takes time linear in the number of cells and the
+/// initialisers.
 pub fn first_values(
     alloc: Global,
     names: &Names,
@@ -139,6 +144,7 @@ pub fn first_values(
 ) -> Result<Vec<(u32, i128)>, NoMemory>
     requires constants { AreConstantsOf names.now constants.now }
     requires distinct { AreDistinct names.now.variables }
+    requires identifiers { All (λ v. IsDeclaredShort v.form) names.now.variables }
     requires few { sum_by (λ v. size_of_form (elements_of names.now v) v.form) names.now.variables ≤ 1000000 }
     ensures { IfOk result (λ starts. starts.items ≡ starts_from 15 (lay names.now (first_store names.now))) }
 {

@@ -1,6 +1,6 @@
 // Expressions that stand alone.
 
-ghost use Rattle.std.specs.Prelude.{◌≡◌, ◌++◌, IfOk, OnOk, length};
+ghost use Rattle.std.specs.Prelude.{◌≡◌, ◌<◌, ◌^◌, ◌++◌, IfOk, OnOk, length};
 ghost use Rattle.capl_meaning.specs.Names.{callee};
 ghost use Rattle.typed_source.specs.Expression.{expression_of};
 ghost use Rattle.typed_source.specs.Statement.{alone_of, formats_of_alone, formats_of_call, of_call_alone};
@@ -30,7 +30,9 @@ fn called(
     name: &[u8],
     args: &[Expr],
 ) -> Result<TStmt, NoMemory>
-    requires { AreTables scope.names.now tables.now }
+    requires tables { AreTables scope.names.now tables.now }
+    requires room { let s = scope_in scope in
+        length (formats.old.items ++ formats_of_call s (callee s.names name.now) args.now) < 2 ^ 32 }
     ensures tree { let s = scope_in scope.entry in IfOk result (λ tree.
         tree ≡ of_call_alone s (order_of tables.now) (length formats.old.items)
         (callee s.names name.now) args.now (Eval (expression_of s (order_of tables.now) e.now))) }
@@ -63,7 +65,8 @@ pub fn make_alone(
     formats: &mut Vec<Format>,
     e: &Expr,
 ) -> Result<TStmt, NoMemory>
-    requires { AreTables scope.names.now tables.now }
+    requires tables { AreTables scope.names.now tables.now }
+    requires room { length (formats.old.items ++ formats_of_alone (scope_in scope) e.now) < 2 ^ 32 }
     ensures tree { IfOk result (λ tree. tree ≡ alone_of (scope_in scope.entry) (order_of tables.now)
         (length formats.old.items) e.now) }
     ensures formats { OnOk result (formats.new.items

@@ -1,6 +1,6 @@
 // Statements.
 
-ghost use Rattle.std.specs.Prelude.{◌≡◌, ℕ, ◌+◌, ◌++◌, List, IfOk, OnOk, length};
+ghost use Rattle.std.specs.Prelude.{◌≡◌, ℕ, ◌+◌, ◌<◌, ◌^◌, ◌++◌, List, IfOk, OnOk, length};
 ghost use Rattle.std.specs.Option.{option_map};
 ghost use Rattle.capl_meaning.specs.Constant.{prefix_kind};
 ghost use Rattle.typed_tree.specs.declared.expression.TExpr.{TExpr};
@@ -33,7 +33,8 @@ fn make_part(
     formats: &mut Vec<Format>,
     part: &Option<Expr>,
 ) -> Result<Option<Boxed<TStmt>>, NoMemory>
-    requires { AreTables scope.names.now tables.now }
+    requires tables { AreTables scope.names.now tables.now }
+    requires room { length (formats.old.items ++ formats_of_part (scope_in scope) part.now) < 2 ^ 32 }
     ensures tree { IfOk result (λ made. made ≡ part_in (scope_in scope.entry) (order_of tables.now)
         (length formats.old.items) part.now) }
     ensures formats { OnOk result (formats.new.items
@@ -134,7 +135,9 @@ fn make_head(
     test: &Option<Expr>,
     step: &Option<Expr>,
 ) -> Result<Head, NoMemory>
-    requires { AreTables scope.names.now tables.now }
+    requires tables { AreTables scope.names.now tables.now }
+    requires room { let s = scope_in scope in
+        length ((formats.old.items ++ formats_of_part s init.now) ++ formats_of_part s step.now) < 2 ^ 32 }
     ensures init { IfOk result (λ head. head.init
         ≡ part_in (scope_in scope.entry) (order_of tables.now) (length formats.old.items) init.now) }
     ensures test { IfOk result (λ head. head.test
@@ -204,7 +207,8 @@ pub fn make_statement(
     formats: &mut Vec<Format>,
     s: &Stmt,
 ) -> Result<TStmt, NoMemory>
-    requires { AreTables scope.names.now tables.now }
+    requires tables { AreTables scope.names.now tables.now }
+    requires room { length (formats.old.items ++ formats_of (scope_in scope) s.now) < 2 ^ 32 }
     ensures tree { IfOk result (λ tree. tree ≡ statement_of (scope_in scope.entry) (order_of tables.now)
         (length formats.old.items) s.now) }
     ensures formats { OnOk result
@@ -268,7 +272,8 @@ pub fn make_body(
     formats: &mut Vec<Format>,
     statements: &[Stmt],
 ) -> Result<Items<TStmt>, NoMemory>
-    requires { AreTables scope.names.now tables.now }
+    requires tables { AreTables scope.names.now tables.now }
+    requires room { length (formats.old.items ++ formats_in (scope_in scope) statements.now) < 2 ^ 32 }
     ensures trees { IfOk result (λ made. made ≡ trees_in (scope_in scope.entry) (order_of tables.now)
         (length formats.old.items) statements.now) }
     ensures formats { OnOk result
@@ -291,7 +296,8 @@ fn make_arms(
     formats: &mut Vec<Format>,
     arms: &[Arm],
 ) -> Result<Items<TArm>, NoMemory>
-    requires { AreTables scope.names.now tables.now }
+    requires tables { AreTables scope.names.now tables.now }
+    requires room { length (formats.old.items ++ formats_in_arms (scope_in scope) arms.now) < 2 ^ 32 }
     ensures trees { IfOk result (λ made. made ≡ arms_in (scope_in scope.entry) (order_of tables.now)
         (length formats.old.items) arms.now) }
     ensures formats { OnOk result
@@ -318,7 +324,8 @@ fn make_else(
     formats: &mut Vec<Format>,
     other: &Option<Boxed<Stmt>>,
 ) -> Result<Option<Boxed<TStmt>>, NoMemory>
-    requires { AreTables scope.names.now tables.now }
+    requires tables { AreTables scope.names.now tables.now }
+    requires room { length (formats.old.items ++ formats_in_else (scope_in scope) other.now) < 2 ^ 32 }
     ensures tree { IfOk result (λ made. made ≡ else_in (scope_in scope.entry) (order_of tables.now)
         (length formats.old.items) other.now) }
     ensures formats { OnOk result
@@ -342,7 +349,8 @@ fn make_groups(
     kind: Kind,
     groups: &[Group],
 ) -> Result<Items<TGroup>, NoMemory>
-    requires { AreTables scope.names.now tables.now }
+    requires tables { AreTables scope.names.now tables.now }
+    requires room { length (formats.old.items ++ formats_in_groups (scope_in scope) groups.now) < 2 ^ 32 }
     ensures trees { IfOk result (λ made. made ≡ groups_in (scope_in scope.entry) (order_of tables.now) kind
         (length formats.old.items) groups.now) }
     ensures formats { OnOk result

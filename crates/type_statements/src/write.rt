@@ -1,6 +1,6 @@
 // Writes.
 
-ghost use Rattle.std.specs.Prelude.{◌≡◌, [], ◌∷◌, ◌++◌, IfOk, OnOk, length, map};
+ghost use Rattle.std.specs.Prelude.{◌≡◌, ◌<◌, ◌^◌, [], ◌∷◌, ◌++◌, IfOk, OnOk, length, map};
 ghost use Rattle.capl_meaning.specs.Format.{text_in};
 ghost use Rattle.capl_meaning.specs.Message.{array_in};
 ghost use Rattle.capl_meaning.specs.Sort.{sort_of};
@@ -151,7 +151,10 @@ pub(crate) fn make_write(
     format: &Expr,
     arguments: &[Expr],
 ) -> Result<TStmt, NoMemory>
-    requires { AreTables scope.names.now tables.now }
+    requires tables { AreTables scope.names.now tables.now }
+    requires room { let s = scope_in scope in length (formats.old.items
+        ++ formats_written s (text_written format.now)
+        (pieces_written s format.now arguments.now) arguments.now) < 2 ^ 32 }
     ensures tree { let s = scope_in scope.entry in IfOk result (λ tree.
         tree ≡ writing s (order_of tables.now) (length formats.old.items)
         (pieces_written s format.now arguments.now) arguments.now) }
@@ -166,8 +169,8 @@ pub(crate) fn make_write(
     if !shows_all(text, made.sorts.as_slice()) {
         return Ok(TStmt::Empty);
     }
-    let number = u32::try_from(formats.len()).map_err(|_| NoMemory)?;
     let read = read_format(alloc, text, made.kinds.as_slice())?;
+    let number = formats.len() as u32;
     formats.push(read)?;
     Ok(TStmt::Write {
         format: number,

@@ -1,7 +1,7 @@
 -- What is built of the program tells why it is refused or accepted.
 use Rattle.check_names.specs.Names.{messages_of}
 use Rattle.check_calls.specs.Calls.{order_of}
-use Rattle.check_types.proofs.CheckLemmas.{cells_few, distinct_names, first_refused, good_calls, laid_out, none_refused, of_own_base, too_large, typed_of, typed_sound}
+use Rattle.check_types.proofs.CheckLemmas.{cells_few, distinct_names, first_refused, formats_few, good_calls, laid_out, none_refused, of_own_base, too_large, typed_of, typed_sound}
 use Rattle.check_types.proofs.checking.check.Goals as goal
 
 pub first_offence-requires-clause-names : goal.first_offence-requires-clause-names
@@ -46,7 +46,7 @@ returns-clause-typed c =
     c.in_ok-calls.ensures c.in_ok-typed.ensures
 
 pub returns-clause-sound : goal.returns-clause-sound
-returns-clause-sound c = λ readable light.
+returns-clause-sound c = λ readable.
     let base = messages_of c.args.base in
     let program = c.args.program.now in
     let names = c.in_ok-names.names in
@@ -57,4 +57,14 @@ returns-clause-sound c = λ readable light.
     (good_calls base program names calls c.in_ok-names.ensures none c.in_ok-calls.ensures readable c.orders_are_good.ensures
     c.functions_do_not_reach_their_callers.ensures)
     (λ line good. c.programs_without_offences_are_sound.ensures base program (order_of calls) line readable
-    (none_refused base program names c.in_ok-names.ensures none) good (cells_few base program names c.in_ok-names.ensures few) light)
+    (none_refused base program names c.in_ok-names.ensures none) good (cells_few base program names c.in_ok-names.ensures few) c.requires.light)
+
+pub make_program-requires-clause-no_offence : goal.make_program-requires-clause-no_offence
+make_program-requires-clause-no_offence c = c.in_ok-offence.ensures.none c.in_default.is
+
+pub make_program-requires-clause-few_formats : goal.make_program-requires-clause-few_formats
+make_program-requires-clause-few_formats c =
+    let base = messages_of c.args.base in
+    let program = c.args.program.now in
+    formats_few base program c.in_ok-names.names c.in_ok-calls.calls c.in_ok-names.ensures c.in_ok-calls.ensures
+    (λ order line other once. c.light_programs_have_short_lists.ensures base program order line other once c.requires.light)

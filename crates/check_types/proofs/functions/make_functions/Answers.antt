@@ -1,5 +1,5 @@
 -- One more function.
-use Rattle.std.proofs.Common.{◌≡◌, ◌∙◌, ◌<◌, ℕ, ◌++◌, List, Some, ap, arith, subst, sym, length, get_or}
+use Rattle.std.proofs.Common.{◌≡◌, ◌∙◌, ◌<◌, ℕ, ◌++◌, List, Option, Some, ap, arith, subst, sym, length, get_or}
 use Rattle.capl_meaning.specs.Calls.{function_numbered}
 use Rattle.capl_meaning.specs.Names.{Function}
 use Rattle.check_names.specs.Function.{function_in}
@@ -7,6 +7,8 @@ use Rattle.type_statements.specs.Tables.{order_of}
 use Rattle.typed_source.specs.Program.{formats_of_function, function_of}
 use Rattle.check_types.proofs.MadeLemmas.{formats_more, functions_more, read_same}
 use Rattle.check_types.proofs.NameLemmas.{listed_is, ordered}
+use Rattle.check_types.proofs.RoomLemmas.{room_for_next}
+use Rattle.type_statements.proofs.RoomLemmas.{HaveNumbers}
 use Rattle.check_types.proofs.functions.make_functions.Goals as goal
 
 pub bounds-indices-at : goal.bounds-indices-at
@@ -64,3 +66,22 @@ loop-at-preserved c =
           number within (read_same order at within) is.formats
           (c.in_ok-tree.ensures.formats ∙ ap (λ o. before ++ formats_of_function names o) (sym named));
     }
+
+pub make_function-requires-clause-room : goal.make_function-requires-clause-room
+make_function-requires-clause-room c =
+    let names = c.args.names.now in
+    let order = order_of c.args.tables.now in
+    let at = c.loop-at.at in
+    let number = get_or order at 0 in
+    let within : at < length order = subst (λ (l : List ℕ). at < length l) c.order-order.ensures c.loop-at-test.true in
+    let found = ordered names c.args.tables.now.trees.calls.now c.functions-all.result.now at c.requires.tables.trees.calls c.functions-all.ensures within in
+    let place : get_or c.indices-indices.result.now at 0 ≡ found.place = ap (λ (l : List ℕ). get_or l at 0) c.indices-indices.ensures ∙ found.place_is in
+    let function : function_in c.index-all-indices.result ≡ found.function =
+    listed_is names c.functions-all.result.now found.place c.index-all-indices.result found.function c.functions-all.ensures found.inside
+    (c.index-all-indices.is ∙ ap (λ (i : ℕ). get_or c.functions-all.result.now i c.index-all-indices.result) place) found.there in
+    let named : function_numbered names number ≡ Some (function_in c.index-all-indices.result) =
+    ap (function_numbered names) (sym found.number_is) ∙ found.numbered ∙ ap (λ (f : Function). Some f) (sym function) in
+    let before = c.loop-at.formats.items in
+    subst (λ (o : Option Function). HaveNumbers (before ++ formats_of_function names o)) named
+    (room_for_next (λ (n : ℕ). formats_of_function names (function_numbered names n)) c.args.formats.now.items before order at number within
+    (read_same order at within) c.loop-at.invariant.formats c.requires.room)

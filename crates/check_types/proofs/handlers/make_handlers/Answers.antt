@@ -1,5 +1,5 @@
 -- One more part.
-use Rattle.std.proofs.Common.{◌∙◌, ◌++◌, List, ap, length, sym}
+use Rattle.std.proofs.Common.{◌∙◌, ◌++◌, List, ap, length, subst, sym}
 use Rattle.std.specs.Prelude.{flat_map}
 use Rattle.std.specs.Option.{option_to_list}
 use Rattle.std.proofs.lemmas.List.{take_all}
@@ -11,6 +11,8 @@ use Rattle.check_types.specs.Handlers.{lines_of}
 use Rattle.type_statements.specs.Tables.{order_of}
 use Rattle.typed_source.specs.Program.{formats_of_handlers, typed_handlers}
 use Rattle.check_types.proofs.MadeLemmas.{flat_map-map, handler_formats_more, handlers_more}
+use Rattle.check_types.proofs.RoomLemmas.{room_for_handlers}
+use Rattle.type_statements.proofs.RoomLemmas.{HaveNumbers}
 use Rattle.check_types.proofs.handlers.make_handlers.Goals as goal
 
 pub loop-part-preserved : goal.loop-part-preserved
@@ -52,3 +54,14 @@ returns-clause-formats c =
     ∙ ap (λ (hs : List Handler). c.args.formats.now.items ++ formats_of_handlers hs)
     (ap (flat_map of_part) (take_all c.loop-part.part-index all c.loop-part-test.false)
     ∙ sym (flat_map-map (handlers_of_part c.args.source.now.names.now) part_in all))
+
+pub make_handler-requires-clause-room : goal.make_handler-requires-clause-room
+make_handler-requires-clause-room c =
+    let names = c.args.source.now.names.now in
+    let of_part : ProgramPart → List Handler = λ part. handlers_of_part names (part_in part) in
+    let old = c.args.formats.now.items in
+    let all = c.args.parts.now in
+    room_for_handlers of_part old c.loop-part.formats.items all c.loop-part.part-index c.part-item.result c.loop-part-test.true
+    c.part-item.is c.loop-part.invariant.formats
+    (subst (λ (hs : List Handler). HaveNumbers (old ++ formats_of_handlers hs)) (flat_map-map (handlers_of_part names) part_in all)
+    c.requires.room)

@@ -11,7 +11,7 @@ use Rattle.source_compiler.specs.Compiled.{IsCompiled}
 use Rattle.source_compiler.specs.declared.compiled.Compiled.{Compiled}
 use Rattle.source_compiler.specs.Program.{lines_of, most}
 use Rattle.source_compiler.proofs.CellLemmas.{cells_told, few_cells, weight_told, within_weight}
-use Rattle.source_compiler.proofs.ReadableLemmas.{files_light, files_readable}
+use Rattle.source_compiler.proofs.ReadableLemmas.{files_few, files_light, files_readable}
 use Rattle.input_refusals.proofs.Passing.{judged_on}
 use Rattle.source_compiler.proofs.program.code_of.Goals as goal
 
@@ -23,6 +23,12 @@ check_program-requires-clause-readable c =
 pub check_program-requires-clause-light : goal.check_program-requires-clause-light
 check_program-requires-clause-light c =
     files_light c.programs_weigh_eight_times_their_tokens.ensures c.args.files.now c.in_ok-program.program c.in_ok-program.ensures
+    c.requires.few
+
+pub check_program-requires-clause-few : goal.check_program-requires-clause-few
+check_program-requires-clause-few c =
+    let law = c.programs_declare_no_more_than_their_tokens.ensures in
+    files_few law.files law.parts law.variables c.args.files.now c.in_ok-program.program c.in_ok-program.ensures c.requires.few_files
     c.requires.few
 
 pub compile_program-requires-clause-bounded : goal.compile_program-requires-clause-bounded

@@ -1,12 +1,14 @@
 -- One more variable, and the whole.
 use Rattle.std.proofs.Common.{◌++◌, ◌∙◌, ap, sym, subst, take, arith}
 use Rattle.std.specs.Prelude.{flat_map}
+use Rattle.capl_meaning.specs.Variable.{Variable}
 use Rattle.typed_laws.specs.Starts.{first_cells_of}
 use Rattle.typed_laws.proofs.Starts.{first_laid}
 use Rattle.typed_source.specs.Program.{starts_from}
+use Rattle.type_starts.specs.Identifier.{IsDeclaredShort}
 use Rattle.type_starts.specs.Starts.{Goes}
 use Rattle.type_starts.proofs.StartLemmas.{goes_on}
-use Rattle.type_starts.proofs.VariableLemmas.{cells_within, flat_more, take_whole, there_is}
+use Rattle.type_starts.proofs.VariableLemmas.{all_at, cells_within, flat_more, take_whole, there_is}
 use Rattle.type_starts.proofs.variable.first_values.Goals as goal
 
 pub loop-number-preserved : goal.loop-number-preserved
@@ -28,3 +30,7 @@ pub push_variable-requires-clause-room : goal.push_variable-requires-clause-room
 push_variable-requires-clause-room c = λ v at.
     let names = c.args.names.now in
     omega (arith, c.loop-number.invariant.cell, cells_within names names.variables c.loop-number.number v at, c.requires.few)
+
+pub push_variable-requires-clause-identifier : goal.push_variable-requires-clause-identifier
+push_variable-requires-clause-identifier c = λ v at.
+    all_at (λ (v : Variable). IsDeclaredShort v.form) c.args.names.now.variables c.loop-number.number v c.requires.identifiers at

@@ -9,11 +9,11 @@ use Rattle.check_sorts.specs.Form.{type_in}
 use Rattle.check_sorts.specs.Scope.{scope_in}
 use Rattle.std.specs.Option.{option_copied}
 use Rattle.type_starts.specs.Starts.{Goes}
-use Rattle.type_starts.proofs.VariableLemmas.{message_first, room_of}
+use Rattle.type_starts.proofs.VariableLemmas.{identifier_of, message_first, room_of}
 use Rattle.type_starts.proofs.variable.push_variable.Goals as goal
 
-pub returns-in_ok-message-in-Message : goal.returns-in_ok-message-in-Message
-returns-in_ok-message-in-Message c = λ v at.
+pub returns-in-Message : goal.returns-in-Message
+returns-in-Message c = λ v at.
     let names = c.args.names.now in
     let d : Variable = variable_in names.base c.in-Some.declared.now in
     let same : d ≡ v = let e : Some d ≡ Some v = c.in-Some.ensures ∙ at in cc in
@@ -22,7 +22,7 @@ returns-in_ok-message-in-Message c = λ v at.
     (sym (c.in-Message.ensures ∙ ap (λ (o : Option Variable). option_map_or (λ v. v.form) o Misfit) at))
     (c.scope_of.ensures.scope ∙ ap (scope_of names) same) (c.token.ensures names.base ∙ ap (λ (v : Variable). v.token) same)
     (c.init_of-init.ensures names.base ∙ ap (λ (v : Variable). v.init) same))
-    (c.push_message.ensures _ c.in_ok-message-in-Message.ensures)
+    (c.push_message.ensures _ c.first_message-message.ensures)
 
 pub push-requires : goal.push-requires
 push-requires c =
@@ -40,4 +40,9 @@ push_elements-requires-clause-room c =
 pub push_message-requires : goal.push_message-requires
 push_message-requires c =
     room_of c.args.names.now c.args.number c.args.starts.now.cell _ c.requires.room (variable_in c.args.names.now.base c.in-Some.declared.now)
+    c.in-Some.ensures c.in-Message.ensures
+
+pub first_message-message-requires-clause-identifier : goal.first_message-message-requires-clause-identifier
+first_message-message-requires-clause-identifier c =
+    identifier_of c.args.names.now c.args.number (type_in c.in-Message.what) c.requires.identifier (variable_in c.args.names.now.base c.in-Some.declared.now)
     c.in-Some.ensures c.in-Message.ensures

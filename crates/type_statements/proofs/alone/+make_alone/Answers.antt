@@ -1,9 +1,11 @@
 -- Parentheses, and an assignment.
-use Rattle.std.proofs.Common.{◌≡◌, ◌++◌, ◌∙◌, IfOk, OnOk, length, ap, subst}
+use Rattle.std.proofs.Common.{◌≡◌, ◌++◌, ◌∙◌, IfOk, OnOk, length, ap, rules, subst, sym}
+use Rattle.capl_tree.specs.declared.expr.Expr.{the_lemmas}
 use Rattle.typed_source.specs.Statement.{alone_of, formats_of_alone}
 use Rattle.check_sorts.specs.Scope.{scope_in}
 use Rattle.type_statements.specs.Tables.{order_of}
 use Rattle.type_statements.proofs.AloneLemmas.{assignment_alone, paren_alone, paren_formats}
+use Rattle.type_statements.proofs.RoomLemmas.{room_same}
 use Rattle.type_statements.proofs.alone.+make_alone.Goals as goal
 
 pub returns-in-Paren-clause-tree : goal.returns-in-Paren-clause-tree
@@ -30,3 +32,14 @@ returns-in-None-clause-tree t c =
     subst (λ one. IfOk c.assigned.result (λ tree. tree ≡ one))
     (assignment_alone s order before c.args.e.now _ _ _ _ _ _ c.in-Assign.is c.in-None.is c.get-in-None.ensures c.get-in-None-2.ensures)
     c.assigned.ensures
+
+pub make_alone-requires : goal.make_alone-requires
+make_alone-requires t c =
+    let s = scope_in c.args.scope in (
+      search (rules, the_lemmas, c.in-Paren.is, c.get.ensures),
+      (
+        c.requires.tables,
+        room_same c.args.formats.now.items (formats_of_alone s c.args.e.now) (formats_of_alone s c.get.result.now)
+            (sym (ap (formats_of_alone s) c.get.ensures ∙ paren_formats s c.args.e.now _ _ c.in-Paren.is)) c.requires.room,
+      ),
+    )

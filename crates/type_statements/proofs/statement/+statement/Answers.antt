@@ -1,10 +1,13 @@
 -- Forms with parts, and turns of loops.
-use Rattle.std.proofs.Common.{◌++◌, ◌∙◌, refl, rules}
+use Rattle.std.proofs.Common.{◌++◌, ◌∙◌, ap, refl, rules, sym}
+use Rattle.capl_tree.specs.declared.statement.Stmt.{the_lemmas}
 use Rattle.typed_source.specs.Statement.{formats_of, formats_of_part}
 use Rattle.check_sorts.specs.Scope.{scope_in}
-use Rattle.type_statements.specs.Rows.{formats_in}
+use Rattle.type_statements.specs.Rows.{formats_in, formats_in_arms, formats_in_else, formats_in_groups}
 use Rattle.type_statements.specs.Tables.{order_of}
 use Rattle.type_statements.proofs.MadeLemmas.{arms_turn, body_turn, for_formats_made, for_made, formats_turn, groups_turn, if_formats_made, if_made}
+use Rattle.type_statements.proofs.RoomLemmas.{room_first, room_rest, room_same, room_third, room_two}
+use Rattle.type_statements.proofs.RowLemmas.{block_formats, do_formats, for_formats, if_formats, switch_formats, while_formats}
 use Rattle.type_statements.proofs.statement.+statement.Goals as goal
 
 pub make_body-loop-statement-preserved : goal.make_body-loop-statement-preserved
@@ -85,3 +88,105 @@ make_statement-returns-in_ok-tree-in-For-clause-formats t c =
     for_formats_made s (order_of c.args.tables.now) old (old ++ formats_of_part s c.in-For.init) c.make_head.new.formats.items
     c.make_statement-in-For.new.formats.items c.args.s.now c.in-For.init c.in-For.test c.in-For.step c.in-For.body _ c.in-For.is
     c.get-in-For.ensures refl c.in_ok-head-in-For.ensures.formats c.in_ok-body-in-For.ensures.formats
+
+pub make_statement-make_body-requires : goal.make_statement-make_body-requires
+make_statement-make_body-requires t c =
+    let s = scope_in c.args.scope in (
+      search (rules, the_lemmas, c.in-Block.is, c.as_slice.ensures),
+      (
+        c.requires.tables,
+        room_same c.args.formats.now.items (formats_of s c.args.s.now) (formats_in s c.as_slice.result.now)
+            (block_formats s c.args.s.now _ c.in-Block.is ∙ ap (formats_in s) (sym c.as_slice.ensures)) c.requires.room,
+      ),
+    )
+
+pub make_statement-make_arms-requires : goal.make_statement-make_arms-requires
+make_statement-make_arms-requires t c =
+    let s = scope_in c.args.scope in
+    let old = c.args.formats.now.items in
+    let given = formats_in_arms s c.as_slice-in-If.result.now in
+    let other = formats_in_else s c.in-If.other in (
+      search (rules, the_lemmas, c.in-If.is, c.as_slice-in-If.ensures),
+      (
+        c.requires.tables,
+        room_first old given other
+            (room_same old (formats_of s c.args.s.now) (given ++ other)
+            (if_formats s c.args.s.now c.in-If.arms c.in-If.other c.in-If.is
+            ∙ ap (λ arms. formats_in_arms s arms ++ other) (sym c.as_slice-in-If.ensures)) c.requires.room),
+      ),
+    )
+
+pub make_statement-make_else-requires : goal.make_statement-make_else-requires
+make_statement-make_else-requires t c =
+    let s = scope_in c.args.scope in
+    let old = c.args.formats.now.items in
+    let given = formats_in_arms s c.as_slice-in-If.result.now in
+    let other = formats_in_else s c.in-If.other in (
+      search (rules, the_lemmas, c.in-If.is),
+      (
+        c.requires.tables,
+        room_rest old c.make_arms.new.formats.items given other c.in_ok-arms-in-If.ensures.formats
+            (room_same old (formats_of s c.args.s.now) (given ++ other)
+            (if_formats s c.args.s.now c.in-If.arms c.in-If.other c.in-If.is
+            ∙ ap (λ arms. formats_in_arms s arms ++ other) (sym c.as_slice-in-If.ensures)) c.requires.room),
+      ),
+    )
+
+pub make_statement-make_statement-requires : goal.make_statement-make_statement-requires
+make_statement-make_statement-requires t c =
+    let s = scope_in c.args.scope in (
+      search (rules, the_lemmas, c.in-While.is, c.get.ensures),
+      (
+        c.requires.tables,
+        room_same c.args.formats.now.items (formats_of s c.args.s.now) (formats_of s c.get.result.now)
+            (while_formats s c.args.s.now _ _ c.in-While.is ∙ ap (formats_of s) (sym c.get.ensures)) c.requires.room,
+      ),
+    )
+
+pub make_statement-make_statement-requires-in-Do : goal.make_statement-make_statement-requires-in-Do
+make_statement-make_statement-requires-in-Do t c =
+    let s = scope_in c.args.scope in (
+      search (rules, the_lemmas, c.in-Do.is, c.get-in-Do.ensures),
+      (
+        c.requires.tables,
+        room_same c.args.formats.now.items (formats_of s c.args.s.now) (formats_of s c.get-in-Do.result.now)
+            (do_formats s c.args.s.now _ _ c.in-Do.is ∙ ap (formats_of s) (sym c.get-in-Do.ensures)) c.requires.room,
+      ),
+    )
+
+pub make_statement-make_head-requires-clause-room : goal.make_statement-make_head-requires-clause-room
+make_statement-make_head-requires-clause-room t c =
+    let s = scope_in c.args.scope in
+    let old = c.args.formats.now.items in
+    let init = formats_of_part s c.in-For.init in
+    let step = formats_of_part s c.in-For.step in
+    room_two old init step (formats_of s c.in-For.body)
+    (room_same old (formats_of s c.args.s.now) (init ++ (step ++ formats_of s c.in-For.body))
+    (for_formats s c.args.s.now c.in-For.init c.in-For.test c.in-For.step c.in-For.body c.in-For.is) c.requires.room)
+
+pub make_statement-make_statement-requires-in-For : goal.make_statement-make_statement-requires-in-For
+make_statement-make_statement-requires-in-For t c =
+    let s = scope_in c.args.scope in
+    let old = c.args.formats.now.items in
+    let init = formats_of_part s c.in-For.init in
+    let step = formats_of_part s c.in-For.step in (
+      search (rules, the_lemmas, c.in-For.is, c.get-in-For.ensures),
+      (
+        c.requires.tables,
+        room_third old c.make_head.new.formats.items init step (formats_of s c.in-For.body) (formats_of s c.get-in-For.result.now)
+            c.in_ok-head-in-For.ensures.formats (ap (formats_of s) c.get-in-For.ensures)
+            (room_same old (formats_of s c.args.s.now) (init ++ (step ++ formats_of s c.in-For.body))
+            (for_formats s c.args.s.now c.in-For.init c.in-For.test c.in-For.step c.in-For.body c.in-For.is) c.requires.room),
+      ),
+    )
+
+pub make_statement-make_groups-requires : goal.make_statement-make_groups-requires
+make_statement-make_groups-requires t c =
+    let s = scope_in c.args.scope in (
+      search (rules, the_lemmas, c.in-Switch.is, c.as_slice-in-Switch.ensures),
+      (
+        c.requires.tables,
+        room_same c.args.formats.now.items (formats_of s c.args.s.now) (formats_in_groups s c.as_slice-in-Switch.result.now)
+            (switch_formats s c.args.s.now _ _ c.in-Switch.is ∙ ap (formats_in_groups s) (sym c.as_slice-in-Switch.ensures)) c.requires.room,
+      ),
+    )
