@@ -4,3 +4,4 @@ pub mod InstructionLemmas
 pub mod ObjectLemmas
 pub mod Pairs
 pub mod TableLemmas
+pub mod VerifiedLemmas

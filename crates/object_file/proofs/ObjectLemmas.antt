@@ -28,7 +28,7 @@ some_or other None = other
 some_or other (Some x) = x
 
 -- what follows from what is true of each is true of each
-all_each : {A : Type 0} (P Q : A → Type 0) → ((x : A) → P x → Q x) → (xs : List A) → All P xs → All Q xs
+pub all_each : {A : Type 0} (P Q : A → Type 0) → ((x : A) → P x → Q x) → (xs : List A) → All P xs → All Q xs
 all_each P Q follows [] all = All-nil Q
 all_each P Q follows (x ∷ xs) all = All-cons Q x xs (follows x (All-head P x xs all)) (all_each P Q follows xs (All-tail P x xs all))
 
@@ -85,7 +85,7 @@ lists_storable lists hold =
     }
 
 -- and the other way round
-storable_lists : (code : Code) → IsStorable code → ListsHold (lists_of code)
+pub storable_lists : (code : Code) → IsStorable code → ListsHold (lists_of code)
 storable_lists code is =
     let short = is.short in (
       (short.cells, all_true code.cells),

@@ -1,8 +1,8 @@
 -- What is spelled is read: pairs, halves and lists.
-use Rattle.std.proofs.Common.{◌≡◌, ◌∙◌, ◌<◌, ◌+◌, ◌*◌, ◌^◌, ℕ, zero, suc, List, [], ◌∷◌, ◌++◌, length, All, Option, Some, None, ap, append_assoc, arith, get_or, refl, subst, sym, take}
+use Rattle.std.proofs.Common.{◌≡◌, ◌∙◌, ◌<◌, ◌+◌, ◌*◌, ◌^◌, ℕ, zero, suc, List, [], ◌∷◌, ◌++◌, length, All, Option, Some, None, ap, append_assoc, arith, get_or, refl, sym, take}
 use Rattle.std.specs.Prelude.{◌%◌, ◌/◌, flat_map, ⊤}
 use Rattle.std.specs.Option.{option_and_then, option_map}
-use Rattle.std.proofs.lemmas.List.Elements.{All-cons, All-head, All-nil, All-tail}
+use Rattle.std.proofs.lemmas.List.Elements.{All-head, All-tail}
 use Rattle.std.proofs.lemmas.List.{append-nil}
 use Rattle.std.proofs.Math.Nat.{add-mul-div_left, add-mul-mod_self_left, div-eq_of_lt, mod-add-div, mod-eq_of_lt}
 use Rattle.object_file.specs.Number.{dword, halves, list}
@@ -113,15 +113,3 @@ taken f (x ∷ xs) (suc i) d within =
 pub take_more : {A : Type 0} (f : A → List ℕ) (xs : List A) (i : ℕ) (d : A) → i < length xs
     → flat_map f (take (i + 1) xs) ≡ flat_map f (take i xs) ++ f (get_or xs i d)
 take_more f xs i d within = let next : i + 1 ≡ suc i = omega arith in ap (λ n. flat_map f (take n xs)) next ∙ taken f xs i d within
-
--- the same with the number written out
-each_taken : {A : Type 0} (F : A → Type 0) (xs : List A) (i : ℕ) (d : A) → i < length xs → All F (take i xs) → F (get_or xs i d) → All F (take (suc i) xs)
-each_taken F [] i d within all one = absurd (omega (arith, within))
-each_taken F (x ∷ xs) zero d within all one = All-cons F x [] one (All-nil F)
-each_taken F (x ∷ xs) (suc i) d within all one =
-    All-cons F x (take (suc i) xs) (All-head F x (take i xs) all) (each_taken F xs i d (omega (arith, within)) (All-tail F x (take i xs) all) one)
-
--- what is true of some records and of one more
-pub all_more : {A : Type 0} (F : A → Type 0) (xs : List A) (i : ℕ) (d : A) → i < length xs → All F (take i xs) → F (get_or xs i d)
-    → All F (take (i + 1) xs)
-all_more F xs i d within all one = let next : suc i ≡ i + 1 = omega arith in subst (λ n. All F (take n xs)) next (each_taken F xs i d within all one)

@@ -43,6 +43,10 @@ pub record IsTextOf (code : Code) (bytes : List ℕ) : Type 0 where
   pub storable : IsStorable code
   pub spelled : bytes ≡ code_text code
 
+-- the code has no text
+abbrev pub HasNoText : Code → Type 0
+HasNoText code = (bytes : List ℕ) → IsTextOf code bytes → ⊥
+
 -- no code has this text
 abbrev pub HasNoCode : List ℕ → Type 0
 HasNoCode bytes = (code : Code) → IsTextOf code bytes → ⊥

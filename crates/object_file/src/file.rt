@@ -4,23 +4,29 @@ ghost use Rattle.std.specs.Prelude.{ℕ, IfOk, IsErrOf};
 ghost use Rattle.bytecode.specs.declared.code.Code as declared;
 ghost use Rattle.bytecode.specs.Failure.{FailsFirstAt};
 ghost use Rattle.bytecode.specs.Verified.{IsVerified};
-ghost use Rattle.object_file.specs.Object.{HasNoCode, IsTextOf};
+ghost use Rattle.object_file.specs.Object.{HasNoCode, HasNoText, IsTextOf};
 ghost use Rattle.object_file.specs.declared.refusal.LoadRefusal as refusal;
 
 use crate::object::{code_of, text_of};
-use crate::refusal::LoadRefusal;
+use crate::refusal::{LoadRefusal, StoreRefusal};
 use crate::stored::ReadRefusal;
+use crate::table::are_kept;
 use bytecode::{Verified, VerifyRefusal, verify};
 use std::alloc::Global;
-use texts::NoMemory;
 
 /// The text of the code. Takes time and memory linear in it.
 ///
-/// Code of which a list, or a text in a format, has 2^32 items or more has no text; no memory holds it.
-pub fn store(alloc: Global, verified: &Verified) -> Result<Vec<u8>, NoMemory>
-    ensures { IfOk result (λ bytes. IsTextOf verified.now bytes.items) }
+/// It is too long only where the code has no text: where a format, or a text among its arguments, has
+/// 2^32 bytes or more, which its line need not have.
+pub fn store(alloc: Global, verified: &Verified) -> Result<Vec<u8>, StoreRefusal>
+    ensures text { IfOk result (λ bytes. IsTextOf verified.now bytes.items) }
+    ensures long { IsErrOf result StoreRefusal.TooLong → HasNoText verified.now }
 {
-    text_of(alloc, verified.code())
+    let code = verified.code();
+    if !are_kept(code.formats.as_slice()) {
+        return Err(StoreRefusal::TooLong);
+    }
+    Ok(text_of(alloc, code)?)
 }
 
 /// The code of a text, where it is verified. It is bad exactly where no code has this text, and not

@@ -1,6 +1,6 @@
 // Instructions.
 
-ghost use Rattle.std.specs.Prelude.{◌≡◌, ◌++◌, ◌∷◌, IfOk, IfSome, IsErrOf, None, Some, ⊤};
+ghost use Rattle.std.specs.Prelude.{◌≡◌, ◌++◌, ◌∷◌, IfOk, IfSome, IsErrOf, None, Some, false, ⊤};
 ghost use Rattle.std.specs.Int.{w128};
 ghost use Rattle.std.specs.Int.RustNames.{FitsSigned};
 ghost use Rattle.object_file.specs.Instruction.{IsInRange, instruction_text, layout_text, operator_number, operator_text};
@@ -123,6 +123,8 @@ impl Stored for BinOp {
 
     ghost at = { operator_at };
 
+    ghost allocates = { false };
+
     fn write(&self, into: &mut Vec<u8>) -> Result<(), NoMemory> {
         operator_number(*self).write(into)
     }
@@ -146,6 +148,8 @@ impl Stored for Layout {
     ghost holds = { λ _. ⊤ };
 
     ghost at = { layout_at };
+
+    ghost allocates = { false };
 
     fn write(&self, into: &mut Vec<u8>) -> Result<(), NoMemory> {
         (self.start, (self.len, (self.big, self.signed))).write(into)
@@ -334,6 +338,7 @@ fn with_place_and_truth(n: u8, timer: u32, cyclic: bool) -> Option<Instr>
 fn made(instr: Option<Instr>, rest: &[u8]) -> Result<(Instr, &[u8]), ReadRefusal>
     ensures some { IfOk result (λ found. (instr ≡ Some found.0) × (found.1.now ≡ rest.now)) }
     ensures none { IsErrOf result Bad → instr ≡ None }
+    ensures memory { ¬ (IsErrOf result ReadRefusal.NoMemory) }
 {
     match instr {
         Some(instr) => Ok((instr, rest)),
@@ -346,6 +351,7 @@ fn read_pair(alloc: Global, n: u8, pair: Pair, bytes: &[u8]) -> Result<(Instr, &
     ensures spelled { IfOk result (λ found. n ∷ bytes.now ≡ instruction_text found.0 ++ found.1.now) }
     ensures range { IfOk result (λ found. IsInRange found.0) }
     ensures bad { IsErrOf result Bad → pair_by pair n bytes.now ≡ None }
+    ensures memory { ¬ (IsErrOf result ReadRefusal.NoMemory) }
 {
     <(u32, u32) as Stored>::complete();
     <(Kind, u32) as Stored>::complete();
@@ -396,6 +402,7 @@ fn read_operands(
     ensures spelled { IfOk result (λ found. n ∷ bytes.now ≡ instruction_text found.0 ++ found.1.now) }
     ensures range { IfOk result (λ found. IsInRange found.0) }
     ensures bad { IsErrOf result Bad → instruction_by operands n bytes.now ≡ None }
+    ensures memory { ¬ (IsErrOf result ReadRefusal.NoMemory) }
 {
     i128::complete();
     u32::complete();
@@ -428,6 +435,8 @@ impl Stored for Instr {
 
     ghost at = { instruction_at };
 
+    ghost allocates = { false };
+
     fn write(&self, into: &mut Vec<u8>) -> Result<(), NoMemory> {
         match self {
             Instr::Push(n) => (0u8, *n).write(into),
@@ -440,9 +449,7 @@ impl Stored for Instr {
             Instr::SetBytes(kind, at) => (7u8, (*kind, *at)).write(into),
             Instr::Sig(layout, at) => (8u8, (*layout, *at)).write(into),
             Instr::SetSig(layout, at) => (9u8, (*layout, *at)).write(into),
-            Instr::SetField(field, at) if *field <= 3 => (10u8, (*field, *at)).write(into),
-            // Verified code has no such field.
-            Instr::SetField(_, _) => Err(NoMemory),
+            Instr::SetField(field, at) => (10u8, (*field, *at)).write(into),
             Instr::Bin(op, kind) => (11u8, (*op, *kind)).write(into),
             Instr::Neg(kind) => (12u8, *kind).write(into),
             Instr::Inv(kind) => (13u8, *kind).write(into),

@@ -4,7 +4,8 @@
 //! functions, event procedures, instructions and depths, and a list of nothing. A list is the number of
 //! its records and the records, a number has its least significant byte first, and a record is what it
 //! holds, one after another. [`store`] gives the text of verified code, and [`load`] the code of a text,
-//! which it verifies. A text is of one code at most, so what is stored is loaded as the same code.
+//! which it verifies. A text is of one code at most, so what is stored is loaded as the same code. Code
+//! has a text unless a format of it is too long for lengths of four bytes.
 //!
 //! A count is not believed before its records are there: memory is taken as they come, so it is linear
 //! in the text whatever its counts say.
@@ -15,7 +16,7 @@
 #![tactic(auto)]
 
 pub use file::{load, store};
-pub use refusal::LoadRefusal;
+pub use refusal::{LoadRefusal, StoreRefusal};
 
 mod file;
 mod instruction;

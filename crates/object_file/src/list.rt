@@ -1,6 +1,6 @@
 // Texts and lists.
 
-ghost use Rattle.std.specs.Prelude.{◌≡◌, ◌++◌, ◌<◌, ◌^◌, ◌∷◌, All, IfOk, IsErrOf, None, OnOk, flat_map, length};
+ghost use Rattle.std.specs.Prelude.{◌≡◌, ◌++◌, ◌<◌, ◌^◌, ◌∷◌, All, IfOk, IsErrOf, None, OnOk, flat_map, length, true};
 ghost use Rattle.object_file.specs.Number.{list, text};
 ghost use Rattle.object_file.specs.Inside.Reading.{items_at};
 ghost use Rattle.object_file.specs.declared.stored.ReadRefusal.TheVariants.{Bad};
@@ -10,37 +10,30 @@ use items::Items;
 use std::alloc::Global;
 use texts::{NoMemory, Text};
 
-/// A length as a number of four bytes. What is too long for one has no text that there is memory for.
-fn count_of(len: usize) -> Result<u32, NoMemory>
-    ensures { IfOk result (λ count. count ≡ len) }
-{
-    u32::try_from(len).map_err(|_| NoMemory)
-}
-
 /// Appends a text: its length and its bytes.
 pub(crate) fn write_text(own: &[u8], into: &mut Vec<u8>) -> Result<(), NoMemory>
-    ensures bytes { OnOk result (into.new.items ≡ into.old.items ++ text own.now) }
-    ensures short { OnOk result (length own.now < 2 ^ 32) }
+    requires { length own.now < 2 ^ 32 }
+    ensures { OnOk result (into.new.items ≡ into.old.items ++ text own.now) }
 {
-    count_of(own.len())?.write(into)?;
+    (own.len() as u32).write(into)?;
     into.extend_from_slice(own)?;
     Ok(())
 }
 
 /// Appends a list: the number of its records, and the records.
 pub(crate) fn write_list<T: Stored>(records: &[T], into: &mut Vec<u8>) -> Result<(), NoMemory>
-    ensures bytes { OnOk result (into.new.items ≡ into.old.items ++ list T.spelling records.now) }
-    ensures short { OnOk result (length records.now < 2 ^ 32) }
-    ensures holds { OnOk result (All T.holds records.now) }
+    requires short { length records.now < 2 ^ 32 }
+    requires hold { All T.holds records.now }
+    ensures { OnOk result (into.new.items ≡ into.old.items ++ list T.spelling records.now) }
 {
-    count_of(records.len())?.write(into)?;
+    (records.len() as u32).write(into)?;
     write_records(records, into)
 }
 
 /// Appends records.
 fn write_records<T: Stored>(records: &[T], into: &mut Vec<u8>) -> Result<(), NoMemory>
-    ensures bytes { OnOk result (into.new.items ≡ into.old.items ++ flat_map T.spelling records.now) }
-    ensures holds { OnOk result (All T.holds records.now) }
+    requires { All T.holds records.now }
+    ensures { OnOk result (into.new.items ≡ into.old.items ++ flat_map T.spelling records.now) }
 {
     for record in records {
         record.write(into)?;
@@ -82,6 +75,8 @@ impl Stored for Text {
 
     ghost at = { text_at };
 
+    ghost allocates = { true };
+
     fn write(&self, into: &mut Vec<u8>) -> Result<(), NoMemory> {
         write_text(self.bytes(), into)
     }
@@ -111,6 +106,8 @@ impl<T: Stored> Stored for Items<T> {
     ghost holds = { λ records. (length records < 2 ^ 32) × All T.holds records };
 
     ghost at = { list_at T.at };
+
+    ghost allocates = { true };
 
     fn write(&self, into: &mut Vec<u8>) -> Result<(), NoMemory> {
         write_list(self.as_slice(), into)

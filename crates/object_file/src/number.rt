@@ -1,6 +1,6 @@
 // Numbers and truth values.
 
-ghost use Rattle.std.specs.Prelude.{◌≡◌, ◌+◌, ◌*◌, ◌<◌, ◌^◌, ⊤};
+ghost use Rattle.std.specs.Prelude.{◌≡◌, ◌+◌, ◌*◌, ◌<◌, ◌^◌, false, ⊤};
 
 use crate::stored::{ReadRefusal, Stored};
 use std::alloc::Global;
@@ -52,6 +52,8 @@ impl Stored for u8 {
 
     ghost at = { byte_at };
 
+    ghost allocates = { false };
+
     fn write(&self, into: &mut Vec<u8>) -> Result<(), NoMemory> {
         into.push(*self)?;
         Ok(())
@@ -77,6 +79,8 @@ impl Stored for u16 {
 
     ghost at = { word_at };
 
+    ghost allocates = { false };
+
     fn write(&self, into: &mut Vec<u8>) -> Result<(), NoMemory> {
         ((*self % 256) as u8, (*self / 256) as u8).write(into)
     }
@@ -101,6 +105,8 @@ impl Stored for u32 {
 
     ghost at = { dword_at };
 
+    ghost allocates = { false };
+
     fn write(&self, into: &mut Vec<u8>) -> Result<(), NoMemory> {
         ((*self % 0x1_0000) as u16, (*self / 0x1_0000) as u16).write(into)
     }
@@ -124,6 +130,8 @@ impl Stored for u64 {
     ghost holds = { λ _. ⊤ };
 
     ghost at = { qword_at };
+
+    ghost allocates = { false };
 
     fn write(&self, into: &mut Vec<u8>) -> Result<(), NoMemory> {
         (
@@ -153,6 +161,8 @@ impl Stored for u128 {
 
     ghost at = { halves_at (2 ^ 64) qword_at };
 
+    ghost allocates = { false };
+
     fn write(&self, into: &mut Vec<u8>) -> Result<(), NoMemory> {
         ((*self % (1 << 64)) as u64, (*self / (1 << 64)) as u64).write(into)
     }
@@ -179,6 +189,8 @@ impl Stored for i128 {
 
     ghost at = { integer_at };
 
+    ghost allocates = { false };
+
     fn write(&self, into: &mut Vec<u8>) -> Result<(), NoMemory> {
         self.cast_unsigned().write(into)
     }
@@ -202,6 +214,8 @@ impl Stored for bool {
     ghost holds = { λ _. ⊤ };
 
     ghost at = { truth_at };
+
+    ghost allocates = { false };
 
     fn write(&self, into: &mut Vec<u8>) -> Result<(), NoMemory> {
         if *self { 1u8 } else { 0u8 }.write(into)

@@ -2,7 +2,7 @@
 
 ghost use Rattle.std.specs.Prelude.{◌≡◌, ◌++◌, ℕ, List, IfOk, IsErrOf, OnOk, Some, ⊤};
 ghost use Rattle.std.specs.Option.{option_map};
-ghost use Rattle.object_file.specs.Object.{HasNoCode, IsTextOf};
+ghost use Rattle.object_file.specs.Object.{HasNoCode, IsStorable, IsTextOf};
 ghost use Rattle.object_file.specs.Number.{dword};
 ghost use Rattle.object_file.specs.Inside.Lists.{Lists, ListsHold, behind_letters, lists_at, lists_of, lists_text, with_lists};
 ghost use Rattle.object_file.specs.Inside.Reading.{dword_at};
@@ -36,8 +36,8 @@ type Lists = (
 
 /// Appends the lists of code.
 fn write_lists(code: &Code, into: &mut Vec<u8>) -> Result<(), NoMemory>
-    ensures text { OnOk result (into.new.items ≡ into.old.items ++ lists_text (lists_of code.now)) }
-    ensures hold { OnOk result (ListsHold (lists_of code.now)) }
+    requires { ListsHold (lists_of code.now) }
+    ensures { OnOk result (into.new.items ≡ into.old.items ++ lists_text (lists_of code.now)) }
 {
     code.cells.write(into)?;
     code.starts.write(into)?;
@@ -51,6 +51,7 @@ fn write_lists(code: &Code, into: &mut Vec<u8>) -> Result<(), NoMemory>
 
 /// The text of code.
 pub(crate) fn text_of(alloc: Global, code: &Code) -> Result<Vec<u8>, NoMemory>
+    requires { IsStorable code.now }
     ensures { IfOk result (λ bytes. IsTextOf code.now bytes.items) }
 {
     let mut bytes = Vec::from_slice(alloc, LETTERS)?;

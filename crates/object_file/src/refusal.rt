@@ -1,4 +1,26 @@
-// Why no code is loaded.
+// Why no code is stored or loaded.
+
+use texts::NoMemory;
+
+/// Why no code is stored.
+#[derive(Clone, Copy, Debug, PartialEq, Eq)]
+pub enum StoreRefusal {
+    /// A format is too long for a text: it, or a text among its arguments, has 2^32 bytes or more.
+    TooLong,
+    /// There was no memory.
+    NoMemory,
+}
+
+impl From<NoMemory> for StoreRefusal {
+    ghost use Rattle.std.specs.Prelude.{◌≡◌};
+    ghost use Rattle.object_file.specs.declared.refusal.StoreRefusal.TheVariants.{NoMemory};
+
+    ghost from_gives = { λ _ refusal. refusal ≡ NoMemory };
+
+    fn from(_: NoMemory) -> StoreRefusal {
+        StoreRefusal::NoMemory
+    }
+}
 
 /// Why no code is loaded.
 #[derive(Clone, Copy, Debug, PartialEq, Eq)]

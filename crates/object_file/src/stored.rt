@@ -1,6 +1,6 @@
 // What is stored as bytes and read again.
 
-ghost use Rattle.std.specs.Prelude.{◌≡◌, ◌++◌, ℕ, List, Option, Some, None, IfOk, OnOk, IsErrOf};
+ghost use Rattle.std.specs.Prelude.{◌≡◌, ◌++◌, ◌||◌, ℕ, Bool, true, List, Option, Some, None, IfOk, OnOk, IsErrOf};
 ghost use Rattle.object_file.specs.Inside.Reading.{pair_at};
 ghost use Rattle.object_file.specs.declared.stored.ReadRefusal.TheVariants.{Bad};
 
@@ -49,16 +49,20 @@ pub(crate) trait Stored: Drop {
     /// What stands at the front of bytes, and what stands behind it.
     ghost at: { List ℕ → Option (Self × List ℕ) };
 
+    /// Whether reading it takes memory.
+    ghost allocates: { Bool };
+
     /// Appends its spelling.
     fn write(&self, into: &mut Vec<u8>) -> Result<(), NoMemory>
-        ensures bytes { OnOk result (into.new.items ≡ into.old.items ++ spelling self.now) }
-        ensures holds { OnOk result (holds self.now) };
+        requires { holds self.now }
+        ensures { OnOk result (into.new.items ≡ into.old.items ++ spelling self.now) };
 
     /// What is spelled at the front, and what stands behind it.
     fn read(alloc: Global, bytes: &[u8]) -> Result<(Self, &[u8]), ReadRefusal>
         ensures spelled { IfOk result (λ found. bytes.now ≡ spelling found.0 ++ found.1.now) }
         ensures holds { IfOk result (λ found. holds found.0) }
-        ensures bad { IsErrOf result Bad → at bytes.now ≡ None };
+        ensures bad { IsErrOf result Bad → at bytes.now ≡ None }
+        ensures memory { IsErrOf result ReadRefusal.NoMemory → allocates ≡ true };
 
     /// What is spelled at the front is what stands there. The call does nothing: its contract is the law.
     fn complete()
@@ -71,6 +75,8 @@ impl<A: Stored, B: Stored> Stored for (A, B) {
     ghost holds = { λ pair. A.holds pair.0 × B.holds pair.1 };
 
     ghost at = { pair_at A.at B.at };
+
+    ghost allocates = { A.allocates || B.allocates };
 
     fn write(&self, into: &mut Vec<u8>) -> Result<(), NoMemory> {
         self.0.write(into)?;

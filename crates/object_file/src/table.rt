@@ -1,7 +1,8 @@
 // The records of the tables of code.
 
-ghost use Rattle.std.specs.Prelude.{◌≡◌, ◌<◌, ◌^◌, All, IfOk, IfSome, IsErrOf, None, length, ⊤};
+ghost use Rattle.std.specs.Prelude.{◌≡◌, ◌↔◌, ◌<◌, ◌^◌, All, IfOk, IfSome, IsErrOf, IsTrue, None, false, length, true, ⊤};
 ghost use Rattle.write_format.specs.Format.{IsFormatOf, IsShort, IsShortArgument};
+ghost use Rattle.object_file.specs.Object.{IsKept};
 ghost use Rattle.object_file.specs.Table.{kind_number};
 ghost use Rattle.object_file.specs.Inside.Tables.{format_of, kind_of};
 ghost use Rattle.object_file.specs.declared.stored.ReadRefusal.TheVariants.{Bad};
@@ -16,6 +17,9 @@ use std::alloc::Global;
 use texts::{NoMemory, Text};
 use write_format::laws::pieces_are_found;
 use write_format::{ArgKind, Format, FormatRefusal};
+
+/// What is as long as this has no length of four bytes.
+const LIMIT: usize = 0x1_0000_0000;
 
 /// The kind of a number.
 fn kind_of(n: u8) -> Option<Kind>
@@ -61,6 +65,8 @@ impl Stored for Kind {
 
     ghost at = { kind_at };
 
+    ghost allocates = { false };
+
     fn write(&self, into: &mut Vec<u8>) -> Result<(), NoMemory> {
         kind_number(*self).write(into)
     }
@@ -85,6 +91,8 @@ impl Stored for ArgKind {
     ghost holds = { IsShortArgument };
 
     ghost at = { argument_at };
+
+    ghost allocates = { true };
 
     fn write(&self, into: &mut Vec<u8>) -> Result<(), NoMemory> {
         match self {
@@ -124,6 +132,40 @@ impl Stored for ArgKind {
     }
 }
 
+/// Whether an argument is no text of 2^32 bytes or more.
+fn is_short_argument(arg: &ArgKind) -> bool
+    ensures { IsTrue result ↔ IsShortArgument arg.now }
+{
+    match arg {
+        ArgKind::Number(_) => true,
+        ArgKind::Chars { .. } => true,
+        ArgKind::Str(own) => own.bytes().len() < LIMIT,
+    }
+}
+
+/// Whether none of these arguments is a text of 2^32 bytes or more.
+fn are_short_arguments(args: &[ArgKind]) -> bool
+    ensures { IsTrue result ↔ All IsShortArgument args.now }
+{
+    args.iter().all(|arg| is_short_argument(arg))
+}
+
+/// Whether the text of a format, its arguments and the texts among them are short enough to be stored.
+fn is_kept(format: &Format) -> bool
+    ensures { IsTrue result ↔ IsKept format.now }
+{
+    let text = format.text();
+    let args = format.args();
+    format.is_short() && text.len() < LIMIT && args.len() < LIMIT && are_short_arguments(args)
+}
+
+/// Whether all formats are short enough to be stored.
+pub(crate) fn are_kept(formats: &[Format]) -> bool
+    ensures { IsTrue result ↔ All IsKept formats.now }
+{
+    formats.iter().all(|format| is_kept(format))
+}
+
 /// The format of a text and arguments.
 fn read_format(alloc: Global, own: &[u8], args: &[ArgKind]) -> Result<Format, ReadRefusal>
     ensures found { IfOk result (IsFormatOf own.now args.now) }
@@ -150,10 +192,9 @@ impl Stored for Format {
 
     ghost at = { format_at };
 
+    ghost allocates = { true };
+
     fn write(&self, into: &mut Vec<u8>) -> Result<(), NoMemory> {
-        if !self.is_short() {
-            return Err(NoMemory);
-        }
         write_text(self.text(), into)?;
         write_list(self.args(), into)
     }
@@ -181,6 +222,8 @@ impl Stored for Fun {
 
     ghost at = { function_at };
 
+    ghost allocates = { false };
+
     fn write(&self, into: &mut Vec<u8>) -> Result<(), NoMemory> {
         (self.start, (self.end, self.gives)).write(into)
     }
@@ -205,6 +248,8 @@ impl Stored for Selector {
 
     ghost at = { selector_at };
 
+    ghost allocates = { false };
+
     fn write(&self, into: &mut Vec<u8>) -> Result<(), NoMemory> {
         (self.rank, (self.low, self.high)).write(into)
     }
@@ -228,6 +273,8 @@ impl Stored for Option<u8> {
     ghost holds = { λ _. ⊤ };
 
     ghost at = { key_at };
+
+    ghost allocates = { false };
 
     fn write(&self, into: &mut Vec<u8>) -> Result<(), NoMemory> {
         match self {
@@ -261,6 +308,8 @@ impl Stored for Event {
     ghost holds = { IsShortEvent };
 
     ghost at = { event_at };
+
+    ghost allocates = { true };
 
     fn write(&self, into: &mut Vec<u8>) -> Result<(), NoMemory> {
         match self {
@@ -315,6 +364,8 @@ impl Stored for Handler {
     ghost holds = { λ handler. IsShortEvent handler.event };
 
     ghost at = { handler_at };
+
+    ghost allocates = { true };
 
     fn write(&self, into: &mut Vec<u8>) -> Result<(), NoMemory> {
         self.event.write(into)?;

@@ -1,10 +1,8 @@
 -- The records that were passed are written.
-use Rattle.std.proofs.Common.{◌≡◌, ◌++◌, All, take}
+use Rattle.std.proofs.Common.{◌≡◌, ◌++◌, take}
 use Rattle.std.specs.Prelude.{flat_map}
 use Rattle.object_file.proofs.list.write_records.Given as goal
 
 abbrev pub invariant-loop-record : goal.invariant-loop-record
-invariant-loop-record g l = record {
-  bytes : l.into.items ≡ l.initial.into.items ++ flat_map g.T.Stored.spelling (take l.record-index l.records);
-  holds : All g.T.Stored.holds (take l.record-index l.records);
-}
+invariant-loop-record g l =
+    l.into.items ≡ l.initial.into.items ++ flat_map g.T.Stored.spelling (take l.record-index l.records)

@@ -5,7 +5,7 @@ use Rattle.object_file.specs.Number.{dword}
 use Rattle.object_file.proofs.Pairs.{halves_written}
 use Rattle.object_file.proofs.number.U64Stored.write.Goals as goal
 
-pub returns-clause-bytes : goal.returns-clause-bytes
-returns-clause-bytes c =
+pub returns : goal.returns
+returns c =
     subst (λ l. OnOk c.write.result (c.write.new.into.items ≡ c.args.into.now.items ++ l))
-    (halves_written 4294967296 dword c.args.self.now _ _ refl refl) c.write.ensures.bytes
+    (halves_written 4294967296 dword c.args.self.now _ _ refl refl) c.write.ensures
