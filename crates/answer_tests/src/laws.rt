@@ -1,4 +1,4 @@
-// Calls of the laws of all inputs.
+// Calls of the laws of all inputs, and of those of the turns that sources take.
 
 #[test]
 fn each_text_has_a_reading_or_a_refusal() {
@@ -17,4 +17,11 @@ fn each_input_has_one_answer() {
     sim_answers::laws::one_of_three_holds();
     sim_answers::laws::each_input_has_one_answer();
     sim_answers::laws::commands_without_a_blame_have_a_whole_answer();
+}
+
+#[test]
+fn sources_are_cut_for_want_of_turns_alone() {
+    meaning_laws::laws::no_turns_are_added();
+    meaning_laws::laws::turns_left_are_enough();
+    meaning_laws::laws::cuts_leave_no_turn();
 }
