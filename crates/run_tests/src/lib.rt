@@ -22,6 +22,8 @@ mod instants;
 #[cfg(test)]
 mod laws;
 #[cfg(test)]
+mod nested;
+#[cfg(test)]
 mod pairs;
 #[cfg(test)]
 mod runs;
