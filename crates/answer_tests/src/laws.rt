@@ -1,4 +1,4 @@
-// Calls of the laws of all inputs, and of those of the turns that sources take.
+// Calls of the laws of all inputs, of the programs among them, and of the turns that sources take.
 
 #[test]
 fn each_text_has_a_reading_or_a_refusal() {
@@ -24,4 +24,26 @@ fn sources_are_cut_for_want_of_turns_alone() {
     meaning_laws::laws::no_turns_are_added();
     meaning_laws::laws::turns_left_are_enough();
     meaning_laws::laws::cuts_leave_no_turn();
+}
+
+#[test]
+fn trees_of_texts_are_small() {
+    small_trees::laws::tokens_of_texts_are_small();
+    small_trees::laws::programs_of_small_texts_are_readable();
+    small_trees::laws::programs_weigh_eight_times_their_tokens();
+    small_trees::laws::programs_declare_no_more_than_their_tokens();
+}
+
+#[test]
+fn programs_without_offences_are_sound() {
+    sound_programs::laws::needed_expressions_are_numbers();
+    sound_programs::laws::statements_have_sound_trees();
+    sound_programs::laws::programs_have_their_tables();
+    sound_programs::laws::programs_have_sound_formats();
+    sound_programs::laws::programs_keep_events_apart();
+    sound_programs::laws::programs_have_sound_procedures();
+    sound_programs::laws::programs_have_held_starts();
+    sound_programs::laws::functions_do_not_reach_their_callers();
+    sound_programs::laws::light_programs_have_short_lists();
+    sound_programs::laws::programs_without_offences_are_sound();
 }

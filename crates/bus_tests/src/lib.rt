@@ -1,5 +1,5 @@
-//! Tests of the bits of frames, of the signals in a payload, and of buses: a module for each crate that
-//! is tested.
+//! Tests of frames and their bits, of the signals in a payload, of message variables, and of buses: a module
+//! for each crate that is tested.
 //!
 //! They stand here, above those crates, so that each of those is proved without them.
 #![tactic(auto)]
@@ -11,8 +11,14 @@ mod frames;
 #[cfg(test)]
 mod heap_bus;
 #[cfg(test)]
+mod identifiers;
+#[cfg(test)]
+mod messages;
+#[cfg(test)]
 mod pair;
 #[cfg(test)]
 mod plain_bus;
+#[cfg(test)]
+mod requests;
 #[cfg(test)]
 mod signals;

@@ -10,11 +10,3 @@ ghost use Rattle.can_bus.specs.Waiting.{Requests, winner, IsWinner};
 pub fn winner_goes_first()
     ensures { (requests : Requests) → MatchOption (winner requests) (requests ≡ empty) (IsWinner requests) }
 {}
-
-#[cfg(test)]
-mod tests {
-    #[test]
-    fn laws_can_be_called() {
-        super::winner_goes_first();
-    }
-}

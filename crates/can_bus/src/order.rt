@@ -19,28 +19,3 @@ pub fn goes_before(a: &Waiting, b: &Waiting) -> bool
     }
     a.node < b.node || a.node == b.node && a.number < b.number
 }
-
-#[cfg(test)]
-mod tests {
-    use super::*;
-    use can_frame::{Frame, Ident};
-    use std::test::Fail;
-
-    #[test]
-    fn the_lesser_node_goes_before(rt: HostRuntime) -> Result<(), Fail> {
-        let frame = Frame::make(Ident::Std(0), false, 0, [0; 8], 1).ok_or("a frame")?;
-        let first = Waiting {
-            node: 0,
-            number: 1,
-            frame,
-        };
-        let second = Waiting {
-            node: 1,
-            number: 0,
-            frame,
-        };
-        assert!(rt; goes_before(&first, &second));
-        assert!(rt; !goes_before(&second, &first));
-        Ok(())
-    }
-}

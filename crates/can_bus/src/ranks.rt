@@ -51,37 +51,3 @@ pub fn transmission_with_rank(
         None => None,
     }
 }
-
-#[cfg(test)]
-mod tests {
-    use super::*;
-    use can_frame::{Frame, Ident};
-    use std::test::Fail;
-
-    // Of node 1 one request is on the wire, with number 4, and two wait; node 0 has another.
-    #[test]
-    fn ranks_count_the_wire_and_those_that_wait(rt: HostRuntime) -> Result<(), Fail> {
-        let frame = Frame::make(Ident::Std(0), false, 0, [0; 8], 1).ok_or("a frame")?;
-        let request = |node: u32, number: u64| Waiting {
-            node,
-            number,
-            frame,
-        };
-        let waiting = [request(1, 9), request(0, 5), request(1, 7)];
-        let wire = Some(Transmission {
-            request: request(1, 4),
-            end: 100,
-        });
-        assert!(rt; carries_earlier(&wire, 1, 7));
-        assert!(rt; !carries_earlier(&wire, 0, 7));
-        assert_eq!(rt; rank(&waiting, &wire, 1, 9), 2);
-        assert_eq!(rt; rank(&waiting, &wire, 0, 9), 1);
-        let carried = Some(Transmission {
-            request: request(1, 0),
-            end: 100,
-        });
-        assert_eq!(rt; transmission_with_rank(&waiting, &wire, 1), carried);
-        assert_eq!(rt; transmission_with_rank(&waiting, &wire, 0), wire);
-        Ok(())
-    }
-}

@@ -31,19 +31,3 @@ pub fn intermission(bit: u32) -> u64
 {
     INTERMISSION * u64::from(bit)
 }
-
-#[cfg(test)]
-mod tests {
-    use super::*;
-    use can_frame::Ident;
-    use std::test::Fail;
-
-    // The frame of zeros has 50 bits, by a model of ISO 11898-1 apart from this code.
-    #[test]
-    fn times_of_the_frame_of_zeros(rt: HostRuntime) -> Result<(), Fail> {
-        let frame = Frame::make(Ident::Std(0), false, 0, [0; 8], 1).ok_or("a frame")?;
-        assert_eq!(rt; time_on_wire(&frame, 2), 100);
-        assert_eq!(rt; intermission(2), 6);
-        Ok(())
-    }
-}

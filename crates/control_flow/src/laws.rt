@@ -32,12 +32,3 @@ pub fn loops_unroll<M>()
         for_loop n nothing test step body w ≡
         deciding (test w) (round body (followed_by step (for_loop n nothing test step body))) nothing }
 {}
-
-#[cfg(test)]
-mod tests {
-    #[test]
-    fn laws_can_be_called() {
-        super::turns_left_are_enough::<bool>();
-        super::loops_unroll::<bool>();
-    }
-}

@@ -3,8 +3,8 @@
 ghost use Rattle.int_kinds.specs.Kind.{IsNumber};
 
 use int_kinds::{
-    BinOp, Kind, add, and, bits, div, holds, inv, is_number, join, mul, neg, or, rem, residue, shl,
-    shr, sub, truth, wrap, xor,
+    BinOp, Kind, add, and, bits, div, holds, inv, is_number, join, laws, mul, neg, or, rem, residue,
+    shl, shr, sub, truth, wrap, xor,
 };
 
 /// The least and the greatest number that a call takes.
@@ -491,4 +491,9 @@ fn numbers_lie_in_the_range_of_all_kinds(rt: HostRuntime) {
     assert_eq!(rt; residue(Kind::Word, LEAST - 1), 0xffff);
     assert_eq!(rt; truth(true), 1);
     assert_eq!(rt; truth(false), 0);
+}
+
+#[test]
+fn laws_can_be_called() {
+    laws::wrapped_is_unique(Kind::Byte);
 }

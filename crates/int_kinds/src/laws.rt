@@ -12,13 +12,3 @@ pub const fn wrapped_is_unique(k: Kind)
     ensures congruent { (n : ℤ) → Congruent (2 ^ width k) (wrap k n) n }
     ensures only { (m n : ℤ) → Holds k m → Congruent (2 ^ width k) m n → m ≡ wrap k n }
 {}
-
-#[cfg(test)]
-mod tests {
-    use crate::Kind;
-
-    #[test]
-    fn laws_can_be_called() {
-        super::wrapped_is_unique(Kind::Byte);
-    }
-}

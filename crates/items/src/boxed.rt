@@ -47,17 +47,3 @@ impl<T: Drop> Boxed<T> {
         })
     }
 }
-
-#[cfg(test)]
-mod tests {
-    use super::*;
-    use std::test::Fail;
-
-    #[test]
-    fn boxes_hold_their_value(rt: HostRuntime) -> Result<(), Fail> {
-        let boxed = Boxed::new(rt.alloc(), 4u8)?;
-        assert_eq!(rt; *boxed.get(), 4);
-        assert_eq!(rt; boxed.into_inner(), 4);
-        Ok(())
-    }
-}

@@ -91,23 +91,3 @@ impl<T: Copy> Items<T> {
         Ok(Items { list })
     }
 }
-
-#[cfg(test)]
-mod tests {
-    use super::*;
-    use std::test::Fail;
-
-    #[test]
-    fn items_are_those_of_the_list(rt: HostRuntime) -> Result<(), Fail> {
-        let alloc = rt.alloc();
-        let none: Items<u8> = Items::new(alloc);
-        assert!(rt; none.is_empty());
-        let items = Items::from_list(vec![in alloc; 4u8, 5]?);
-        assert_eq!(rt; items.len(), 2);
-        assert!(rt; !items.is_empty());
-        let copy = items.copy()?;
-        assert_eq!(rt; items.as_slice(), [4, 5].as_slice());
-        assert_eq!(rt; copy.into_list().as_slice(), [4, 5].as_slice());
-        Ok(())
-    }
-}

@@ -42,22 +42,3 @@ fn are_lanes_hex(bytes: &[u8], place: usize) -> bool
         | lanes.simd_gt(u8x16::splat(b'f'));
     outside.to_bitmask() == 0
 }
-
-#[cfg(test)]
-mod tests {
-    use super::*;
-    use std::test::Fail;
-
-    #[test]
-    fn digits_and_a_last_byte_that_is_none(rt: HostRuntime) -> Result<(), Fail> {
-        for count in [0, 1, 31, 32, 33, 100] {
-            let mut bytes = vec![in rt.alloc(); b'F'; count]?;
-            assert!(rt; all_hex(&bytes));
-            if let Some(last) = bytes.last_mut() {
-                *last = b'G';
-                assert!(rt; !all_hex(&bytes));
-            }
-        }
-        Ok(())
-    }
-}

@@ -55,38 +55,3 @@ fn held_lanes(lows: &[u32], highs: &[u32], place: usize, key: u32) -> u64
     let at_most = u32x16::from_slice(&highs[place..]).simd_min(keys);
     at_least.simd_eq(at_most).to_bitmask()
 }
-
-#[cfg(test)]
-mod tests {
-    use super::*;
-    use std::test::Fail;
-
-    // Ranges of one key each, so that only the last one holds the last key.
-    #[test]
-    fn the_last_of_many_ranges(rt: HostRuntime) -> Result<(), Fail> {
-        for count in [0, 1, 7, 8, 9, 63, 64, 65] {
-            let keys: Vec<u32> = (0..count).collect(rt.alloc())?;
-            let last = keys.len().checked_sub(1);
-            assert_eq!(rt;
-                first_in_ranges(&keys, &keys, count.saturating_sub(1)),
-                last
-            );
-            assert_eq!(rt; first_in_ranges(&keys, &keys, count), None);
-        }
-        Ok(())
-    }
-
-    // The first of two ranges that hold the key, and keys whose top bit is set.
-    #[test]
-    fn the_first_range_and_great_keys(rt: HostRuntime) {
-        let lows = [0, 5, 0x8000_0000];
-        let highs = [4, 0x7fff_ffff, 0xffff_ffff];
-        assert_eq!(rt; first_in_ranges(&lows, &highs, 4), Some(0));
-        assert_eq!(rt; first_in_ranges(&lows, &highs, 0x7fff_ffff), Some(1));
-        assert_eq!(rt; first_in_ranges(&lows, &highs, 0xffff_ffff), Some(2));
-        assert_eq!(rt;
-            first_in_ranges(&[0; 16], &[0xffff_ffff; 16], 0x8000_0000),
-            Some(0)
-        );
-    }
-}

@@ -30,22 +30,3 @@ pub fn bad_line(log: &[u8]) -> Option<u32>
     }
     None
 }
-
-#[cfg(test)]
-mod tests {
-    use super::*;
-
-    #[test]
-    fn lines_without_a_reading_are_bad(rt: HostRuntime) {
-        let rows: [(&[u8], Option<u32>); 5] = [
-            (b"", None),
-            (b"(1.000000) can0 123#\n\n(1.000000) can0 123##1\n", None),
-            (b"(1.000000) can0 123#\nhello\n(1.0) can0\n", Some(2)),
-            (b"(1.000000) can0 123#\nhello", None),
-            (b"hello\n", Some(1)),
-        ];
-        for (log, wanted) in rows {
-            assert_eq!(rt; bad_line(log), wanted);
-        }
-    }
-}

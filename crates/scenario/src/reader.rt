@@ -3,12 +3,13 @@
 ghost use Rattle.std.specs.Prelude.{◌≡◌, ◌<◌, ◌^◌, length, IfOk, IfErr};
 ghost use Rattle.scenario.specs.Scenario.{IsScenario, IsRefusal};
 ghost use Rattle.scenario.specs.Within.{IsWithin};
-ghost use Rattle.scenario.specs.Inside.Draft.{with_line, rule_of_next};
+ghost use Rattle.scenario.specs.Inside.Draft.{rule_behind, rule_of_next, with_item, with_line};
+ghost use Rattle.scenario.specs.Item.{fields_of, item_of};
 ghost use Rattle.scenario.specs.declared.refusal.ScenarioRefusal.TheVariants.{Broken};
 
 use crate::draft::Draft;
 use crate::fields::fields_of;
-use crate::item::item_of;
+use crate::item::{Item, item_of};
 use crate::line::next_line;
 use crate::refusal::ScenarioRefusal;
 use crate::scenario::Scenario;
@@ -68,8 +69,24 @@ fn read_line(alloc: Global, line: &[u8], draft: &mut Draft) -> Result<Option<u8>
     if let [] | [b'#', ..] = line {
         return Ok(None);
     }
+    let item = item_of_line(alloc, line)?;
+    add_item(item, draft)
+}
+
+/// The item of a line that is not passed over.
+fn item_of_line(alloc: Global, line: &[u8]) -> Result<Item, NoMemory>
+    ensures { IfOk result (λ item. item ≡ item_of (fields_of line.now)) }
+{
     let fields = fields_of(alloc, line)?;
-    let item = item_of(alloc, fields.as_slice())?;
+    item_of(alloc, fields.as_slice())
+}
+
+/// Adds an item to the draft, or gives the least rule that it breaks behind those before it, and leaves
+/// the draft.
+fn add_item(item: Item, draft: &mut Draft) -> Result<Option<u8>, NoMemory>
+    ensures rule { IfOk result (λ broken. broken ≡ rule_behind draft.old item) }
+    ensures after { result ≡ Ok None → draft.new ≡ with_item draft.old item }
+{
     let broken = draft.rule_behind(&item);
     if broken.is_none() {
         draft.add(item)?;

@@ -60,34 +60,3 @@ fn append_row(text: &mut Vec<u8>, row: MeterRow) -> Result<(), NoMemory>
     text.push(b' ')?;
     append_number(text, row.turns)
 }
-
-#[cfg(test)]
-mod tests {
-    use super::*;
-    use items::Items;
-    use run_effects::Selector;
-    use std::test::Fail;
-
-    #[test]
-    fn lines_of_the_events(rt: HostRuntime) -> Result<(), Fail> {
-        let row = MeterRow {
-            runs: 3,
-            turns: 18_446_744_073_709_551_615,
-        };
-        let selectors: Items<Selector> = Items::new(rt.alloc());
-        let rows = [
-            (Event::PreStart, "preStart"),
-            (Event::Start, "start"),
-            (Event::Stop, "stopMeasurement"),
-            (Event::Message(selectors), "message"),
-            (Event::Timer(7), "timer"),
-            (Event::Key(Some(b'a')), "key"),
-        ];
-        for (event, word) in &rows {
-            let line = profile_line(rt.alloc(), b"N", b"d/n.can", 12, event, row)?;
-            let wanted = format!(in rt.alloc(); "p N d/n.can:12 {word} 3 18446744073709551615\n")?;
-            assert_eq!(rt; line.bytes(), wanted.as_bytes());
-        }
-        Ok(())
-    }
-}

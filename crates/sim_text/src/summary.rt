@@ -30,17 +30,3 @@ pub fn summary_line(
     text.push(b'\n')?;
     Text::make(alloc, &text)
 }
-
-#[cfg(test)]
-mod tests {
-    use super::*;
-    use std::test::Fail;
-
-    #[test]
-    fn line_of_a_run(rt: HostRuntime) -> Result<(), Fail> {
-        let line = summary_line(rt.alloc(), 64, 0, 20, 18_446_744_073_709_551_615)?;
-        let wanted = "gen 64 frames 0 lines 20 turns 18446744073709551615\n";
-        assert_eq!(rt; line.bytes(), wanted.as_bytes());
-        Ok(())
-    }
-}

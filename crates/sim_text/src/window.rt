@@ -52,28 +52,3 @@ fn append_micros(line: &mut Vec<u8>, micros: u64) -> Result<(), NoMemory>
     line.extend_from_slice(&digits)?;
     Ok(())
 }
-
-#[cfg(test)]
-mod tests {
-    use super::*;
-    use std::test::Fail;
-
-    #[test]
-    fn lines_of_some_texts(rt: HostRuntime) -> Result<(), Fail> {
-        let rows: [(u64, &[u8], &[u8]); 5] = [
-            (0, b"hi", b"w 0.000000 N hi\n"),
-            (0, b"", b"w 0.000000 N \n"),
-            (1_000_001, b"a\nb\r", b"w 1.000001 N a\\nb\\r\n"),
-            (
-                86_400_000_000,
-                b"\\ \x00\xFF",
-                b"w 86400.000000 N \\ \x00\xFF\n",
-            ),
-            (u64::MAX, b"x", b"w 18446744073709.551615 N x\n"),
-        ];
-        for (now, text, line) in rows {
-            assert_eq!(rt; window_line(rt.alloc(), now, b"N", text)?.bytes(), line);
-        }
-        Ok(())
-    }
-}

@@ -41,14 +41,3 @@ pub fn programs_declare_no_more_than_their_tokens()
     ensures variables { (texts : List (List Tok)) (base : List DbcMessage) (program : Program) →
         AllZip IsTreeOf texts program.files → length (variables_of base program) ≤ sum_by length texts }
 {}
-
-#[cfg(test)]
-mod tests {
-    #[test]
-    fn laws_can_be_called() {
-        super::tokens_of_texts_are_small();
-        super::programs_of_small_texts_are_readable();
-        super::programs_weigh_eight_times_their_tokens();
-        super::programs_declare_no_more_than_their_tokens();
-    }
-}

@@ -130,20 +130,3 @@ pub fn programs_without_offences_are_sound()
         cells_of_program base program ≤ 1000000 → weight program < 2 ^ 35 →
         IsSound (typed_program base program order line) }
 {}
-
-#[cfg(test)]
-mod tests {
-    #[test]
-    fn laws_can_be_called() {
-        super::needed_expressions_are_numbers();
-        super::statements_have_sound_trees();
-        super::programs_have_their_tables();
-        super::programs_have_sound_formats();
-        super::programs_keep_events_apart();
-        super::programs_have_sound_procedures();
-        super::programs_have_held_starts();
-        super::functions_do_not_reach_their_callers();
-        super::light_programs_have_short_lists();
-        super::programs_without_offences_are_sound();
-    }
-}

@@ -43,25 +43,3 @@ pub fn first_line(text: &[u8]) -> Option<FirstLine<'_>>
         }),
     }
 }
-
-#[cfg(test)]
-mod tests {
-    use super::*;
-
-    #[test]
-    fn lines_are_taken_one_by_one(rt: HostRuntime) {
-        let rows: [(&[u8], &[u8], bool, &[u8]); 4] = [
-            (b"a\r\nb", b"a\r", true, b"b"),
-            (b"\n\n", b"", true, b"\n"),
-            (b"last", b"last", false, b""),
-            (b"end\n", b"end", true, b""),
-        ];
-        for (text, line, is_ended, rest) in rows {
-            let first = first_line(text).expect(&rt, "the text is not empty");
-            assert_eq!(rt; first.line, line);
-            assert_eq!(rt; first.is_ended, is_ended);
-            assert_eq!(rt; first.rest, rest);
-        }
-        assert!(rt; first_line(b"").is_none());
-    }
-}

@@ -50,28 +50,3 @@ fn value_of(digit: u8) -> u64
     };
     u64::from(value)
 }
-
-#[cfg(test)]
-mod tests {
-    use super::*;
-
-    #[test]
-    fn decimal_numbers_are_read_up_to_a_limit(rt: HostRuntime) {
-        assert_eq!(rt; decimal_number(b"007", 7), Some(7));
-        assert_eq!(rt; decimal_number(b"8", 7), None);
-        assert_eq!(rt;
-            decimal_number(b"18446744073709551615", u64::MAX),
-            Some(u64::MAX)
-        );
-        assert_eq!(rt; decimal_number(b"18446744073709551616", u64::MAX), None);
-        assert_eq!(rt; decimal_number(b"1x", 7), None);
-        assert_eq!(rt; decimal_number(b"", 7), None);
-    }
-
-    #[test]
-    fn digits_of_other_bases_are_read(rt: HostRuntime) {
-        assert_eq!(rt; number_in_base(16, b"1fF"), Some(511));
-        assert_eq!(rt; number_in_base(16, b""), Some(0));
-        assert_eq!(rt; number_in_base(16, b"10000000000000000"), None);
-    }
-}

@@ -1,5 +1,5 @@
-//! Tests of the calls that read and write texts beside sources (databases, logs, replays, scenarios) and that
-//! make random text: a module for each crate that is tested.
+//! Tests of the calls that read and write texts beside sources (databases, logs, replays, scenarios, printed
+//! lines) and that make random text: a module for each crate that is tested.
 //!
 //! They stand here, above those crates, so that each of those is proved without them.
 #![tactic(auto)]
@@ -10,6 +10,10 @@ mod databases;
 mod generated;
 #[cfg(test)]
 mod log_lines;
+#[cfg(test)]
+mod printed;
+#[cfg(test)]
+mod replayable;
 #[cfg(test)]
 mod replays;
 #[cfg(test)]
