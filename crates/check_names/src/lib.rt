@@ -12,7 +12,7 @@
 pub use first::note;
 pub use function::{DeclaredFunction, declared_functions};
 pub use head::note_type;
-pub use names::Names;
+pub use names::{Named, Names};
 pub use part::{ProgramPart, program_parts};
 pub use selector::push_ranges;
 pub use variable::{Declared, Place, Source, declared_variables};

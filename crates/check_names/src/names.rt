@@ -5,18 +5,20 @@ ghost use Rattle.std.specs.Option.{option_and_then, option_copied, option_map};
 ghost use Rattle.std.specs.List.Sorted.{IsStrictlyIncreasing};
 ghost use Rattle.std.specs.Str.{bytes_eq};
 ghost use Rattle.capl_meaning.specs.Names.{Scope, is_global, is_local, means, names_of};
-ghost use Rattle.capl_meaning.specs.Variable.{message_named};
+ghost use Rattle.capl_meaning.specs.Variable.{message_named, parts_of};
+ghost use Rattle.capl_tree.specs.declared.file.Program.{Program};
 ghost use Rattle.check_names.specs.Few.{IsFew};
 ghost use Rattle.check_names.specs.First.{IsFirstOf};
 ghost use Rattle.check_names.specs.Function.{functions_in};
 ghost use Rattle.check_names.specs.Named.{named_offences};
 ghost use Rattle.check_names.specs.Names.{messages_of};
+ghost use Rattle.check_names.specs.Part.{parts_in};
 ghost use Rattle.check_names.specs.Variable.{variable_in, variables_in};
 
 use crate::function::{DeclaredFunction, called_functions, declared_functions};
 use crate::head::note_parts;
 use crate::inner::note_inner_names;
-use crate::part::program_parts;
+use crate::part::{ProgramPart, program_parts};
 use crate::purposes::note_purposes;
 use crate::repeats::note_outer_names;
 use crate::scope::{are_in_order, first_before, number_at, tables_of};
@@ -74,15 +76,30 @@ impl<'p> Model for Names<'p> {
         × IsStrictlyIncreasing (0 ∷ map (λ f. f.number) (functions_in names.functions.items))))) };
 }
 
+/// What the names of a program mean, and the first of what they break in it.
+#[derive(Debug, Drop)]
+pub struct Named<'p> {
+    /// What they mean.
+    pub names: Names<'p>,
+    /// The first of what they break: globals, functions, parameters and locals that are declared twice,
+    /// procedures for the same, the heads of procedures, and the types of declarations. None where they
+    /// break nothing.
+    pub first: Option<Offence>,
+}
+
 impl<'p> Names<'p> {
-    /// What a program declares. Takes time and memory linear in the program, but for names of one hash.
+    /// What a program declares, with the first of what its names break. Takes time n log n and memory
+    /// linear in the program, but for names of one hash.
     pub fn build(
         alloc: Global,
         program: &'p Program,
         base: Option<&'p Database>,
-    ) -> Result<Names<'p>, NoMemory>
+    ) -> Result<Named<'p>, NoMemory>
         requires { IsFew program.now }
-        ensures { IfOk result (λ names. names ≡ names_of (messages_of base.entry) program.now) }
+        ensures names { IfOk result (λ named.
+            named.names ≡ names_of (messages_of base.entry) program.now) }
+        ensures first { IfOk result (λ named.
+            IsFirstOf named.first (named_offences (messages_of base.entry) program.now)) }
     {
         let parts = program_parts(alloc, program)?;
         let variables = declared_variables(alloc, parts.as_slice())?;
@@ -91,7 +108,7 @@ impl<'p> Names<'p> {
         let tables = tables_of(alloc, seed, variables.as_slice())?;
         let in_order = are_in_order(tables.as_slice(), variables.as_slice());
         let called = called_functions(alloc, seed, functions.as_slice())?;
-        Ok(Names {
+        let names = Names {
             base,
             variables,
             functions,
@@ -99,7 +116,9 @@ impl<'p> Names<'p> {
             tables,
             in_order,
             called,
-        })
+        };
+        let first = names.first_of(alloc, parts.as_slice())?;
+        Ok(Named { names, first })
     }
 
     /// The number of the first parameter or local of this name in the procedure of this number whose
@@ -201,20 +220,17 @@ impl<'p> Names<'p> {
         self.base?.message_by_name(name)
     }
 
-    /// The first of what names break: globals, functions, parameters and locals that are declared twice,
-    /// procedures for the same, the heads of procedures, and the types of declarations. Takes time
-    /// n log n in the program, but for names of one hash.
-    pub fn first(&self, alloc: Global, program: &Program) -> Result<Option<Offence>, NoMemory>
-        requires names { self.now ≡ names_of self.now.base program.now }
-        requires few { IsFew program.now }
-        ensures { IfOk result (λ first. IsFirstOf first (named_offences self.now.base program.now)) }
+    /// The first of what names break in a program of these parts.
+    fn first_of(&self, alloc: Global, parts: &[ProgramPart]) -> Result<Option<Offence>, NoMemory>
+        ensures { (program : Program) → self.now ≡ names_of self.now.base program →
+            parts_in parts.now ≡ parts_of program →
+            IfOk result (λ first. IsFirstOf first (named_offences self.now.base program)) }
     {
-        let parts = program_parts(alloc, program)?;
         let seed = self.seed;
         let mut first = None;
-        note_outer_names(alloc, seed, parts.as_slice(), &mut first)?;
-        note_purposes(alloc, self, seed, parts.as_slice(), &mut first)?;
-        note_parts(alloc, self, parts.as_slice(), &mut first)?;
+        note_outer_names(alloc, seed, parts, &mut first)?;
+        note_purposes(alloc, self, seed, parts, &mut first)?;
+        note_parts(alloc, self, parts, &mut first)?;
         note_inner_names(self, &mut first);
         Ok(first)
     }

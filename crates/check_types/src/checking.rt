@@ -72,13 +72,14 @@ pub fn check(
     ensures sound { IsReadable program.now → IfOk result IsSound }
     ensures refused { IfErr result (IsRefusalOf (messages_of base.entry) program.now) }
 {
-    let names = Names::build(alloc, program, base)?;
-    let constants = Constants::build(alloc, &names)?;
-    let calls = Calls::build(alloc, &names)?;
-    if let Some(offence) = first_offence(alloc, program, &names, &constants, &calls)? {
+    let named = Names::build(alloc, program, base)?;
+    let names = &named.names;
+    let constants = Constants::build(alloc, names)?;
+    let calls = Calls::build(alloc, names)?;
+    if let Some(offence) = first_offence(alloc, program, &named, &constants, &calls)? {
         return Err(CheckRefusal::Offends(offence));
     }
-    let Some(layout) = Layout::build(alloc, &names, &constants)? else {
+    let Some(layout) = Layout::build(alloc, names, &constants)? else {
         return Err(CheckRefusal::Size);
     };
     let tables = StatementTables {
@@ -89,7 +90,7 @@ pub fn check(
         constants: &constants,
     };
     let source = Source {
-        names: &names,
+        names,
         lines,
         tables: &tables,
     };

@@ -46,8 +46,9 @@ const ROWS: [Row; 3] = [
 /// The calls of a source.
 fn calls_of(alloc: Global, source: &str) -> Result<Calls, Fail> {
     let program = program(alloc, source)?;
-    let names = Names::build(alloc, &program, None)?;
-    Ok(Calls::build(alloc, &names)?)
+    let named = Names::build(alloc, &program, None)?;
+    let names = &named.names;
+    Ok(Calls::build(alloc, names)?)
 }
 
 /// Whether each of these calls is recursive that shall be, and no other.

@@ -112,11 +112,12 @@ fn check_types(rt: &impl Abort, names: &Names) {
 #[test]
 fn names_mean_what_is_declared_before(rt: HostRuntime) -> Result<(), Fail> {
     let program = program(rt.alloc(), DECLARED)?;
-    let names = Names::build(rt.alloc(), &program, None)?;
-    check_meanings(&rt, &names);
-    check_variables(&rt, &names);
-    check_selectors(&rt, rt.alloc(), &names)?;
-    check_types(&rt, &names);
+    let named = Names::build(rt.alloc(), &program, None)?;
+    let names = &named.names;
+    check_meanings(&rt, names);
+    check_variables(&rt, names);
+    check_selectors(&rt, rt.alloc(), names)?;
+    check_types(&rt, names);
     Ok(())
 }
 
@@ -129,7 +130,8 @@ fn check_messages(
 ) -> Result<(), Fail>
     requires { IsFew program.now }
 {
-    let names = Names::build(alloc, program, Some(base))?;
+    let named = Names::build(alloc, program, Some(base))?;
+    let names = &named.names;
     assert!(rt; names.message(b"M").is_some_and(|message| message.id == 5));
     assert!(rt; names.message(b"N").is_none());
     Ok(())
@@ -145,8 +147,7 @@ fn messages_are_those_of_the_database(rt: HostRuntime) -> Result<(), Fail> {
 /// The first of what the names of a source break.
 fn first(alloc: Global, source: &str) -> Result<Option<Offence>, Fail> {
     let program = program(alloc, source)?;
-    let names = Names::build(alloc, &program, None)?;
-    Ok(names.first(alloc, &program)?)
+    Ok(Names::build(alloc, &program, None)?.first)
 }
 
 #[test]

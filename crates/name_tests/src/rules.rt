@@ -69,21 +69,23 @@ fn check_field(rt: &impl Abort, alloc: Global, names: &Names, calls: &Calls) -> 
 fn expressions_are_judged(rt: HostRuntime) -> Result<(), Fail> {
     let alloc = rt.alloc();
     let program = program(alloc, "")?;
-    let names = Names::build(alloc, &program, None)?;
-    let calls = Calls::build(alloc, &names)?;
-    check_sum(&rt, alloc, &names, &calls)?;
-    check_number(&rt, alloc, &names, &calls)?;
-    check_field(&rt, alloc, &names, &calls)
+    let named = Names::build(alloc, &program, None)?;
+    let names = &named.names;
+    let calls = Calls::build(alloc, names)?;
+    check_sum(&rt, alloc, names, &calls)?;
+    check_number(&rt, alloc, names, &calls)?;
+    check_field(&rt, alloc, names, &calls)
 }
 
 /// The first offence of a program without a database.
 fn first_of(alloc: Global, program: &Program) -> Result<Option<Offence>, Fail>
     requires { IsFew program.now }
 {
-    let names = Names::build(alloc, program, None)?;
-    let constants = Constants::build(alloc, &names)?;
-    let calls = Calls::build(alloc, &names)?;
-    Ok(first_offence(alloc, program, &names, &constants, &calls)?)
+    let named = Names::build(alloc, program, None)?;
+    let names = &named.names;
+    let constants = Constants::build(alloc, names)?;
+    let calls = Calls::build(alloc, names)?;
+    Ok(first_offence(alloc, program, &named, &constants, &calls)?)
 }
 
 #[test]

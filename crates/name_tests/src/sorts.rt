@@ -90,10 +90,11 @@ fn check_array(rt: &impl Abort, alloc: Global, names: &Names) -> Result<(), Fail
 fn check_declared(rt: &impl Abort, alloc: Global, program: &Program) -> Result<(), Fail>
     requires { IsFew program.now }
 {
-    let names = Names::build(alloc, program, None)?;
-    check_words(rt, &names);
-    check_array(rt, alloc, &names)?;
-    check_constants(rt, alloc, &names)
+    let named = Names::build(alloc, program, None)?;
+    let names = &named.names;
+    check_words(rt, names);
+    check_array(rt, alloc, names)?;
+    check_constants(rt, alloc, names)
 }
 
 #[test]
@@ -150,9 +151,10 @@ fn check_beside(
 ) -> Result<(), Fail>
     requires { IsFew program.now }
 {
-    let names = Names::build(alloc, program, Some(base))?;
-    check_message(rt, alloc, &names)?;
-    check_constant(rt, alloc, &names)
+    let named = Names::build(alloc, program, Some(base))?;
+    let names = &named.names;
+    check_message(rt, alloc, names)?;
+    check_constant(rt, alloc, names)
 }
 
 #[test]

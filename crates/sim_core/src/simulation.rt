@@ -130,7 +130,8 @@ impl<B: Bus> Core<B> {
 
     /// The nodes, in order.
     pub fn nodes(&self) -> &[Node]
-        ensures { result.now ≡ self.now.nodes }
+        ensures nodes { result.now ≡ self.now.nodes }
+        ensures few { length result.now < 2 ^ 32 }
     {
         self.nodes.as_slice()
     }

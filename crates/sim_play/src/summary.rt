@@ -1,6 +1,6 @@
 // The summary of a run.
 
-ghost use Rattle.std.specs.Prelude.{◌≡◌, ◌≤◌, length, sum_by, OnOk, OnErr, IsErrOf};
+ghost use Rattle.std.specs.Prelude.{◌≡◌, ◌<◌, ◌≤◌, ◌^◌, length, sum_by, OnOk, OnErr, IsErrOf};
 ghost use Rattle.texts.specs.Fault.{HasRisen};
 ghost use Rattle.sim_outside.specs.Sink.{GrowsBy, GrowsByPrefix};
 ghost use Rattle.sim_text.specs.Summary.{summary_line};
@@ -64,6 +64,7 @@ fn show_summary<S: Sink>(
     sink: &mut S,
     meter: &Meter,
 ) -> Result<(), RecordFault>
+    requires few { length nodes.now < 2 ^ 32 }
     ensures shown { OnOk result (GrowsBy (S.written sink.old) (S.written sink.new)
         (summary_line (length nodes.now) tally.now.frames tally.now.lines
         (capped (sum_by (λ row. row.turns) meter.now)))) }
@@ -73,10 +74,7 @@ fn show_summary<S: Sink>(
     ensures fault { IsErrOf result RecordFault.Sink → HasRisen (S.faults sink.old) (S.faults sink.new) }
     ensures faults_stay { S.faults sink.old ≤ S.faults sink.new }
 {
-    // A simulation has fewer than 2^32 nodes, so their number fits.
-    let Ok(count) = u32::try_from(nodes.len()) else {
-        return Err(RecordFault::NoMemory);
-    };
+    let count = nodes.len() as u32;
     let line = summary_line(alloc, count, tally.frames, tally.lines, turns_in(meter))?;
     write_piece(sink, line.bytes())
 }

@@ -10,9 +10,10 @@ use type_starts::first_values;
 fn no_variables_have_no_first_values(rt: HostRuntime) -> Result<(), Fail> {
     let alloc = rt.alloc();
     let program = undeclared(alloc);
-    let names = Names::build(alloc, &program, None)?;
-    let constants = Constants::build(alloc, &names)?;
-    let found = first_values(alloc, &names, &constants)?;
+    let named = Names::build(alloc, &program, None)?;
+    let names = &named.names;
+    let constants = Constants::build(alloc, names)?;
+    let found = first_values(alloc, names, &constants)?;
     assert!(rt; found.is_empty());
     Ok(())
 }

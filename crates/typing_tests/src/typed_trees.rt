@@ -42,11 +42,12 @@ fn check_cells(rt: &impl Abort, alloc: Global, names: &Names, layout: &Layout) -
 fn variables_lie_one_behind_the_other(rt: HostRuntime) -> Result<(), Fail> {
     let alloc = rt.alloc();
     let program = program(alloc, "variables { message * m; msTimer t; byte b; }")?;
-    let names = Names::build(alloc, &program, None)?;
-    let constants = Constants::build(alloc, &names)?;
-    let layout = Layout::build(alloc, &names, &constants)?.ok_or("it has few cells")?;
+    let named = Names::build(alloc, &program, None)?;
+    let names = &named.names;
+    let constants = Constants::build(alloc, names)?;
+    let layout = Layout::build(alloc, names, &constants)?.ok_or("it has few cells")?;
     check_layout(&rt, &layout);
-    check_cells(&rt, alloc, &names, &layout)?;
+    check_cells(&rt, alloc, names, &layout)?;
     Ok(())
 }
 
@@ -92,20 +93,21 @@ fn check_row(rt: &impl Abort, alloc: Global, names: &Names, tables: &TreeTables)
 fn expressions_and_statements_have_trees(rt: HostRuntime) -> Result<(), Fail> {
     let alloc = rt.alloc();
     let program = undeclared(alloc);
-    let names = Names::build(alloc, &program, None)?;
-    let constants = Constants::build(alloc, &names)?;
-    let calls = Calls::build(alloc, &names)?;
-    let layout = Layout::build(alloc, &names, &constants)?.ok_or("it has few cells")?;
+    let named = Names::build(alloc, &program, None)?;
+    let names = &named.names;
+    let constants = Constants::build(alloc, names)?;
+    let calls = Calls::build(alloc, names)?;
+    let layout = Layout::build(alloc, names, &constants)?.ok_or("it has few cells")?;
     let tables = TreeTables {
         layout: &layout,
         calls: &calls,
     };
-    check_sum(&rt, alloc, &names, &tables)?;
-    check_row(&rt, alloc, &names, &tables)?;
+    check_sum(&rt, alloc, names, &tables)?;
+    check_row(&rt, alloc, names, &tables)?;
     let tables = StatementTables {
         trees: tables,
         constants: &constants,
     };
-    check_made(&rt, alloc, &names, &tables)?;
+    check_made(&rt, alloc, names, &tables)?;
     Ok(())
 }

@@ -11,13 +11,13 @@ use Rattle.check_statements.proofs.program.first_offence.Goals as goal
 
 pub returns : goal.returns
 returns c =
-    let base = c.args.names.now.base in
+    let base = c.args.named.now.names.base in
     let program = c.args.program.now in
-    let first = c.in_ok-first.first in
+    let first = c.args.named.now.first in
     let last = c.judge_parts.new.first in
     let parts = ap parts_in c.as_slice.ensures.value ∙ c.in_ok-parts.ensures in
-    let all = first_of_all base program first last c.in_ok-first.ensures
+    let all = first_of_all base program first last c.requires.named
     (c.in_ok-judge_parts.ensures
-    ∙ ap (λ (ps : List Part). noted first (flat_map (body_offences c.args.names.now) ps)) parts
+    ∙ ap (λ (ps : List Part). noted first (flat_map (body_offences c.args.named.now.names) ps)) parts
     ∙ ap (λ (n : Names). noted first (flat_map (body_offences n) (parts_of program))) c.requires.names) in
     record { none = none_of base program last all; first = some_of base program last all }

@@ -30,15 +30,15 @@ returns-in_err-show_run-clause-cut g c =
     (grows_from (g.S.Sink.written c.show_first.new.sink) (shown_first c.args.show c.args.labels.now) (ap (λ o. g.S.Sink.written o.sink) c.out.view_is) c.in_ok-show_first.ensures.shown) c.in_err-show_run.ensures.cut)
 
 pub show_last-requires-clause-names : goal.show_last-requires-clause-names
-show_last-requires-clause-names g c = c.requires.labels.names ∙ sym (as_many_nodes c.in_ok-show_run.ensures.shows) ∙ ap length (sym c.nodes.ensures)
+show_last-requires-clause-names g c = c.requires.labels.names ∙ sym (as_many_nodes c.in_ok-show_run.ensures.shows) ∙ ap length (sym c.nodes.ensures.nodes)
 
 pub show_last-requires-clause-files : goal.show_last-requires-clause-files
 show_last-requires-clause-files g c =
-    as_many_files c.args.labels.now.files c.args.core.now.nodes c.requires.labels.files ∙ sym (as_many_nodes c.in_ok-show_run.ensures.shows) ∙ ap length (sym c.nodes.ensures)
+    as_many_files c.args.labels.now.files c.args.core.now.nodes c.requires.labels.files ∙ sym (as_many_nodes c.in_ok-show_run.ensures.shows) ∙ ap length (sym c.nodes.ensures.nodes)
 
 pub show_last-requires-clause-rows : goal.show_last-requires-clause-rows
 show_last-requires-clause-rows g c =
-    subst (λ ns. row_count (handlers_of ns) ≤ length c.show_run.new.meter) (sym c.nodes.ensures) (rows_stay c.requires.rows c.in_ok-show_run.ensures.shows)
+    subst (λ ns. row_count (handlers_of ns) ≤ length c.show_run.new.meter) (sym c.nodes.ensures.nodes) (rows_stay c.requires.rows c.in_ok-show_run.ensures.shows)
 
 pub returns-in_err-show_last-clause-cut : goal.returns-in_err-show_last-clause-cut
 returns-in_err-show_last-clause-cut g c =
@@ -46,7 +46,7 @@ returns-in_err-show_last-clause-cut g c =
     (cut_last (g.S.Sink.written c.args.out.now.sink) (g.S.Sink.written c.show_first.new.sink) (g.S.Sink.written c.show_run.new.sink) (g.S.Sink.written c.show_last.new.sink) c.requires.rows
     (grows_from (g.S.Sink.written c.show_first.new.sink) (shown_first c.args.show c.args.labels.now) (ap (λ o. g.S.Sink.written o.sink) c.out.view_is) c.in_ok-show_first.ensures.shown) c.in_ok-show_run.ensures.shows
     (counted_last c.args.show c.args.labels.now (row_in c.show_run.new.meter) (handlers_of c.nodes.result.now))
-    (last_is (is_other c.args.show c.if-eq.ensures) c.requires.rows c.in_ok-show_run.ensures.shows c.nodes.result.now c.nodes.ensures)
+    (last_is (is_other c.args.show c.if-eq.ensures) c.requires.rows c.in_ok-show_run.ensures.shows c.nodes.result.now c.nodes.ensures.nodes)
     c.in_err-show_last.ensures.refused)
 
 pub returns-clause-plays : goal.returns-clause-plays
@@ -54,5 +54,5 @@ returns-clause-plays g c =
     has_played (g.S.Sink.written c.args.out.now.sink) (g.S.Sink.written c.show_first.new.sink) (g.S.Sink.written c.show_run.new.sink) (g.S.Sink.written c.show_last.new.sink) c.requires.rows
     (grows_from (g.S.Sink.written c.show_first.new.sink) (shown_first c.args.show c.args.labels.now) (ap (λ o. g.S.Sink.written o.sink) c.out.view_is) c.in_ok-show_first.ensures.shown) c.in_ok-show_run.ensures.shows
     (counted_last c.args.show c.args.labels.now (row_in c.show_run.new.meter) (handlers_of c.nodes.result.now))
-    (last_is (is_other c.args.show c.if-eq.ensures) c.requires.rows c.in_ok-show_run.ensures.shows c.nodes.result.now c.nodes.ensures)
+    (last_is (is_other c.args.show c.if-eq.ensures) c.requires.rows c.in_ok-show_run.ensures.shows c.nodes.result.now c.nodes.ensures.nodes)
     c.in_ok-show_last.ensures.shown

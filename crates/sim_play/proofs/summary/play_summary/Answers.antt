@@ -16,9 +16,9 @@ pub returns-in_err-show_summary-clause-cut : goal.returns-in_err-show_summary-cl
 returns-in_err-show_summary-clause-cut g c =
     on_err c.from_residual-in_err-show_summary.result
     (summary_cut _ (λ (t : Tally). t.frames) (λ (t : Tally). t.lines) (record { counts_frames = λ b n a t. t.0; counts_lines = λ b n a t. t.1 }) c.requires.rows refl
-    c.in_ok-run_until.ensures.runs c.nodes.result.now c.nodes.ensures c.first_lines.ensures (g.S.Sink.written c.args.sink.now) (g.S.Sink.written c.show_summary.new.sink) c.in_err-show_summary.ensures.refused)
+    c.in_ok-run_until.ensures.runs c.nodes.result.now c.nodes.ensures.nodes c.first_lines.ensures (g.S.Sink.written c.args.sink.now) (g.S.Sink.written c.show_summary.new.sink) c.in_err-show_summary.ensures.refused)
 
 pub returns-clause-plays : goal.returns-clause-plays
 returns-clause-plays g c =
     summary_played _ (λ (t : Tally). t.frames) (λ (t : Tally). t.lines) (record { counts_frames = λ b n a t. t.0; counts_lines = λ b n a t. t.1 }) c.requires.rows refl
-    c.in_ok-run_until.ensures.runs c.nodes.result.now c.nodes.ensures c.first_lines.ensures (g.S.Sink.written c.args.sink.now) (g.S.Sink.written c.show_summary.new.sink) c.in_ok-show_summary.ensures.shown
+    c.in_ok-run_until.ensures.runs c.nodes.result.now c.nodes.ensures.nodes c.first_lines.ensures (g.S.Sink.written c.args.sink.now) (g.S.Sink.written c.show_summary.new.sink) c.in_ok-show_summary.ensures.shown

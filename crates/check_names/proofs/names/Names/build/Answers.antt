@@ -51,8 +51,25 @@ called_functions-requires c =
     (listed_rise (messages_of c.args.base) c.args.program.now c.in_ok-parts.parts.items c.as_slice-2.result.now
     c.in_ok-functions.functions.items c.as_slice-2.ensures.value c.in_ok-parts.ensures c.in_ok-functions.ensures)
 
-pub invariant_of-result : goal.invariant_of-result
-invariant_of-result c = (
+pub invariant_of-names : goal.invariant_of-names
+invariant_of-names c = (
+  search rules,
+  (
+    search rules,
+    (
+      search rules,
+      (
+        listed_few c.args.program.now c.in_ok-parts.parts.items c.as_slice.result.now c.in_ok-variables.variables.items
+            c.as_slice.ensures.value c.in_ok-parts.ensures c.in_ok-variables.ensures c.requires,
+        listed_rise (messages_of c.args.base) c.args.program.now c.in_ok-parts.parts.items c.as_slice-2.result.now
+            c.in_ok-functions.functions.items c.as_slice-2.ensures.value c.in_ok-parts.ensures c.in_ok-functions.ensures,
+      ),
+    ),
+  ),
+)
+
+pub invariant_of-names-2 : goal.invariant_of-names-2
+invariant_of-names-2 c = (
   search rules,
   (
     search rules,
