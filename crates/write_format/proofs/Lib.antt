@@ -6,5 +6,7 @@ pub mod FrontLemmas
 mod LineLemmas
 mod PartLemmas
 mod PieceLemmas
+mod RangeLemmas
 mod ReadingLemmas
+mod SearchLemmas
 mod ShortLemmas

@@ -1,6 +1,6 @@
 -- The text of parts in a row.
 use Rattle.std.proofs.Common.{◌≡◌, ◌<◌, ◌≤◌, ◌+◌, ℕ, Bool, true, false, cond, List, [], ◌∷◌, ◌++◌, length, get_or, take, drop, refl, sym, ap, ◌∙◌, append_assoc, arith, to_z, of_z}
-use Rattle.std.specs.Prelude.{ℤ, pos, negsuc, ◌≤ℤ◌, ◌==◌, count_by, map, unsigned_abs}
+use Rattle.std.specs.Prelude.{ℤ, pos, negsuc, ◌≤ℤ◌, ◌==◌, count_by, flat_map, map, unsigned_abs}
 use Rattle.std.specs.Int.{w128}
 use Rattle.std.proofs.lemmas.Int.{ints, to_z-of_z}
 use Rattle.std.proofs.lemmas.List.{drop-drop, get_or-map, length-map, map-append, take-map, take_more}
@@ -9,7 +9,6 @@ use Rattle.write_format.specs.Element.{Element, Byte, Number, Character, Chars, 
 use Rattle.write_format.specs.Format.{takes_number}
 use Rattle.write_format.specs.Line.{character_of, filled, first_of, line_of, number_text, text_in}
 use Rattle.write_format.specs.Arrays.{cells_of}
-use Rattle.write_format.specs.Inside.Parts.{all_elements, elements_in}
 use Rattle.write_format.specs.declared.part.Part.{Part}
 use Rattle.write_format.proofs.PartLemmas.{elements_more}
 
@@ -103,16 +102,16 @@ pub bytes_more : (cells : List ℤ) (i : ℕ) → i < length cells
 bytes_more cells i within = ap (map unsigned_abs) (take_more cells i (pos 0) within) ∙ map-append unsigned_abs (take i cells) (get_or cells i (pos 0) ∷ [])
 
 -- one more part of a line
-pub line_more : (parts : List Part) (i taken : ℕ) (part : Part) (numbers cells : List ℤ) → i < length parts → part ≡ get_or parts i part
-    → taken ≡ taken_by (all_elements (take i parts))
-    → line_of (all_elements (take i parts)) numbers cells ++ line_of (elements_in part) (drop taken numbers) cells
-    ≡ line_of (all_elements (take (i + 1) parts)) numbers cells
-line_more parts i taken part numbers cells within is count =
-    let front = all_elements (take i parts) in
-    ap (λ n. line_of front numbers cells ++ line_of (elements_in part) (drop n numbers) cells) count
-    ∙ sym (line_of-append front (elements_in part) numbers cells)
-    ∙ ap (λ p. line_of (front ++ elements_in p) numbers cells) is
-    ∙ ap (λ l. line_of l numbers cells) (sym (elements_more parts i part within))
+pub line_more : (shown : Part → List Element) → (parts : List Part) (i taken : ℕ) (d : Part) (numbers cells : List ℤ) → i < length parts
+    → taken ≡ taken_by (flat_map shown (take i parts))
+    → line_of (flat_map shown (take i parts)) numbers cells ++ line_of (shown (get_or parts i d)) (drop taken numbers) cells
+    ≡ line_of (flat_map shown (take (i + 1) parts)) numbers cells
+line_more shown parts i taken d numbers cells within count =
+    let front = flat_map shown (take i parts) in
+    let part = get_or parts i d in
+    ap (λ n. line_of front numbers cells ++ line_of (shown part) (drop n numbers) cells) count
+    ∙ sym (line_of-append front (shown part) numbers cells)
+    ∙ ap (λ l. line_of l numbers cells) (sym (elements_more shown parts i d within))
 
 -- a byte is read back as it was written
 pub byte_read_back : (n : ℤ) → (pos 0 ≤ℤ n) × (n ≤ℤ pos 255) → to_z w128 (of_z w128 n) ≡ n

@@ -2,16 +2,16 @@
 use Rattle.std.proofs.Math.Seq.{take-length}
 use Rattle.std.proofs.lemmas.List.Folds.{length-flat_map-take}
 use Rattle.std.proofs.Common.{◌≡◌, ◌<◌, ◌≤◌, ◌+◌, ◌-◌, ℕ, zero, suc, cond, List, [], ◌∷◌, ◌++◌, length, get_or, take, drop, refl, sym, ap, subst, ◌∙◌, append_assoc, append-nil, arith, Some, None, All, drop-cons, ◌^◌}
-use Rattle.std.specs.Prelude.{ℤ, count_by, filter_map, map}
+use Rattle.std.specs.Prelude.{ℤ, count_by, filter_map, flat_map, map}
 use Rattle.std.proofs.lemmas.Grind.{flat_map-append}
-use Rattle.std.proofs.lemmas.List.{length-append, take_more, take-append-drop, get_or-append_right}
+use Rattle.std.proofs.lemmas.List.{length-append, length-drop, take_more, take-append-drop, get_or-append_right}
 use Rattle.std.proofs.lemmas.List.{get_or_append_left}
 use Rattle.std.proofs.lemmas.List.Elements.{filter_map-append, All-append, All-cons, All-nil}
 use Rattle.std.proofs.lemmas.List.Sums.{sum_by-append, sum_by-cons}
 use Rattle.write_format.specs.Element.{Element, Byte}
 use Rattle.write_format.specs.Format.{FormatText, IsShort, IsShortElement, array_of, element_of, elements_of, numbers_taken, takes_number}
 use Rattle.write_format.specs.Front.{piece_at}
-use Rattle.write_format.specs.Inside.Parts.{all_elements, elements_in}
+use Rattle.write_format.specs.Inside.Parts.{range_of}
 use Rattle.write_format.specs.Reading.{AreSpelled, HasCodesFor, codes_of}
 use Rattle.write_format.specs.declared.argument.ArgKind.{ArgKind}
 use Rattle.write_format.specs.declared.code.Code as declared
@@ -19,6 +19,7 @@ use Rattle.write_format.specs.declared.part.Part.{Part}
 use Rattle.write_format.specs.declared.piece.Piece.{Piece}
 use Rattle.write_format.specs.declared.piece.Piece.TheVariants as piece
 use Rattle.write_format.proofs.FrontLemmas.{piece_shorter}
+use Rattle.write_format.proofs.RangeLemmas.{leads_on, leads_plain, plain_at, plain_no_codes, range_shown}
 use Rattle.write_format.proofs.ReadingLemmas.{Leads, at_end, codes_left, codes_of-append, leads_push}
 
 -- no arguments
@@ -53,7 +54,7 @@ pub parts_begin : (text : List ℕ) (arguments : List ArgKind) → AreParts text
 parts_begin text arguments = record { pieces = []; leads = refl; count = refl; are = refl; few = omega arith }
 
 -- after a byte
-pub parts_byte : (text : List ℕ) (arguments : List ArgKind) (rest : List ℕ) (taken : ℕ) (elements : List Element) (byte : ℕ) (behind : List ℕ)
+parts_byte : (text : List ℕ) (arguments : List ArgKind) (rest : List ℕ) (taken : ℕ) (elements : List Element) (byte : ℕ) (behind : List ℕ)
     → AreParts text arguments rest taken elements → piece_at rest ≡ Some (piece.Byte byte, behind)
     → AreParts text arguments behind taken (elements ++ Byte byte ∷ [])
 parts_byte text arguments rest taken elements byte behind s found =
@@ -67,6 +68,44 @@ parts_byte text arguments rest taken elements byte behind s found =
       are = ap (λ l. l ++ Byte byte ∷ []) s.are ∙ sym (elements_of-append s.pieces (piece.Byte byte ∷ []) arguments);
       few = omega (arith, few, shorter);
     }
+
+-- bytes are themselves
+elements_plain : (bytes : List ℕ) (arguments : List ArgKind) → elements_of (map piece.Byte bytes) arguments ≡ map Byte bytes
+elements_plain [] arguments = refl
+elements_plain (byte ∷ bytes) arguments = ap (λ l. Byte byte ∷ l) (elements_plain bytes arguments)
+
+-- after the bytes up to the next `%`
+parts_plain : (text : List ℕ) (arguments : List ArgKind) (rest : List ℕ) (taken : ℕ) (elements : List Element)
+    → AreParts text arguments rest taken elements
+    → AreParts text arguments (drop (plain_at rest) rest) taken (elements ++ map Byte (take (plain_at rest) rest))
+parts_plain text arguments rest taken elements s =
+    let bytes = take (plain_at rest) rest in
+    let same : codes_of (s.pieces ++ map piece.Byte bytes) ≡ codes_of s.pieces =
+    codes_of-append s.pieces (map piece.Byte bytes) ∙ ap (λ l. codes_of s.pieces ++ l) (plain_no_codes bytes) ∙ append-nil (codes_of s.pieces) in
+    let few = s.few in
+    let shorter = length-drop (plain_at rest) rest in
+    record {
+      pieces = s.pieces ++ map piece.Byte bytes;
+      leads = leads_on s.pieces (map piece.Byte bytes) text rest (drop (plain_at rest) rest) s.leads (leads_plain rest);
+      count = s.count ∙ ap length (sym same);
+      are = ap (λ l. l ++ map Byte bytes) s.are
+          ∙ ap (λ l. elements_of s.pieces arguments ++ l) (sym (elements_plain bytes (drop (length (codes_of s.pieces)) arguments)))
+          ∙ sym (elements_of-append s.pieces (map piece.Byte bytes) arguments);
+      few = omega (arith, few, shorter);
+    }
+
+-- after a byte and those up to the next `%`, which are one range of the text
+pub parts_range : (text : List ℕ) (arguments : List ArgKind) (rest : List ℕ) (taken : ℕ) (elements : List Element) (byte : ℕ) (behind : List ℕ) (from len more : ℕ)
+    → AreParts text arguments rest taken elements → piece_at rest ≡ Some (piece.Byte byte, behind) → more ≡ plain_at behind
+    → from ≡ length text - length behind - 1 → len ≡ 1 + more
+    → AreParts text arguments (drop more behind) taken (elements ++ map Byte (range_of from len text))
+parts_range text arguments rest taken elements byte behind from len more s found is at one =
+    let next = parts_plain text arguments behind taken (elements ++ Byte byte ∷ []) (parts_byte text arguments rest taken elements byte behind s found) in
+    let on : AreParts text arguments (drop more behind) taken ((elements ++ Byte byte ∷ []) ++ map Byte (take more behind)) =
+    subst (λ n. AreParts text arguments (drop n behind) taken ((elements ++ Byte byte ∷ []) ++ map Byte (take n behind))) (sym is) next in
+    subst (AreParts text arguments (drop more behind) taken)
+    (append_assoc elements (Byte byte ∷ []) (map Byte (take more behind))
+    ∙ ap (λ l. elements ++ map Byte l) (sym (range_shown s.pieces text rest byte behind from len more s.leads found at one))) on
 
 -- the argument of the next code
 next_argument : (arguments : List ArgKind) (taken : ℕ) (argument : ArgKind) → taken < length arguments → argument ≡ get_or arguments taken argument
@@ -128,27 +167,27 @@ text_no_arrays [] = refl
 text_no_arrays (byte ∷ bytes) = text_no_arrays bytes
 
 -- one more part
-pub elements_more : (parts : List Part) (i : ℕ) (d : Part) → i < length parts
-    → all_elements (take (i + 1) parts) ≡ all_elements (take i parts) ++ elements_in (get_or parts i d)
-elements_more parts i d within =
-    ap all_elements (take_more parts i d within) ∙ flat_map-append elements_in (take i parts) (get_or parts i d ∷ [])
-    ∙ ap (λ l. all_elements (take i parts) ++ l) (append-nil (elements_in (get_or parts i d)))
+pub elements_more : (shown : Part → List Element) → (parts : List Part) (i : ℕ) (d : Part) → i < length parts
+    → flat_map shown (take (i + 1) parts) ≡ flat_map shown (take i parts) ++ shown (get_or parts i d)
+elements_more shown parts i d within =
+    ap (flat_map shown) (take_more parts i d within) ∙ flat_map-append shown (take i parts) (get_or parts i d ∷ [])
+    ∙ ap (λ l. flat_map shown (take i parts) ++ l) (append-nil (shown (get_or parts i d)))
 
 -- its numbers
-pub numbers_more : (parts : List Part) (i : ℕ) (d : Part) → i < length parts
-    → count_by takes_number (all_elements (take (i + 1) parts))
-    ≡ count_by takes_number (all_elements (take i parts)) + count_by takes_number (elements_in (get_or parts i d))
-numbers_more parts i d within =
-    ap (count_by takes_number) (elements_more parts i d within)
-    ∙ sum_by-append (λ e. cond (takes_number e) 1 0) (all_elements (take i parts)) (elements_in (get_or parts i d))
+pub numbers_more : (shown : Part → List Element) → (parts : List Part) (i : ℕ) (d : Part) → i < length parts
+    → count_by takes_number (flat_map shown (take (i + 1) parts))
+    ≡ count_by takes_number (flat_map shown (take i parts)) + count_by takes_number (shown (get_or parts i d))
+numbers_more shown parts i d within =
+    ap (count_by takes_number) (elements_more shown parts i d within)
+    ∙ sum_by-append (λ e. cond (takes_number e) 1 0) (flat_map shown (take i parts)) (shown (get_or parts i d))
 
 -- its array
-pub arrays_more : (parts : List Part) (i : ℕ) (d : Part) → i < length parts
-    → filter_map array_of (all_elements (take (i + 1) parts))
-    ≡ filter_map array_of (all_elements (take i parts)) ++ filter_map array_of (elements_in (get_or parts i d))
-arrays_more parts i d within =
-    ap (filter_map array_of) (elements_more parts i d within)
-    ∙ filter_map-append array_of (all_elements (take i parts)) (elements_in (get_or parts i d))
+pub arrays_more : (shown : Part → List Element) → (parts : List Part) (i : ℕ) (d : Part) → i < length parts
+    → filter_map array_of (flat_map shown (take (i + 1) parts))
+    ≡ filter_map array_of (flat_map shown (take i parts)) ++ filter_map array_of (shown (get_or parts i d))
+arrays_more shown parts i d within =
+    ap (filter_map array_of) (elements_more shown parts i d within)
+    ∙ filter_map-append array_of (flat_map shown (take i parts)) (shown (get_or parts i d))
 
 -- what is true of each element of two lists in a row is true of each of the first
 all_left : {A : Type 0} (P : A → Type 0) (xs ys : List A) → All P (xs ++ ys) → All P xs
@@ -164,44 +203,43 @@ all_right P xs ys all k d within =
     subst P (get_or-append_right xs ys (length xs) (length xs + k) d refl (omega arith) ∙ ap (λ n. get_or ys n d) at) (all (length xs + k) d (omega (arith, within, longer)))
 
 -- what is true of all arrays is true of that of each part
-pub arrays_at : (P : ℕ × ℕ → Type 0) (parts : List Part) (i : ℕ) (d : Part) → i < length parts
-    → All P (filter_map array_of (all_elements parts)) → All P (filter_map array_of (elements_in (get_or parts i d)))
-arrays_at P [] i d within all = absurd (omega (arith, within))
-arrays_at P (part ∷ parts) zero d within all =
-    all_left P (filter_map array_of (elements_in part)) (filter_map array_of (all_elements parts))
-    (subst (All P) (filter_map-append array_of (elements_in part) (all_elements parts)) all)
-arrays_at P (part ∷ parts) (suc i) d within all =
-    arrays_at P parts i d (omega (arith, within))
-    (all_right P (filter_map array_of (elements_in part)) (filter_map array_of (all_elements parts))
-    (subst (All P) (filter_map-append array_of (elements_in part) (all_elements parts)) all))
+pub arrays_at : (shown : Part → List Element) → (P : ℕ × ℕ → Type 0) (parts : List Part) (i : ℕ) (d : Part) → i < length parts
+    → All P (filter_map array_of (flat_map shown parts)) → All P (filter_map array_of (shown (get_or parts i d)))
+arrays_at shown P [] i d within all = absurd (omega (arith, within))
+arrays_at shown P (part ∷ parts) zero d within all =
+    all_left P (filter_map array_of (shown part)) (filter_map array_of (flat_map shown parts))
+    (subst (All P) (filter_map-append array_of (shown part) (flat_map shown parts)) all)
+arrays_at shown P (part ∷ parts) (suc i) d within all =
+    arrays_at shown P parts i d (omega (arith, within))
+    (all_right P (filter_map array_of (shown part)) (filter_map array_of (flat_map shown parts))
+    (subst (All P) (filter_map-append array_of (shown part) (flat_map shown parts)) all))
 
 -- the numbers of some parts and of the next one are among all
-pub numbers_at : (parts : List Part) (i : ℕ) (d : Part) → i < length parts
-    → count_by takes_number (all_elements (take i parts)) + count_by takes_number (elements_in (get_or parts i d)) ≤ count_by takes_number (all_elements parts)
-numbers_at parts i d within =
-    let more = numbers_more parts i d within in
-    let whole = ap (λ l. count_by takes_number (all_elements l)) (sym (take-append-drop (i + 1) parts))
-    ∙ ap (count_by takes_number) (flat_map-append elements_in (take (i + 1) parts) (drop (i + 1) parts))
-    ∙ sum_by-append (λ e. cond (takes_number e) 1 0) (all_elements (take (i + 1) parts)) (all_elements (drop (i + 1) parts)) in
+pub numbers_at : (shown : Part → List Element) → (parts : List Part) (i : ℕ) (d : Part) → i < length parts
+    → count_by takes_number (flat_map shown (take i parts)) + count_by takes_number (shown (get_or parts i d)) ≤ count_by takes_number (flat_map shown parts)
+numbers_at shown parts i d within =
+    let more = numbers_more shown parts i d within in
+    let whole = ap (λ l. count_by takes_number (flat_map shown l)) (sym (take-append-drop (i + 1) parts))
+    ∙ ap (count_by takes_number) (flat_map-append shown (take (i + 1) parts) (drop (i + 1) parts))
+    ∙ sum_by-append (λ e. cond (takes_number e) 1 0) (flat_map shown (take (i + 1) parts)) (flat_map shown (drop (i + 1) parts)) in
     omega (arith, more, whole)
 
 -- there are numbers for a part
-pub room : (format : FormatText) (parts : List Part) (numbers : List ℤ) (i taken : ℕ) (part : Part) → format.elements ≡ all_elements parts
-    → length numbers ≡ numbers_taken format → i < length parts → part ≡ get_or parts i part → taken ≡ count_by takes_number (all_elements (take i parts))
-    → taken + count_by takes_number (elements_in part) ≤ length numbers
-room format parts numbers i taken part is count within at so_far =
-    let few = numbers_at parts i part within in
+pub room : (shown : Part → List Element) → (format : FormatText) (parts : List Part) (numbers : List ℤ) (i taken : ℕ) (d : Part) → format.elements ≡ flat_map shown parts
+    → length numbers ≡ numbers_taken format → i < length parts → taken ≡ count_by takes_number (flat_map shown (take i parts))
+    → taken + count_by takes_number (shown (get_or parts i d)) ≤ length numbers
+room shown format parts numbers i taken d is count within so_far =
+    let few = numbers_at shown parts i d within in
     let all = ap (count_by takes_number) is in
-    let same : count_by takes_number (elements_in part) ≡ count_by takes_number (elements_in (get_or parts i part)) = ap (λ p. count_by takes_number (elements_in p)) at in
-    omega (arith, few, all, same, count, so_far)
+    omega (arith, few, all, count, so_far)
 
 -- what is true of all parts of a line is true of those that one stands for
-pub elements_at : (P : Element → Type 0) (parts : List Part) (i : ℕ) (d : Part) → i < length parts → All P (all_elements parts)
-    → All P (elements_in (get_or parts i d))
-elements_at P [] i d within all = absurd (omega (arith, within))
-elements_at P (part ∷ parts) zero d within all = all_left P (elements_in part) (all_elements parts) all
-elements_at P (part ∷ parts) (suc i) d within all =
-    elements_at P parts i d (omega (arith, within)) (all_right P (elements_in part) (all_elements parts) all)
+pub elements_at : (shown : Part → List Element) → (P : Element → Type 0) (parts : List Part) (i : ℕ) (d : Part) → i < length parts → All P (flat_map shown parts)
+    → All P (shown (get_or parts i d))
+elements_at shown P [] i d within all = absurd (omega (arith, within))
+elements_at shown P (part ∷ parts) zero d within all = all_left P (shown part) (flat_map shown parts) all
+elements_at shown P (part ∷ parts) (suc i) d within all =
+    elements_at shown P parts i d (omega (arith, within)) (all_right P (shown part) (flat_map shown parts) all)
 
 -- bytes have no text
 pub text_short : (bytes : List ℕ) → All IsShortElement (map Byte bytes)
@@ -209,46 +247,43 @@ text_short [] = All-nil IsShortElement
 text_short (byte ∷ bytes) = All-cons IsShortElement (Byte byte) (map Byte bytes) tt (text_short bytes)
 
 -- some parts are as short as a limit wants them
-pub record AreShort (parts : List Part) (i count : ℕ) : Type 0 where
-  pub count_is : count ≡ length (all_elements (take i parts))
+pub record AreShort (shown : Part → List Element) (parts : List Part) (i count : ℕ) : Type 0 where
+  pub count_is : count ≡ length (flat_map shown (take i parts))
   pub few : count < 2 ^ 32
-  pub short : All IsShortElement (all_elements (take i parts))
+  pub short : All IsShortElement (flat_map shown (take i parts))
 
 -- and one more
-pub short_more : (parts : List Part) (i count more : ℕ) (part : Part) → i < length parts → part ≡ get_or parts i part → AreShort parts i count
-    → more ≡ length (elements_in part) → count + more < 2 ^ 32 → All IsShortElement (elements_in part) → AreShort parts (i + 1) (count + more)
-short_more parts i count more part within is so_far more_is few short =
-    let longer = elements_more parts i part within in
-    let at : elements_in part ≡ elements_in (get_or parts i part) = ap elements_in is in
-    let whole = ap length longer ∙ length-append (all_elements (take i parts)) (elements_in (get_or parts i part)) in
-    let same = ap length at in
+pub short_more : (shown : Part → List Element) → (parts : List Part) (i count more : ℕ) (d : Part) → i < length parts → AreShort shown parts i count
+    → more ≡ length (shown (get_or parts i d)) → count + more < 2 ^ 32 → All IsShortElement (shown (get_or parts i d)) → AreShort shown parts (i + 1) (count + more)
+short_more shown parts i count more d within so_far more_is few short =
+    let longer = elements_more shown parts i d within in
+    let whole = ap length longer ∙ length-append (flat_map shown (take i parts)) (shown (get_or parts i d)) in
     let count_is = so_far.count_is in
     record {
-      count_is = omega (arith, count_is, more_is, same, whole);
+      count_is = omega (arith, count_is, more_is, whole);
       few = few;
       short = subst (All IsShortElement) (sym longer)
-          (All-append IsShortElement (all_elements (take i parts)) (elements_in (get_or parts i part)) so_far.short (subst (All IsShortElement) at short));
+          (All-append IsShortElement (flat_map shown (take i parts)) (shown (get_or parts i d)) so_far.short short);
     }
 
 -- where one more is too long, or has too long a text, the format is not short
-pub not_short : (format : FormatText) (parts : List Part) (i count more : ℕ) (part : Part) → format.elements ≡ all_elements parts
-    → i < length parts → part ≡ get_or parts i part → AreShort parts i count → more ≡ length (elements_in part)
-    → (count + more < 2 ^ 32 → All IsShortElement (elements_in part) → ⊥) → IsShort format → ⊥
-not_short format parts i count more part is within at so_far more_is long short =
-    let all : all_elements parts ≡ format.elements = sym is in
-    let room : length (all_elements (take i parts)) + length (elements_in (get_or parts i part)) ≤ length (all_elements parts) = length-flat_map-take elements_in parts i part within in
+pub not_short : (shown : Part → List Element) → (format : FormatText) (parts : List Part) (i count more : ℕ) (d : Part) → format.elements ≡ flat_map shown parts
+    → i < length parts → AreShort shown parts i count → more ≡ length (shown (get_or parts i d))
+    → (count + more < 2 ^ 32 → All IsShortElement (shown (get_or parts i d)) → ⊥) → IsShort format → ⊥
+not_short shown format parts i count more d is within so_far more_is long short =
+    let all : flat_map shown parts ≡ format.elements = sym is in
+    let room : length (flat_map shown (take i parts)) + length (shown (get_or parts i d)) ≤ length (flat_map shown parts) = length-flat_map-take shown parts i d within in
     let few = short.few in
     let count_is = so_far.count_is in
-    let same = ap (λ p. length (elements_in p)) at in
     let whole = ap length all in
-    long (omega (arith, room, few, count_is, same, whole, more_is))
-    (subst (λ p. All IsShortElement (elements_in p)) (sym at) (elements_at IsShortElement parts i part within (subst (All IsShortElement) (sym all) short.texts)))
+    long (omega (arith, room, few, count_is, whole, more_is))
+    (elements_at shown IsShortElement parts i d within (subst (All IsShortElement) (sym all) short.texts))
 
 -- a format whose parts are all short is short
-pub all_short : (format : FormatText) (parts : List Part) (i count : ℕ) → format.elements ≡ all_elements parts → i ≡ length parts → AreShort parts i count → IsShort format
-all_short format parts i count is at_end so_far =
+pub all_short : (shown : Part → List Element) → (format : FormatText) (parts : List Part) (i count : ℕ) → format.elements ≡ flat_map shown parts → i ≡ length parts → AreShort shown parts i count → IsShort format
+all_short shown format parts i count is at_end so_far =
     let whole : take i parts ≡ parts = ap (λ n. take n parts) at_end ∙ take-length parts in
-    let same : all_elements (take i parts) ≡ format.elements = ap all_elements whole ∙ sym is in
+    let same : flat_map shown (take i parts) ≡ format.elements = ap (flat_map shown) whole ∙ sym is in
     let few = so_far.few in
     let count_is = so_far.count_is in
     let length_is = ap length same in

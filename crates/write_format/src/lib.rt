@@ -2,8 +2,9 @@
 //!
 //! A format is a text in which codes stand for arguments, as in C's `printf`. [`Format::read`] reads it
 //! once, together with what is known of its arguments before the program runs, and refuses it where a
-//! code is none of CAPL's or an argument does not fit its code. [`render`] then makes a line of it as
-//! often as it is written, from the numbers and the cells of that moment.
+//! code is none of CAPL's or an argument does not fit its code. [`Format::of_owned`] does the same and
+//! keeps what it is given. [`render`] then makes a line of it as often as it is written, from the numbers
+//! and the cells of that moment.
 //!
 //! A code is `%`, flags `-` and `0` in any order, a width of at most 32, and letters:
 //!

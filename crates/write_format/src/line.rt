@@ -1,12 +1,13 @@
 // Lines.
 
-ghost use Rattle.std.specs.Prelude.{◌≡◌, ◌≤◌, ◌≤ℤ◌, ◌+◌, ◌++◌, All, IfOk, OnOk, count_by, drop, length, map, pos, unsigned_abs};
+ghost use Rattle.std.specs.Prelude.{◌≡◌, ◌≤◌, ◌<◌, ◌≤ℤ◌, ◌+◌, ◌++◌, All, IfOk, OnOk, count_by, drop, length, map, pos, take, unsigned_abs};
 ghost use Rattle.std.specs.List.{filter_map};
 ghost use Rattle.write_format.specs.Arrays.{HoldsBytes, cells_of};
 ghost use Rattle.write_format.specs.Format.{array_of, char_arrays, numbers_taken, rendered, takes_number};
-ghost use Rattle.write_format.specs.Inside.Parts.{elements_in};
+ghost use Rattle.write_format.specs.Inside.Parts.{IsWithin, elements_in, range_of, text_at};
 ghost use Rattle.write_format.specs.Line.{line_of, text_in};
 
+use crate::argument::ArgKind;
 use crate::field::{append_filled, append_number};
 use crate::format::Format;
 use crate::part::{Part, numbers_in};
@@ -25,7 +26,14 @@ pub fn render(alloc: Global, f: &Format, numbers: &[i128], cells: &[i128]) -> Re
     let mut line = Vec::with_capacity(alloc, room_of(f))?;
     let mut taken = 0;
     for part in f.parts() {
-        append_part(alloc, &mut line, part, numbers_from(numbers, taken), cells)?;
+        append_part(
+            alloc,
+            &mut line,
+            f,
+            part,
+            numbers_from(numbers, taken),
+            cells,
+        )?;
         taken += numbers_in(part);
     }
     Text::make(alloc, &line)
@@ -42,17 +50,21 @@ fn room_of(f: &Format) -> usize {
 fn append_part(
     alloc: Global,
     line: &mut Vec<u8>,
+    f: &Format,
     part: &Part,
     numbers: &[i128],
     cells: &[i128],
 ) -> Result<(), AllocError>
-    requires numbers { count_by takes_number (elements_in part.now) ≤ length numbers.now }
-    requires arrays { All (HoldsBytes cells.now) (filter_map array_of (elements_in part.now)) }
-    ensures { OnOk result (
-        line.new.items ≡ line.old.items ++ line_of (elements_in part.now) numbers.now cells.now) }
+    requires within { IsWithin (f.now).text (f.now).arguments part.now }
+    requires numbers { count_by takes_number (elements_in (f.now).text (f.now).arguments part.now)
+        ≤ length numbers.now }
+    requires arrays { All (HoldsBytes cells.now)
+        (filter_map array_of (elements_in (f.now).text (f.now).arguments part.now)) }
+    ensures { OnOk result (line.new.items ≡ line.old.items
+        ++ line_of (elements_in (f.now).text (f.now).arguments part.now) numbers.now cells.now) }
 {
     match part {
-        Part::Text(bytes) => line.extend_from_slice(bytes.as_slice()),
+        Part::Text { from, len } => line.extend_from_slice(range_of(*from, *len, f.text())),
         Part::Number {
             field,
             kind,
@@ -65,7 +77,29 @@ fn append_part(
             let text = text_in(alloc, cells_at(cells, *base as usize, *len as usize))?;
             append_filled(line, *field, &text)
         }
-        Part::Str { field, text } => append_filled(line, *field, text.as_slice()),
+        Part::Str { field, place, len } => {
+            append_filled(line, *field, beginning_of(f.args(), *place, *len))
+        }
+    }
+}
+
+/// So many bytes of a text, from a place on.
+fn range_of(from: usize, len: usize, text: &[u8]) -> &[u8]
+    requires { from + len ≤ length text.now }
+    ensures { result.now ≡ range_of from len text.now }
+{
+    &text[from..from + len]
+}
+
+/// So many bytes of the text that is the argument at a place.
+fn beginning_of(args: &[ArgKind], place: usize, len: usize) -> &[u8]
+    requires there { place < length args.now }
+    requires long { len ≤ length (text_at place args.now) }
+    ensures { result.now ≡ take len (text_at place args.now) }
+{
+    match &args[place] {
+        ArgKind::Str(text) => &text.bytes()[..len],
+        ArgKind::Number(_) | ArgKind::Chars { .. } => &[],
     }
 }
 

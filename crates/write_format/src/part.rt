@@ -1,27 +1,29 @@
 // The parts of a line, as a format holds them.
 
-ghost use Rattle.std.specs.Prelude.{◌≡◌, ◌==◌, count_by, ◌<◌, ◌≤◌, ◌++◌, ◌∷◌, ℕ, [], List, IfOk, OnOk, length, Some, None, true, All, IsTrue, ◌↔◌};
-ghost use Rattle.std.specs.List.{position_or_len};
-ghost use Rattle.write_format.specs.Element as element;
+ghost use Rattle.std.specs.Prelude.{◌≡◌, ◌↔◌, ◌≤◌, ◌++◌, ℕ, [], List, All, IfOk, IfSome, IsNone, IsTrue, OnOk, count_by, length};
 ghost use Rattle.write_format.specs.Format.{IsShortElement, element_of, elements_of, takes_number};
-ghost use Rattle.write_format.specs.Inside.Parts.{all_elements, elements_in};
-ghost use Rattle.write_format.specs.Line.{before_zero};
-ghost use Rattle.write_format.specs.Reading.{AreMatched, AreSpelled, HasCodesFor, codes_of, first_unfit, is_fit};
+ghost use Rattle.write_format.specs.Inside.Parts.{IsArgumentAt, IsWithin, all_elements, elements_in};
+ghost use Rattle.write_format.specs.Reading.{AreSpelled, HasCodesFor};
+ghost use Rattle.write_format.specs.declared.argument.ArgKind as argument;
 ghost use Rattle.write_format.specs.declared.piece.Piece as declared;
 
 use crate::argument::ArgKind;
 use crate::code::{Code, Conversion, Digits, Field};
 use crate::format::LIMIT;
-use crate::piece::{Piece, next_piece};
+use crate::piece::{Piece, next_piece, place_of};
 use int_kinds::Kind;
-use items::Items;
 use std::alloc::{AllocError, Global};
 
-/// A part of a line.
-#[derive(Debug, Drop)]
+/// A part of a line. What its bytes are stands in the format's text and its arguments.
+#[derive(Clone, Copy, Debug)]
 pub(crate) enum Part {
-    /// Bytes that are written as they are.
-    Text(Items<u8>),
+    /// Bytes of the text that are written as they are.
+    Text {
+        /// The place of the first of them.
+        from: usize,
+        /// How many there are.
+        len: usize,
+    },
     /// A number of a kind, in digits.
     Number {
         /// How it is laid out.
@@ -45,54 +47,27 @@ pub(crate) enum Part {
         /// How many cells there are.
         len: u32,
     },
-    /// A text.
+    /// The beginning of a text that is an argument.
     Str {
         /// How it is laid out.
         field: Field,
-        /// Its bytes, none of them 0.
-        text: Items<u8>,
+        /// The place of the argument.
+        place: usize,
+        /// How many of its bytes stand before its first 0.
+        len: usize,
     },
-}
-
-impl Part {
-    /// The same part once more.
-    pub(crate) fn copy(&self) -> Result<Part, AllocError>
-        ensures { IfOk result (λ part. part ≡ self.now) }
-    {
-        match self {
-            Part::Text(bytes) => Ok(Part::Text(bytes.copy()?)),
-            Part::Number {
-                field,
-                kind,
-                digits,
-            } => Ok(Part::Number {
-                field: *field,
-                kind: *kind,
-                digits: *digits,
-            }),
-            Part::Character { field } => Ok(Part::Character { field: *field }),
-            Part::Chars { field, base, len } => Ok(Part::Chars {
-                field: *field,
-                base: *base,
-                len: *len,
-            }),
-            Part::Str { field, text } => Ok(Part::Str {
-                field: *field,
-                text: text.copy()?,
-            }),
-        }
-    }
 }
 
 /// How many numbers a part shows.
 pub(crate) fn numbers_in(part: &Part) -> usize
-    ensures count { result ≡ count_by takes_number (elements_in part.now) }
+    ensures count { (text : List ℕ) (arguments : List argument.ArgKind) →
+        result ≡ count_by takes_number (elements_in text arguments part.now) }
     ensures one { result ≤ 1 }
 {
     match part {
         Part::Number { .. } => 1,
         Part::Character { .. } => 1,
-        Part::Text(_) => 0,
+        Part::Text { .. } => 0,
         Part::Chars { .. } => 0,
         Part::Str { .. } => 0,
     }
@@ -100,10 +75,11 @@ pub(crate) fn numbers_in(part: &Part) -> usize
 
 /// How many parts of a line it stands for.
 pub(crate) fn part_len(part: &Part) -> usize
-    ensures { result ≡ length (elements_in part.now) }
+    ensures { (text : List ℕ) (arguments : List argument.ArgKind) → IsWithin text arguments part.now →
+        result ≡ length (elements_in text arguments part.now) }
 {
     match part {
-        Part::Text(bytes) => bytes.len(),
+        Part::Text { len, .. } => *len,
         Part::Number { .. } => 1,
         Part::Character { .. } => 1,
         Part::Chars { .. } => 1,
@@ -113,109 +89,100 @@ pub(crate) fn part_len(part: &Part) -> usize
 
 /// Whether its text, if it has one, is short.
 pub(crate) fn is_short_part(part: &Part) -> bool
-    ensures { IsTrue result ↔ All IsShortElement (elements_in part.now) }
+    ensures { (text : List ℕ) (arguments : List argument.ArgKind) → IsWithin text arguments part.now →
+        (IsTrue result ↔ All IsShortElement (elements_in text arguments part.now)) }
 {
     match part {
-        Part::Str { text, .. } => text.len() < LIMIT,
-        Part::Text(_) => true,
+        Part::Str { len, .. } => *len < LIMIT,
+        Part::Text { .. } => true,
         Part::Number { .. } => true,
         Part::Character { .. } => true,
         Part::Chars { .. } => true,
     }
 }
 
-/// The parts of a text that is matched by these arguments.
+/// The parts of a text that is matched by these arguments, with room for so many.
 pub(crate) fn parts_of(
     alloc: Global,
     text: &[u8],
     args: &[ArgKind],
+    room: usize,
 ) -> Result<Vec<Part>, AllocError>
     requires { HasCodesFor text.now args.now }
-    ensures { IfOk result (λ parts. (pieces : List declared.Piece) → AreSpelled text.now pieces →
-        all_elements parts.items ≡ elements_of pieces args.now) }
+    ensures elements { IfOk result (λ parts. (pieces : List declared.Piece) → AreSpelled text.now pieces →
+        all_elements text.now args.now parts.items ≡ elements_of pieces args.now) }
+    ensures within { IfOk result (λ parts. All (IsWithin text.now args.now) parts.items) }
 {
-    let mut parts = Vec::new(alloc);
+    let mut parts = Vec::with_capacity(alloc, room)?;
     let mut rest = text;
     let mut taken = 0;
     while let Some((piece, behind)) = next_piece(rest) {
-        rest = behind;
         match piece {
-            Piece::Byte(byte) => push_byte(alloc, &mut parts, byte)?,
+            Piece::Byte(_) => {
+                let more = place_of(b'%', behind);
+                let from = text.len() - behind.len() - 1;
+                parts.push(Part::Text {
+                    from,
+                    len: 1 + more,
+                })?;
+                rest = &behind[more..];
+            }
             Piece::Argument(code) => {
-                push_argument(alloc, &mut parts, code, &args[taken])?;
+                push_shown(&mut parts, code, taken, &args[taken])?;
                 taken += 1;
+                rest = behind;
             }
         }
     }
     Ok(parts)
 }
 
-/// Puts a byte behind parts of a line: into the last of them, where that is bytes too.
-fn push_byte(alloc: Global, parts: &mut Vec<Part>, byte: u8) -> Result<(), AllocError>
-    ensures { OnOk result (
-        all_elements parts.new.items ≡ all_elements parts.old.items ++ element.Byte byte ∷ []) }
+/// Puts what a code shows of the argument at a place, if it shows it, behind parts of a line.
+fn push_shown(
+    parts: &mut Vec<Part>,
+    code: Code,
+    place: usize,
+    arg: &ArgKind,
+) -> Result<(), AllocError>
+    ensures elements { OnOk result ((text : List ℕ) (arguments : List argument.ArgKind) →
+        IsArgumentAt arguments place arg.now →
+        all_elements text arguments parts.new.items ≡ all_elements text arguments parts.old.items
+        ++ element_of code.field code.conversion arg.now) }
+    ensures within { OnOk result ((text : List ℕ) (arguments : List argument.ArgKind) →
+        IsArgumentAt arguments place arg.now → All (IsWithin text arguments) parts.old.items →
+        All (IsWithin text arguments) parts.new.items) }
 {
-    let mut bytes = match parts.pop() {
-        Some(Part::Text(bytes)) => bytes.into_list(),
-        Some(part) => {
-            parts.push(part)?;
-            Vec::new(alloc)
-        }
-        None => Vec::new(alloc),
-    };
-    bytes.push(byte)?;
-    parts.push(Part::Text(Items::from_list(bytes)))?;
+    if let Some(part) = part_shown(code, place, arg) {
+        parts.push(part)?;
+    }
     Ok(())
 }
 
-/// Puts a code with its argument behind parts of a line.
-fn push_argument(
-    alloc: Global,
-    parts: &mut Vec<Part>,
-    code: Code,
-    arg: &ArgKind,
-) -> Result<(), AllocError>
-    ensures { OnOk result (all_elements parts.new.items
-        ≡ all_elements parts.old.items ++ element_of code.field code.conversion arg.now) }
+/// What a code shows of the argument at a place, or None where it does not show it.
+fn part_shown(code: Code, place: usize, arg: &ArgKind) -> Option<Part>
+    ensures none { IsNone result → element_of code.field code.conversion arg.now ≡ [] }
+    ensures some { IfSome result (λ part. (text : List ℕ) (arguments : List argument.ArgKind) →
+        IsArgumentAt arguments place arg.now → IsWithin text arguments part
+        × (elements_in text arguments part ≡ element_of code.field code.conversion arg.now)) }
 {
     let field = code.field;
-    let part = match (code.conversion, arg) {
-        (Conversion::Number { kind, digits }, ArgKind::Number(_)) => Part::Number {
+    match (code.conversion, arg) {
+        (Conversion::Number { kind, digits }, ArgKind::Number(_)) => Some(Part::Number {
             field,
             kind,
             digits,
-        },
-        (Conversion::Character, ArgKind::Number(_)) => Part::Character { field },
-        (Conversion::Text, ArgKind::Chars { base, len }) => Part::Chars {
+        }),
+        (Conversion::Character, ArgKind::Number(_)) => Some(Part::Character { field }),
+        (Conversion::Text, ArgKind::Chars { base, len }) => Some(Part::Chars {
             field,
             base: *base,
             len: *len,
-        },
-        (Conversion::Text, ArgKind::Str(text)) => Part::Str {
+        }),
+        (Conversion::Text, ArgKind::Str(text)) => Some(Part::Str {
             field,
-            text: Items::from_list(Vec::from_slice(alloc, before_zero(text.bytes()))?),
-        },
-        _ => return Ok(()),
-    };
-    parts.push(part)?;
-    Ok(())
-}
-
-/// The bytes before the first 0.
-fn before_zero(bytes: &[u8]) -> &[u8]
-    ensures { result.now ≡ before_zero bytes.now }
-{
-    &bytes[..zero_place(bytes)]
-}
-
-/// The place of the first 0, or the length where there is none.
-fn zero_place(bytes: &[u8]) -> usize
-    ensures { result ≡ position_or_len (λ byte. byte == 0) bytes.now }
-{
-    for (place, byte) in bytes.iter().enumerate() {
-        if *byte == 0 {
-            return place;
-        }
+            place,
+            len: place_of(0, text.bytes()),
+        }),
+        _ => None,
     }
-    bytes.len()
 }

@@ -1,10 +1,12 @@
 // Pieces of the text of a format.
 
-ghost use Rattle.std.specs.Prelude.{◌≡◌};
+ghost use Rattle.std.specs.Prelude.{◌≡◌, ◌≤◌, ◌==◌, length};
+ghost use Rattle.std.specs.List.{position_or_len};
 ghost use Rattle.std.specs.Option.{option_map};
 ghost use Rattle.write_format.specs.Front.{behind_percent, piece_at};
 
 use crate::code::{Code, code_at};
+use memchr::memchr;
 
 /// A piece of the text of a format.
 #[derive(Clone, Copy, Debug)]
@@ -40,4 +42,12 @@ fn piece_behind_percent(bytes: &[u8]) -> Option<(Piece, &[u8])>
     } else {
         None
     }
+}
+
+/// The first place of a byte, or the length where it is not there.
+pub(crate) fn place_of(byte: u8, bytes: &[u8]) -> usize
+    ensures first { result ≡ position_or_len (λ other. other == byte) bytes.now }
+    ensures inside { result ≤ length bytes.now }
+{
+    memchr(byte, bytes).unwrap_or(bytes.len())
 }

@@ -1,12 +1,14 @@
 // The codes of a text against its arguments.
 
-ghost use Rattle.std.specs.Prelude.{◌≡◌, ◌↔◌, ℕ, List, IsTrue, IsNone, IfSome, length};
-ghost use Rattle.write_format.specs.Reading.{AreSpelled, codes_of, first_unfit, is_fit, is_wide};
+ghost use Rattle.std.specs.Prelude.{◌≡◌, ◌↔◌, ◌≤◌, ℕ, List, IfOk, IsErrOf, IsTrue, IsNone, IfSome, None, Some, length};
+ghost use Rattle.write_format.specs.Inside.Parts.{AreFit};
+ghost use Rattle.write_format.specs.Reading.{AreSpelled, HasCodesFor, IsFirstUnfit, codes_of, first_unfit, is_fit, is_wide};
 ghost use Rattle.write_format.specs.declared.piece.Piece as declared;
 
 use crate::argument::ArgKind;
 use crate::code::Conversion;
-use crate::piece::{Piece, next_piece};
+use crate::piece::{Piece, next_piece, place_of};
+use crate::refusal::FormatRefusal;
 use int_kinds::{Kind, bits};
 
 /// What is found of the codes of a text.
@@ -16,29 +18,62 @@ pub(crate) struct Survey {
     pub(crate) codes: usize,
     /// The first argument that its code does not show.
     pub(crate) unfit: Option<usize>,
+    /// How many parts stand for them and for the bytes between them.
+    pub(crate) parts: usize,
+}
+
+/// How many parts stand for a text that these arguments match, or why they are no format. Takes no
+/// memory.
+pub(crate) fn count_parts(text: &[u8], args: &[ArgKind]) -> Result<usize, FormatRefusal>
+    ensures fit { IfOk result (λ _. AreFit text.now args.now) }
+    ensures few { IfOk result (λ count. count ≤ length text.now) }
+    ensures wrong { IsErrOf result (FormatRefusal.Wrong None) ↔ ¬ (HasCodesFor text.now args.now) }
+    ensures unfit { (place : ℕ) →
+        IsErrOf result (FormatRefusal.Wrong (Some place)) ↔ IsFirstUnfit text.now args.now place }
+{
+    let Some(survey) = look_over(text, args) else {
+        return Err(FormatRefusal::Wrong { arg: None });
+    };
+    if survey.codes != args.len() {
+        return Err(FormatRefusal::Wrong { arg: None });
+    }
+    if let Some(place) = survey.unfit {
+        return Err(FormatRefusal::Wrong { arg: Some(place) });
+    }
+    Ok(survey.parts)
 }
 
 /// The codes of a text against these arguments, or None where the text has no reading.
-pub(crate) fn look_over(text: &[u8], args: &[ArgKind]) -> Option<Survey>
+fn look_over(text: &[u8], args: &[ArgKind]) -> Option<Survey>
     ensures none { IsNone result ↔ ((pieces : List declared.Piece) → AreSpelled text.now pieces → ⊥) }
     ensures some { IfSome result (λ survey. (pieces : List declared.Piece) × AreSpelled text.now pieces
         × (survey.codes ≡ length (codes_of pieces))
         × (survey.unfit ≡ first_unfit (codes_of pieces) args.now)) }
+    ensures few { IfSome result (λ survey. survey.parts ≤ length text.now) }
 {
     let mut rest = text;
     let mut codes = 0;
     let mut unfit = None;
+    let mut parts = 0;
     while let Some((piece, behind)) = next_piece(rest) {
-        rest = behind;
-        if let Piece::Argument(code) = piece {
-            if unfit.is_none() && codes < args.len() && !is_fit(code.conversion, &args[codes]) {
-                unfit = Some(codes);
+        parts += 1;
+        match piece {
+            Piece::Byte(_) => rest = &behind[place_of(b'%', behind)..],
+            Piece::Argument(code) => {
+                if unfit.is_none() && codes < args.len() && !is_fit(code.conversion, &args[codes]) {
+                    unfit = Some(codes);
+                }
+                codes += 1;
+                rest = behind;
             }
-            codes += 1;
         }
     }
     if rest.is_empty() {
-        Some(Survey { codes, unfit })
+        Some(Survey {
+            codes,
+            unfit,
+            parts,
+        })
     } else {
         None
     }

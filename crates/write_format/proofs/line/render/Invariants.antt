@@ -8,5 +8,5 @@ use Rattle.write_format.proofs.line.render.Given as goal
 
 abbrev pub invariant-loop-part : goal.invariant-loop-part
 invariant-loop-part l =
-    (l.line.items ≡ line_of (all_elements (take l.part-index l.part-items)) l.numbers l.cells)
-    × (l.taken ≡ count_by takes_number (all_elements (take l.part-index l.part-items)))
+    (l.line.items ≡ line_of (all_elements (l.f).text (l.f).arguments (take l.part-index l.part-items)) l.numbers l.cells)
+    × (l.taken ≡ count_by takes_number (all_elements (l.f).text (l.f).arguments (take l.part-index l.part-items)))

@@ -1,35 +1,58 @@
 -- One more piece, and the end.
-use Rattle.std.proofs.Common.{rules, ◌≡◌, ◌<◌, ◌+◌, Some, length, sym, ap, subst, ◌∙◌}
+use Rattle.std.proofs.Common.{rules, ◌≡◌, ◌<◌, ◌≤◌, ◌+◌, ◌-◌, [], ◌∷◌, ◌++◌, All, Some, drop, length, refl, sym, ap, subst, ◌∙◌, arith}
 use Rattle.write_format.specs.Front.{piece_at}
-use Rattle.write_format.specs.Inside.Parts.{all_elements}
+use Rattle.write_format.specs.Inside.Parts.{IsArgumentAt, IsWithin, all_elements}
+use Rattle.write_format.specs.declared.part.Part.TheVariants.{Text}
 use Rattle.write_format.specs.declared.piece.Piece.{Piece}
 use Rattle.write_format.specs.declared.piece.Piece.TheVariants.{Argument, Byte}
 use Rattle.write_format.proofs.FrontLemmas.{piece_shorter}
-use Rattle.write_format.proofs.PartLemmas.{AreParts, argument_left, parts_byte, parts_code, parts_end}
+use Rattle.write_format.proofs.PartLemmas.{AreParts, argument_left, parts_code, parts_end, parts_range}
+use Rattle.write_format.proofs.RangeLemmas.{elements_push, rest_whole, within_push}
 use Rattle.write_format.proofs.part.parts_of.Goals as goal
 
-pub loop-piece-preserved-in-Continue-1 : goal.loop-piece-preserved-in-Continue-1
-loop-piece-preserved-in-Continue-1 c =
+pub loop-piece-preserved-in-Byte : goal.loop-piece-preserved-in-Byte
+loop-piece-preserved-in-Byte c =
+    let text = c.args.text.now in
+    let given = c.args.args.now in
     let rest = c.loop-piece.rest.now in
     let behind = c.in-Some.behind.now in
-    let found : piece_at rest ≡ Some (Byte c.in-Byte.byte, behind) = sym c.in-Some.ensures ∙ ap (λ (p : Piece). Some (p, behind)) c.in-Byte.is in
-    subst (AreParts c.args.text.now c.args.args.now behind c.loop-piece.taken) (sym c.in_ok-push_byte-in-Byte.ensures)
-    (parts_byte c.args.text.now c.args.args.now rest c.loop-piece.taken (all_elements c.loop-piece.parts.items) c.in-Byte.byte behind c.loop-piece.invariant found)
+    let parts = c.loop-piece.parts.items in
+    let taken = c.loop-piece.taken in
+    let byte = c.in-Byte.field-0 in
+    let more = c.place_of-more.result in
+    let from = length text - length behind - 1 in
+    let found : piece_at rest ≡ Some (Byte byte, behind) = sym c.in-Some.ensures ∙ ap (λ (p : Piece). Some (p, behind)) c.in-Byte.is in
+    let known = (c.loop-piece.invariant).0 in
+    let next = parts_range text given rest taken (all_elements text given parts) byte behind from (1 + more) more known found c.place_of-more.ensures.first refl refl in
+    let pushed : c.push.new.self.items ≡ parts ++ Text from (1 + more) ∷ [] = c.in_ok-push-in-Byte.ensures.items in
+    let shown = ap (all_elements text given) pushed ∙ elements_push text given parts (Text from (1 + more)) in
+    let shorter = piece_shorter rest (Byte byte) behind found in
+    let few = known.few in
+    let inside = c.place_of-more.ensures.inside in
+    let fits : from + (1 + more) ≤ length text = omega (arith, shorter, few, inside) in (
+      subst (λ l. AreParts text given l taken (all_elements text given c.push.new.self.items)) (sym (rest_whole more behind))
+          (subst (AreParts text given (drop more behind) taken) (sym shown) next),
+      subst (All (IsWithin text given)) (sym pushed) (within_push text given parts (Text from (1 + more)) (c.loop-piece.invariant).1 fits),
+    )
 
 pub bounds-args-taken : goal.bounds-args-taken
 bounds-args-taken c =
+    let text = c.args.text.now in
+    let given = c.args.args.now in
     let rest = c.loop-piece.rest.now in
     let behind = c.in-Some.behind.now in
     let found : piece_at rest ≡ Some (Argument c.in-Argument.code, behind) = sym c.in-Some.ensures ∙ ap (λ (p : Piece). Some (p, behind)) c.in-Argument.is in
-    argument_left c.args.text.now c.args.args.now rest c.loop-piece.taken (all_elements c.loop-piece.parts.items) c.in-Argument.code behind c.requires c.loop-piece.invariant found
+    argument_left text given rest c.loop-piece.taken (all_elements text given c.loop-piece.parts.items) c.in-Argument.code behind c.requires (c.loop-piece.invariant).0 found
 
 pub offset_bounds-args-taken : goal.offset_bounds-args-taken
 offset_bounds-args-taken c =
+    let text = c.args.text.now in
+    let given = c.args.args.now in
     let rest = c.loop-piece.rest.now in
     let behind = c.in-Some.behind.now in
     let found : piece_at rest ≡ Some (Argument c.in-Argument.code, behind) = sym c.in-Some.ensures ∙ ap (λ (p : Piece). Some (p, behind)) c.in-Argument.is in
-    let within : c.loop-piece.taken < length c.args.args.now =
-    argument_left c.args.text.now c.args.args.now rest c.loop-piece.taken (all_elements c.loop-piece.parts.items) c.in-Argument.code behind c.requires c.loop-piece.invariant found in
+    let within : c.loop-piece.taken < length given =
+    argument_left text given rest c.loop-piece.taken (all_elements text given c.loop-piece.parts.items) c.in-Argument.code behind c.requires (c.loop-piece.invariant).0 found in
     search (rules, within)
 
 pub loop-piece-smaller : goal.loop-piece-smaller
@@ -45,14 +68,20 @@ loop-piece-preserved c =
     let given = c.args.args.now in
     let rest = c.loop-piece.rest.now in
     let taken = c.loop-piece.taken in
-    let elements = all_elements c.loop-piece.parts.items in
+    let elements = all_elements text given c.loop-piece.parts.items in
     let code = c.in-Argument.code in
     let behind = c.in-Some.behind.now in
+    let known = (c.loop-piece.invariant).0 in
     let found : piece_at rest ≡ Some (Argument code, behind) = sym c.in-Some.ensures ∙ ap (λ (p : Piece). Some (p, behind)) c.in-Argument.is in
-    let within : taken < length given = argument_left text given rest taken elements code behind c.requires c.loop-piece.invariant found in
-    subst (AreParts text given behind (taken + 1)) (sym (c.in_ok-push_argument-in-Argument).ensures)
-    (parts_code text given rest taken elements code c.index-args-taken.result behind c.loop-piece.invariant found within c.index-args-taken.is)
+    let within : taken < length given = argument_left text given rest taken elements code behind c.requires known found in
+    let at : IsArgumentAt given taken c.index-args-taken.result = record { there = within; is = c.index-args-taken.is } in
+    let next = parts_code text given rest taken elements code c.index-args-taken.result behind known found within c.index-args-taken.is in (
+      subst (AreParts text given behind (taken + 1)) (sym (c.in_ok-push_shown-in-Argument.ensures.elements text given at)) next,
+      c.in_ok-push_shown-in-Argument.ensures.within text given at (c.loop-piece.invariant).1,
+    )
 
-pub returns : goal.returns
-returns c =
-    parts_end c.args.text.now c.args.args.now c.loop-piece.rest.now c.loop-piece.taken (all_elements c.loop-piece.parts.items) c.loop-piece.invariant (sym c.in_default.ensures)
+pub returns-clause-elements : goal.returns-clause-elements
+returns-clause-elements c =
+    let text = c.args.text.now in
+    let given = c.args.args.now in
+    parts_end text given c.loop-piece.rest.now c.loop-piece.taken (all_elements text given c.loop-piece.parts.items) (c.loop-piece.invariant).0 (sym c.in_default.ensures)

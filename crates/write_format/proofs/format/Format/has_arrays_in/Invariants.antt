@@ -7,4 +7,4 @@ use Rattle.write_format.specs.Inside.Parts.{all_elements}
 use Rattle.write_format.proofs.format.Format.has_arrays_in.Given as goal
 
 abbrev pub invariant-loop-part : goal.invariant-loop-part
-invariant-loop-part l = All (IsCharArray l.cells) (filter_map array_of (all_elements (take l.part-index l.part-items)))
+invariant-loop-part l = All (IsCharArray l.cells) (filter_map array_of (all_elements (l.self).text (l.self).arguments (take l.part-index l.part-items)))
