@@ -1,6 +1,7 @@
 // The variables that a program declares.
 
 ghost use Rattle.std.specs.Prelude.{◌≡◌, ◌++◌, List, IfOk, OnOk, flat_map, map};
+ghost use Rattle.std.specs.Option.{option_copied};
 ghost use Rattle.dbc_reader.specs.declared.message.DbcMessage.{DbcMessage};
 ghost use Rattle.capl_meaning.specs.Variable.{Procedure, is_timer, parameters_of, variable_of_parameter, variables_of_declaration, variables_of_part};
 ghost use Rattle.check_names.specs.Part.{part_in, parts_in};
@@ -8,7 +9,7 @@ ghost use Rattle.check_names.specs.Variable.{is_misfit, lent, variable_in, varia
 
 use crate::declaration::gather_all;
 use crate::part::ProgramPart;
-use capl_tree::{Decl, DeclType, Declr, Head, Param, Proc};
+use capl_tree::{Decl, DeclType, Declr, Head, Init, Param, Proc};
 use std::alloc::Global;
 use texts::NoMemory;
 
@@ -62,6 +63,16 @@ impl<'p> Declared<'p> {
         match self.source {
             Source::Item { item, .. } => item.at,
             Source::Parameter(parameter) => parameter.at,
+        }
+    }
+
+    /// What stands behind its `=`, if that stands.
+    pub fn init(&self) -> Option<&'p Init>
+        ensures { (base : List DbcMessage) → option_copied result ≡ (variable_in base self.now).init }
+    {
+        match self.source {
+            Source::Item { item, .. } => item.init.as_ref(),
+            Source::Parameter(_) => None,
         }
     }
 

@@ -2,19 +2,18 @@
 
 ghost use Rattle.std.specs.Prelude.{◌≡◌, ◌++◌, List, IfOk, IfSome, OnOk, map, slice_get};
 ghost use Rattle.std.specs.Option.{option_copied, option_map_or};
-ghost use Rattle.dbc_reader.specs.declared.message.DbcMessage.{DbcMessage};
 ghost use Rattle.int_kinds.specs.Kind.{IsNumber};
-ghost use Rattle.capl_meaning.specs.Constant.{Constant, array_length, constant, constant_at, elements_of, first_number, length_at, length_by, scope_of};
+ghost use Rattle.capl_meaning.specs.Constant.{Constant, array_length, constant, constant_at, elements_of, first_number, length_at, length_by};
 ghost use Rattle.check_names.specs.Variable.{variable_in};
 ghost use Rattle.check_sorts.specs.Constant.{AreConstantsOf, AreNumbers, AreValues, HasValuesOf, constant_of, fixed_kind, held};
 ghost use Rattle.check_sorts.specs.Form.{form_in};
 ghost use Rattle.check_sorts.specs.Scope.{scope_in};
 
 use crate::form::{Form, declared_form};
-use crate::scope::{Scope, ThisForm};
+use crate::scope::Scope;
 use crate::values::{Known, ValueTable};
 use capl_tree::{Expr, Init};
-use check_names::{Declared, Names, Source};
+use check_names::{Declared, Names};
 use int_kinds::{Kind, wrap};
 use std::alloc::Global;
 use texts::NoMemory;
@@ -24,31 +23,6 @@ use texts::NoMemory;
 pub struct Constants {
     values: ValueTable,
     lengths: Vec<u32>,
-}
-
-/// Where a variable is declared.
-#[tactic(auto, using(crate::proofs::EvaluationLemmas::declared))]
-fn scope_of<'a, 'p>(names: &'a Names<'p>, declared: &Declared) -> Scope<'a, 'p>
-    ensures names { result.names.now ≡ names.now }
-    ensures scope { scope_in result ≡ scope_of names.now (variable_in names.now.base declared.now) }
-{
-    Scope {
-        names,
-        owner: declared.place.owner,
-        file: declared.place.file,
-        this: ThisForm::NoThis,
-        gives: None,
-    }
-}
-
-/// The initialiser of a variable, if it has one.
-fn init_of<'p>(declared: &Declared<'p>) -> Option<&'p Init>
-    ensures { (base : List DbcMessage) → option_copied result ≡ (variable_in base declared.now).init }
-{
-    match declared.source {
-        Source::Item { item, .. } => item.init.as_ref(),
-        Source::Parameter(_) => None,
-    }
 }
 
 /// The kind of a const integer; None of other variables.
@@ -121,8 +95,8 @@ fn note_constant(names: &Names, declared: &Declared, table: &mut ValueTable) -> 
     match fixed_kind(declared_form(names, declared)) {
         None => Ok(()),
         Some(kind) => {
-            let scope = scope_of(names, declared);
-            let value = first_number(table, &scope, kind, init_of(declared));
+            let scope = Scope::of_declared(names, declared);
+            let value = first_number(table, &scope, kind, declared.init());
             table.note(declared.place.file, declared.token(), value)?;
             Ok(())
         }
@@ -181,7 +155,7 @@ fn length_of(table: &ValueTable, names: &Names, declared: &Declared) -> u32
     requires { HasValuesOf names.now table.now }
     ensures { result ≡ elements_of names.now (variable_in names.now.base declared.now) }
 {
-    let scope = scope_of(names, declared);
+    let scope = Scope::of_declared(names, declared);
     length_by(
         table,
         &scope,

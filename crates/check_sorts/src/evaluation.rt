@@ -1,8 +1,7 @@
 // Constant expressions, evaluated in one pass.
 
-ghost use Rattle.std.specs.Prelude.{◌≡◌, ℕ, ℤ, IfSome, None, Option, int_le, int_lt, option_and_then};
+ghost use Rattle.std.specs.Prelude.{◌≡◌, ℕ, ℤ, IfSome, None, Option, option_and_then};
 ghost use Rattle.std.specs.Option.{option_map};
-ghost use Rattle.std.specs.Ordering.{int_eq};
 ghost use Rattle.int_kinds.specs.Arithmetic.{value};
 ghost use Rattle.int_kinds.specs.Kind.{IsNumber, join, wrap};
 ghost use Rattle.capl_meaning.specs.Constant.{chosen, is_constant_prefix, number_value, operator_value};
@@ -16,9 +15,7 @@ use crate::sort::{
 };
 use crate::words::direction;
 use capl_meaning::Sort;
-use int_kinds::{
-    BinOp, Kind, UnOp, add, and, div, inv, join, mul, neg, or, rem, shl, shr, sub, truth, wrap, xor,
-};
+use int_kinds::{BinOp, Kind, UnOp, inv, is_equal, join, neg, truth, value, wrap};
 
 /// A constant.
 #[derive(Clone, Copy, Debug)]
@@ -27,27 +24,6 @@ pub(crate) struct Evaluated {
     pub(crate) sort: Sort,
     /// Its value; None where it divides by zero.
     pub(crate) value: Option<i128>,
-}
-
-/// Whether two numbers are equal.
-fn is_equal(a: i128, b: i128) -> bool
-    ensures { result ≡ int_eq a b }
-{
-    a == b
-}
-
-/// Whether a number is less than another.
-fn is_less(a: i128, b: i128) -> bool
-    ensures { result ≡ int_lt a b }
-{
-    a < b
-}
-
-/// Whether a number is at most another.
-fn is_at_most(a: i128, b: i128) -> bool
-    ensures { result ≡ int_le a b }
-{
-    a <= b
 }
 
 /// 1 for every number but 0.
@@ -97,33 +73,6 @@ fn prefix_value(op: UnOp, kind: Kind, n: i128) -> i128
     }
 }
 
-/// The value of a binary operator in a kind, if it has one.
-fn value_of(op: BinOp, kind: Kind, a: i128, b: i128) -> Option<i128>
-    requires left { IsNumber a }
-    requires right { IsNumber b }
-    ensures { result ≡ value op kind a b }
-{
-    match op {
-        BinOp::Add => Some(add(kind, a, b)),
-        BinOp::Sub => Some(sub(kind, a, b)),
-        BinOp::Mul => Some(mul(kind, a, b)),
-        BinOp::Div => div(kind, a, b),
-        BinOp::Rem => rem(kind, a, b),
-        BinOp::Equal => Some(truth(is_equal(wrap(kind, a), wrap(kind, b)))),
-        BinOp::NotEqual => Some(truth(!is_equal(wrap(kind, a), wrap(kind, b)))),
-        BinOp::Less => Some(truth(is_less(wrap(kind, a), wrap(kind, b)))),
-        BinOp::LessEqual => Some(truth(is_at_most(wrap(kind, a), wrap(kind, b)))),
-        BinOp::Greater => Some(truth(is_less(wrap(kind, b), wrap(kind, a)))),
-        BinOp::GreaterEqual => Some(truth(is_at_most(wrap(kind, b), wrap(kind, a)))),
-        BinOp::And => Some(and(kind, a, b)),
-        BinOp::Or => Some(or(kind, a, b)),
-        BinOp::Xor => Some(xor(kind, a, b)),
-        BinOp::Shl => Some(shl(kind, a, b)),
-        BinOp::Shr => Some(shr(kind, a, b)),
-        BinOp::OrElse | BinOp::AndAlso => None,
-    }
-}
-
 /// One of two numbers, by a third that is not 0 or is.
 fn chosen(test: Option<i128>, one: Option<i128>, other: Option<i128>) -> Option<i128>
     ensures { result ≡ chosen test one other }
@@ -151,7 +100,7 @@ fn value_of_both(op: BinOp, kind: Kind, left: Option<i128>, right: Option<i128>)
     ensures { result ≡ option_and_then (λ m. option_and_then (λ n. value op kind m n) right) left }
 {
     match (left, right) {
-        (Some(a), Some(b)) => value_of(op, kind, a, b),
+        (Some(a), Some(b)) => value(op, kind, a, b),
         _ => None,
     }
 }

@@ -2,7 +2,9 @@
 
 ghost use Rattle.std.specs.Prelude.{◌≡◌, MatchOption, None, slice_get};
 ghost use Rattle.std.specs.Option.{option_and_then};
+ghost use Rattle.capl_meaning.specs.Constant.{scope_of};
 ghost use Rattle.capl_meaning.specs.Names.{callee, inside, kind_given, means, outside, signals_of_selection, signals_of_selectors, this_form};
+ghost use Rattle.check_names.specs.Variable.{variable_in};
 ghost use Rattle.check_sorts.specs.Form.{signals_in};
 ghost use Rattle.check_sorts.specs.Scope.{IsMeaning, callee_in, scope_in, this_in};
 
@@ -11,7 +13,7 @@ use crate::signals::DeclaredSignals;
 use crate::words::builtin_named;
 use capl_meaning::Builtin;
 use capl_tree::{Head, Sel, SelWhat};
-use check_names::Names;
+use check_names::{Declared, Names};
 use int_kinds::Kind;
 
 /// What `this` is in a procedure.
@@ -133,6 +135,22 @@ impl<'a, 'p> Scope<'a, 'p> {
             file,
             this: this_form(names, head),
             gives: kind_given(head),
+        }
+    }
+
+    /// Where a variable is declared.
+    #[tactic(auto, using(crate::proofs::EvaluationLemmas::declared))]
+    pub fn of_declared(names: &'a Names<'p>, declared: &Declared) -> Scope<'a, 'p>
+        ensures names { result.names.now ≡ names.now }
+        ensures scope { scope_in result ≡
+            scope_of names.now (variable_in names.now.base declared.now) }
+    {
+        Scope {
+            names,
+            owner: declared.place.owner,
+            file: declared.place.file,
+            this: ThisForm::NoThis,
+            gives: None,
         }
     }
 

@@ -1,4 +1,4 @@
--- Statements, functions and event procedures that are made one after another.
+-- Functions and event procedures that are made one after another.
 use Rattle.std.proofs.Common.{◌≡◌, ◌+◌, ◌<◌, ◌∙◌, ◌++◌, ◌∷◌, ℕ, List, [], Option, None, Some, ap, sym, refl, arith, append_assoc, get_or, length, length-append, take}
 use Rattle.std.specs.Prelude.{flat_map, map}
 use Rattle.std.specs.List.{cons_option, filter_map}
@@ -7,15 +7,12 @@ use Rattle.std.proofs.lemmas.List.{append-nil, map-append, take_more}
 use Rattle.std.proofs.lemmas.List.Concat.{flat_map-append}
 use Rattle.std.proofs.lemmas.Option.{same_Some, slice_get-get_or}
 use Rattle.write_format.specs.Format.{FormatText}
-use Rattle.capl_tree.specs.declared.statement.Stmt.{Stmt}
-use Rattle.typed_tree.specs.declared.statement.TStmt.{TStmt}
 use Rattle.typed_tree.specs.declared.program.TFun.{TFun}
 use Rattle.typed_tree.specs.declared.program.THandler.{THandler}
 use Rattle.capl_meaning.specs.Calls.{function_numbered}
-use Rattle.capl_meaning.specs.Names.{Names, Scope}
+use Rattle.capl_meaning.specs.Names.{Names}
 use Rattle.capl_meaning.specs.Procedure.{Handler}
-use Rattle.typed_source.specs.Program.{body_of, formats_of_body, formats_of_function, formats_of_functions, formats_of_handlers, function_of, functions_of, handler_of, typed_handlers}
-use Rattle.typed_source.specs.Statement.{formats_of, statement_of}
+use Rattle.typed_source.specs.Program.{formats_of_body, formats_of_function, formats_of_functions, formats_of_handlers, function_of, functions_of, handler_of, typed_handlers}
 
 -- one more of a list
 pub flat_map_take : {X Y : Type 0} (f : X → List Y) (xs : List X) (i : ℕ) (x : X) → i < length xs → x ≡ get_or xs i x →
@@ -27,16 +24,6 @@ flat_map_take f xs i x within is =
 -- so many of a sum
 sum-length : {Y : Type 0} (before : ℕ) (one other : List Y) → before + length one + length other ≡ before + length (one ++ other)
 sum-length before one other = let h = length-append one other in omega (arith, h)
-
--- statements in two parts
-pub body_append : (s : Scope) (order : List ℕ) (before : ℕ) (one other : List Stmt) → body_of s order before (one ++ other)
-    ≡ body_of s order before one ++ body_of s order (before + length (formats_of_body s one)) other
-body_append s order before [] other = let same : before ≡ before + 0 = omega arith in ap (λ n. body_of s order n other) same
-body_append s order before (first ∷ one) other =
-    ap (λ l. statement_of s order before first ∷ l)
-    (body_append s order (before + length (formats_of s first)) one other
-    ∙ ap (λ n. body_of s order (before + length (formats_of s first)) one ++ body_of s order n other)
-    (sum-length before (formats_of s first) (formats_of_body s one)))
 
 -- event procedures in two parts
 pub handlers_append : (order : List ℕ) (line : ℕ → ℕ → ℕ) (before : ℕ) (one other : List Handler) →
@@ -60,19 +47,6 @@ functions_append names order before (number ∷ one) other =
     (functions_append names order (before + length made) one other
     ∙ ap (λ n. functions_of names order (before + length made) one ++ functions_of names order n other)
     (sum-length before made (formats_of_functions names one)))
-
--- one more statement
-pub body_more : (s : Scope) (order : List ℕ) (old formats : List FormatText) (all : List Stmt) (i : ℕ) (x : Stmt) (trees : List TStmt)
-    (tree : TStmt) → i < length all → x ≡ get_or all i x → trees ≡ body_of s order (length old) (take i all) →
-    formats ≡ old ++ formats_of_body s (take i all) → tree ≡ statement_of s order (length formats) x →
-    trees ++ tree ∷ [] ≡ body_of s order (length old) (take (i + 1) all)
-body_more s order old formats all i x trees tree within is made listed new =
-    let before = length old in
-    let done = take i all in
-    let count : length formats ≡ before + length (formats_of_body s done) = ap length listed ∙ length-append old (formats_of_body s done) in
-    ap (λ l. l ++ tree ∷ []) made
-    ∙ ap (λ (t : TStmt). body_of s order before done ++ t ∷ []) (new ∙ ap (λ n. statement_of s order n x) count)
-    ∙ sym (ap (body_of s order before) (take_more all i x within ∙ ap (λ y. done ++ y ∷ []) (sym is)) ∙ body_append s order before done (x ∷ []))
 
 -- the formats of one more of a list
 pub formats_more : {X : Type 0} (f : X → List FormatText) (old formats after : List FormatText) (all : List X) (i : ℕ) (x : X) →

@@ -11,7 +11,6 @@ ghost use Rattle.typed_laws.specs.Agreement.{ArePlain, parameter_slots};
 ghost use Rattle.typed_laws.specs.Laid.{AreDistinct, IsAmong, slot};
 ghost use Rattle.typed_source.specs.Program.{formats_of_function, formats_of_functions, function_of, functions_of};
 
-use crate::body::make_body;
 use capl_tree::Param;
 use check_names::{DeclaredFunction, Names};
 use check_sorts::{Scope, ThisForm};
@@ -19,7 +18,7 @@ use items::Items;
 use std::alloc::Global;
 use texts::NoMemory;
 use type_expressions::Layout;
-use type_statements::StatementTables;
+use type_statements::{StatementTables, make_body};
 use typed_tree::TFun;
 use write_format::Format;
 

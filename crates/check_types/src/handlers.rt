@@ -9,14 +9,13 @@ ghost use Rattle.check_types.specs.Handlers.{lines_of};
 ghost use Rattle.type_statements.specs.Tables.{AreTables, order_of};
 ghost use Rattle.typed_source.specs.Program.{formats_of_handlers, typed_handlers};
 
-use crate::body::make_body;
 use crate::events::event_of;
 use check_names::{Names, ProgramPart};
 use check_sorts::Scope;
 use items::Items;
 use std::alloc::Global;
 use texts::NoMemory;
-use type_statements::StatementTables;
+use type_statements::{StatementTables, make_body};
 use typed_tree::THandler;
 use write_format::Format;
 

@@ -7,7 +7,6 @@
 
 pub use checking::{CheckRefusal, check};
 
-mod body;
 mod checking;
 mod events;
 mod functions;

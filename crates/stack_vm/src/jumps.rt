@@ -6,8 +6,8 @@ ghost use Rattle.bytecode.specs.declared.code.Code.{Code};
 ghost use Rattle.bytecode.specs.declared.instr.Instr.TheVariants.{Jump, Zero, Case, Back};
 ghost use Rattle.stack_vm.specs.Inside.Step.{Does, IsReady};
 
-use crate::operands::is_equal;
 use crate::state::State;
+use int_kinds::is_equal;
 use run_effects::Outcome;
 
 /// Goes to a place.

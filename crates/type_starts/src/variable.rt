@@ -2,8 +2,7 @@
 
 ghost use Rattle.std.specs.Prelude.{◌≡◌, ◌+◌, ◌<◌, ◌≤◌, ◌^◌, All, IfOk, List, OnOk, Some, slice_get, sum_by};
 ghost use Rattle.std.specs.Option.{option_copied, option_map};
-ghost use Rattle.dbc_reader.specs.declared.message.DbcMessage.{DbcMessage};
-ghost use Rattle.capl_meaning.specs.Constant.{elements_of, scope_of};
+ghost use Rattle.capl_meaning.specs.Constant.{elements_of};
 ghost use Rattle.capl_meaning.specs.Initial.{first_element, first_store};
 ghost use Rattle.capl_meaning.specs.Size.{size_of_form};
 ghost use Rattle.capl_meaning.specs.Store.{MessageRecord, lay, message_cells, row};
@@ -23,8 +22,8 @@ use crate::payload::has_eight_bytes;
 use crate::starts::{Starts, push, push_bytes, push_naturals};
 use crate::value::{Spot, first_element, first_message, first_number};
 use capl_tree::Init;
-use check_names::{Declared, Names, Source};
-use check_sorts::{Constants, Form, Scope, ThisForm, form_of};
+use check_names::{Declared, Names};
+use check_sorts::{Constants, Form, Scope, form_of};
 use int_kinds::Kind;
 use std::alloc::Global;
 use texts::NoMemory;
@@ -64,30 +63,6 @@ fn push_message(starts: &mut Starts, message: &Message) -> Result<(), NoMemory>
     Ok(())
 }
 
-/// Where a variable is declared.
-fn scope_of<'a, 'p>(names: &'a Names<'p>, declared: &Declared) -> Scope<'a, 'p>
-    ensures names { result.names.now ≡ names.now }
-    ensures scope { scope_in result ≡ scope_of names.now (variable_in names.now.base declared.now) }
-{
-    Scope {
-        names,
-        owner: declared.place.owner,
-        file: declared.place.file,
-        this: ThisForm::NoThis,
-        gives: None,
-    }
-}
-
-/// The initialiser of a variable, if it has one.
-fn init_of<'p>(declared: &Declared<'p>) -> Option<&'p Init>
-    ensures { (base : List DbcMessage) → option_copied result ≡ (variable_in base declared.now).init }
-{
-    match declared.source {
-        Source::Item { item, .. } => item.init.as_ref(),
-        Source::Parameter(_) => None,
-    }
-}
-
 /// The declared variable of a number, or None where there is none.
 fn declared_at<'a, 'p>(names: &'a Names<'p>, number: u32) -> Option<&'a Declared<'p>>
     ensures { option_map (λ d. variable_in names.now.base d.now) result
@@ -116,10 +91,10 @@ pub(crate) fn push_variable(
     };
     let spot = Spot {
         constants,
-        scope: scope_of(names, declared),
+        scope: Scope::of_declared(names, declared),
         token: declared.token(),
     };
-    let init = init_of(declared);
+    let init = declared.init();
     match form_of(names, number) {
         Form::Number { kind, .. } => push(starts, first_number(&spot, kind, init)),
         Form::Array { kind, .. } => {

@@ -21,8 +21,9 @@ use Rattle.capl_meaning.specs.Constant.{prefix_kind}
 use Rattle.capl_meaning.specs.Statement.{label_of}
 use Rattle.typed_source.specs.Expression.{expression_of}
 use Rattle.typed_source.specs.Statement.{formats_of, formats_of_part, statement_of}
+use Rattle.typed_source.specs.Program.{body_of, formats_of_body}
 use Rattle.check_names.proofs.LoopLemmas.{drop_next}
-use Rattle.type_statements.specs.Rows.{arms_in, else_in, formats_in, formats_in_arms, formats_in_else, formats_in_groups, groups_in, part_in, trees_in}
+use Rattle.type_statements.specs.Rows.{arms_in, else_in, formats_in_arms, formats_in_else, formats_in_groups, groups_in, part_in}
 use Rattle.type_statements.proofs.RowLemmas.{block_formats, block_tree, do_formats, do_tree, for_formats, for_tree, if_formats, if_tree, switch_formats, switch_tree, while_formats, while_tree}
 
 -- ---- formats
@@ -47,15 +48,15 @@ part_formats s old new statement given body given_is is new_is =
 module _ (s : Scope) (order : List ℕ) where
   -- a block
   pub block_made : (before : ℕ) (statement : Stmt) (body given : List Stmt) (made : List TStmt) → statement ≡ stmt.Block body → given ≡ body
-      → made ≡ trees_in s order before given → typed.Block made ≡ statement_of s order before statement
+      → made ≡ body_of s order before given → typed.Block made ≡ statement_of s order before statement
   block_made before statement body given made is given_is made_is =
-      ap typed.Block (made_is ∙ ap (trees_in s order before) given_is) ∙ sym (block_tree s order before statement body is)
+      ap typed.Block (made_is ∙ ap (body_of s order before) given_is) ∙ sym (block_tree s order before statement body is)
 
   -- and its formats
   pub block_formats_made : (old new : List FormatText) (statement : Stmt) (body given : List Stmt) → statement ≡ stmt.Block body → given ≡ body
-      → new ≡ old ++ formats_in s given → new ≡ old ++ formats_of s statement
+      → new ≡ old ++ formats_of_body s given → new ≡ old ++ formats_of s statement
   block_formats_made old new statement body given is given_is new_is =
-      new_is ∙ ap (λ l. old ++ formats_in s l) given_is ∙ ap (λ l. old ++ l) (sym (block_formats s statement body is))
+      new_is ∙ ap (λ l. old ++ formats_of_body s l) given_is ∙ ap (λ l. old ++ l) (sym (block_formats s statement body is))
 
   -- an `if`
   pub if_made : (old middle : List FormatText) (statement : Stmt) (arms given : List Arm) (other : Option Stmt) (made : List TArm) (last : Option TStmt)
@@ -126,13 +127,13 @@ module _ (s : Scope) (order : List ℕ) where
   -- one more statement
   pub body_turn : (xs : List Stmt) (i : ℕ) (x : Stmt) (made after : List TStmt) (tree : TStmt) (old new : List FormatText) → i < length xs
       → x ≡ get_or xs i x → tree ≡ statement_of s order (length old) x → new ≡ old ++ formats_of s x → after ≡ made ++ tree ∷ []
-      → after ++ trees_in s order (length new) (drop (i + 1) xs) ≡ made ++ trees_in s order (length old) (drop i xs)
+      → after ++ body_of s order (length new) (drop (i + 1) xs) ≡ made ++ body_of s order (length old) (drop i xs)
   body_turn xs i x made after tree old new within is tree_is new_is after_is =
-      ap (λ l. l ++ trees_in s order (length new) (drop (i + 1) xs)) after_is
-      ∙ append_assoc made (tree ∷ []) (trees_in s order (length new) (drop (i + 1) xs))
-      ∙ ap (λ t. made ++ (t ∷ trees_in s order (length new) (drop (i + 1) xs))) tree_is
-      ∙ ap (λ n. made ++ (statement_of s order (length old) x ∷ trees_in s order n (drop (i + 1) xs))) (behind old (formats_of s x) new new_is)
-      ∙ ap (λ l. made ++ trees_in s order (length old) l) (sym (drop_next xs i x within is))
+      ap (λ l. l ++ body_of s order (length new) (drop (i + 1) xs)) after_is
+      ∙ append_assoc made (tree ∷ []) (body_of s order (length new) (drop (i + 1) xs))
+      ∙ ap (λ t. made ++ (t ∷ body_of s order (length new) (drop (i + 1) xs))) tree_is
+      ∙ ap (λ n. made ++ (statement_of s order (length old) x ∷ body_of s order n (drop (i + 1) xs))) (behind old (formats_of s x) new new_is)
+      ∙ ap (λ l. made ++ body_of s order (length old) l) (sym (drop_next xs i x within is))
 
   -- one more arm
   pub arms_turn : (xs : List Arm) (i : ℕ) (x : Arm) (made after : List TArm) (tree : TArm) (old new : List FormatText) → i < length xs
@@ -153,7 +154,7 @@ module _ (s : Scope) (order : List ℕ) where
   -- one more group
   pub groups_turn : (k : Kind) (xs : List Group) (i : ℕ) (x : Group) (made after : List TGroup) (tree : TGroup) (old new : List FormatText) → i < length xs
       → x ≡ get_or xs i x → tree.labels ≡ filter_map (λ label. label_of s k label.at label.value) x.labels
-      → tree.body ≡ trees_in s order (length old) x.body → new ≡ old ++ formats_in s x.body → after ≡ made ++ tree ∷ []
+      → tree.body ≡ body_of s order (length old) x.body → new ≡ old ++ formats_of_body s x.body → after ≡ made ++ tree ∷ []
       → after ++ groups_in s order k (length new) (drop (i + 1) xs) ≡ made ++ groups_in s order k (length old) (drop i xs)
   groups_turn k xs i x made after tree old new within is labels_are body_is new_is after_is =
       let rest : List TGroup = groups_in s order k (length new) (drop (i + 1) xs) in
@@ -163,8 +164,8 @@ module _ (s : Scope) (order : List ℕ) where
       ∙ append_assoc made (tree ∷ []) rest
       ∙ ap (λ l. made ++ (group l tree.body ∷ rest)) labels_are
       ∙ ap (λ b. made ++ (group numbers b ∷ rest)) body_is
-      ∙ ap (λ n. made ++ (group numbers (trees_in s order (length old) x.body) ∷ groups_in s order k n (drop (i + 1) xs)))
-      (behind old (formats_in s x.body) new new_is)
+      ∙ ap (λ n. made ++ (group numbers (body_of s order (length old) x.body) ∷ groups_in s order k n (drop (i + 1) xs)))
+      (behind old (formats_of_body s x.body) new new_is)
       ∙ ap (λ l. made ++ groups_in s order k (length old) l) (sym (drop_next xs i x within is))
 
 -- the formats of one more

@@ -25,12 +25,13 @@ use Rattle.capl_meaning.specs.Constant.{prefix_kind}
 use Rattle.capl_meaning.specs.Statement.{label_of}
 use Rattle.typed_source.specs.Expression.{expression_of}
 use Rattle.typed_source.specs.Statement.{arms_of, formats_of, formats_of_arms, formats_of_groups, formats_of_part, formats_of_row, groups_of, statement_of, statements_of}
-use Rattle.type_statements.specs.Rows.{arms_in, else_in, formats_in, formats_in_arms, formats_in_else, formats_in_groups, groups_in, part_in, trees_in}
+use Rattle.typed_source.specs.Program.{body_of, formats_of_body}
+use Rattle.type_statements.specs.Rows.{arms_in, else_in, formats_in_arms, formats_in_else, formats_in_groups, groups_in, part_in}
 
 -- ---- formats
 
 -- a row of statements has the formats of its list
-formats_list : (s : Scope) (n : Count) (row : Row_of-Stmt n) → formats_of_row s row ≡ formats_in s (items-the_row-Stmt n row)
+formats_list : (s : Scope) (n : Count) (row : Row_of-Stmt n) → formats_of_row s row ≡ formats_of_body s (items-the_row-Stmt n row)
 formats_list s n end_of-Stmt = refl
 formats_list s n (more_of-Stmt first row) = ap (λ fs. formats_of s first ++ fs) (formats_list s _ row)
 
@@ -41,10 +42,10 @@ body_of _ = (_, end_of-Stmt)
 
 -- the formats of a block
 pub block_formats : (s : Scope) (statement : Stmt) (body : List Stmt) → statement ≡ stmt.Block body
-    → formats_of s statement ≡ formats_in s body
+    → formats_of s statement ≡ formats_of_body s body
 block_formats s statement body is =
     let row = body_of (stmt.Block body) in
-    ap (formats_of s) is ∙ formats_list s row.0 row.1 ∙ ap (formats_in s) (items_hidden-the_row-Stmt-0 body)
+    ap (formats_of s) is ∙ formats_list s row.0 row.1 ∙ ap (formats_of_body s) (items_hidden-the_row-Stmt-0 body)
 
 -- ---- trees
 
@@ -61,19 +62,19 @@ block_form (one ∷ shape) (more_of-TStmt first row) = ap (grown first) (block_f
 
 -- the trees of a row are those of its list
 trees_list : (s : Scope) (order : List ℕ) (before : ℕ) (n : Count) (row : Row_of-Stmt n)
-    → items-the_row-TStmt _ (statements_of s order before row) ≡ trees_in s order before (items-the_row-Stmt n row)
+    → items-the_row-TStmt _ (statements_of s order before row) ≡ body_of s order before (items-the_row-Stmt n row)
 trees_list s order before n end_of-Stmt = refl
 trees_list s order before n (more_of-Stmt first rest) =
     ap (λ l. statement_of s order before first ∷ l) (trees_list s order (before + length (formats_of s first)) _ rest)
 
 -- the tree of a block
 pub block_tree : (s : Scope) (order : List ℕ) (before : ℕ) (statement : Stmt) (body : List Stmt) → statement ≡ stmt.Block body
-    → statement_of s order before statement ≡ Block (trees_in s order before body)
+    → statement_of s order before statement ≡ Block (body_of s order before body)
 block_tree s order before statement body is =
     let row = body_of (stmt.Block body) in
     ap (statement_of s order before) is
     ∙ sym (block_form _ (statements_of s order before row.1))
-    ∙ ap Block (trees_list s order before row.0 row.1 ∙ ap (trees_in s order before) (items_hidden-the_row-Stmt-0 body))
+    ∙ ap Block (trees_list s order before row.0 row.1 ∙ ap (body_of s order before) (items_hidden-the_row-Stmt-0 body))
 
 -- ---- `if`
 
@@ -150,8 +151,8 @@ if_tree s order before statement arms (Some body) is =
 -- ---- `switch`
 
 -- the formats of a group
-group_formats : (s : Scope) (shape : _) (body : _) → formats_of_row s body ≡ formats_in s (shown-the_row-Stmt-0 shape body)
-group_formats s shape body = formats_list s _ body ∙ ap (formats_in s) (sym (items_shown-the_row-Stmt-0 shape body))
+group_formats : (s : Scope) (shape : _) (body : _) → formats_of_row s body ≡ formats_of_body s (shown-the_row-Stmt-0 shape body)
+group_formats s shape body = formats_list s _ body ∙ ap (formats_of_body s) (sym (items_shown-the_row-Stmt-0 shape body))
 
 -- groups as a row have the formats of their list
 groups_formats_list : (s : Scope) (n : Count) (row : Row_of-Group n) → formats_of_groups s row ≡ formats_in_groups s (items-the_row-Group n row)
@@ -159,7 +160,7 @@ groups_formats_list s n end_of-Group = refl
 groups_formats_list s n (more_of-Group labels shape body row) =
     let list : List Stmt = shown-the_row-Stmt-0 shape body in
     ap (λ fs. fs ++ formats_of_groups s row) (group_formats s shape body)
-    ∙ ap (λ fs. formats_in s list ++ fs) (groups_formats_list s _ row)
+    ∙ ap (λ fs. formats_of_body s list ++ fs) (groups_formats_list s _ row)
 
 -- the row in a `switch`
 abbrev groups_row : Stmt → (n : Count) × Row_of-Group n
@@ -200,9 +201,9 @@ groups_list s order k before n (more_of-Group labels shape body rest) =
     let numbers : List (Option ℤ) = filter_map (λ label. label_of s k label.at label.value) labels in
     ap (λ b. group_made numbers b ∷ items-the_row-TGroup _ (groups_of s order k (before + length (formats_of_row s body)) rest))
     (items_shown-the_row-TStmt-0 shape (statements_of s order before body)
-    ∙ trees_list s order before _ body ∙ ap (trees_in s order before) (sym (items_shown-the_row-Stmt-0 shape body)))
-    ∙ ap (λ l. group_made numbers (trees_in s order before list) ∷ l) (groups_list s order k (before + length (formats_of_row s body)) _ rest)
-    ∙ ap (λ fs. group_made numbers (trees_in s order before list) ∷ groups_in s order k (before + length fs) (items-the_row-Group _ rest))
+    ∙ trees_list s order before _ body ∙ ap (body_of s order before) (sym (items_shown-the_row-Stmt-0 shape body)))
+    ∙ ap (λ l. group_made numbers (body_of s order before list) ∷ l) (groups_list s order k (before + length (formats_of_row s body)) _ rest)
+    ∙ ap (λ fs. group_made numbers (body_of s order before list) ∷ groups_in s order k (before + length fs) (items-the_row-Group _ rest))
     (group_formats s shape body)
 
 -- the tree of a `switch`

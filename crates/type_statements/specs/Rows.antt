@@ -13,16 +13,7 @@ use Rattle.typed_tree.specs.declared.statement.TGroup.{TGroup}
 use Rattle.typed_tree.specs.declared.statement.TStmt.{TStmt}
 use Rattle.typed_source.specs.Expression.{expression_of}
 use Rattle.typed_source.specs.Statement.{alone_of, formats_of, statement_of}
-
--- the formats of statements
-abbrev pub formats_in : Scope → List Stmt → List FormatText
-formats_in s statements = flat_map (formats_of s) statements
-
--- the trees of statements, where so many formats stand before theirs
-abbrev pub trees_in : Scope → List ℕ → ℕ → List Stmt → List TStmt
-trees_in s order before [] = []
-trees_in s order before (first ∷ rest) =
-    statement_of s order before first ∷ trees_in s order (before + length (formats_of s first)) rest
+use Rattle.typed_source.specs.Program.{body_of, formats_of_body}
 
 -- the formats of arms of an `if`
 abbrev pub formats_in_arms : Scope → List Arm → List FormatText
@@ -52,7 +43,7 @@ part_in s order before (Some e) = Some (alone_of s order before e)
 
 -- the formats of groups of a `switch`
 abbrev pub formats_in_groups : Scope → List Group → List FormatText
-formats_in_groups s groups = flat_map (λ group. formats_in s group.body) groups
+formats_in_groups s groups = flat_map (λ group. formats_of_body s group.body) groups
 
 -- the groups of a `switch`, with their labels in a kind
 abbrev pub groups_in : Scope → List ℕ → Kind → ℕ → List Group → List TGroup
@@ -60,5 +51,5 @@ groups_in s order k before [] = []
 groups_in s order k before (first ∷ rest) =
     record {
       labels = filter_map (λ label. label_of s k label.at label.value) first.labels;
-      body = trees_in s order before first.body;
-    } ∷ groups_in s order k (before + length (formats_in s first.body)) rest
+      body = body_of s order before first.body;
+    } ∷ groups_in s order k (before + length (formats_of_body s first.body)) rest

@@ -8,8 +8,9 @@ ghost use Rattle.typed_tree.specs.declared.statement.TStmt.TheVariants.{For};
 ghost use Rattle.typed_tree.specs.Forms.{Convert, Do, While};
 ghost use Rattle.typed_source.specs.Expression.{expression_of};
 ghost use Rattle.typed_source.specs.Statement.{formats_of, formats_of_part, returned, statement_of};
+ghost use Rattle.typed_source.specs.Program.{body_of, formats_of_body};
 ghost use Rattle.check_sorts.specs.Scope.{scope_in};
-ghost use Rattle.type_statements.specs.Rows.{arms_in, else_in, formats_in, formats_in_arms, formats_in_else, formats_in_groups, groups_in, part_in, trees_in};
+ghost use Rattle.type_statements.specs.Rows.{arms_in, else_in, formats_in_arms, formats_in_else, formats_in_groups, groups_in, part_in};
 ghost use Rattle.type_statements.specs.Tables.{AreTables, order_of};
 
 use crate::alone::make_alone;
@@ -273,11 +274,11 @@ pub fn make_body(
     statements: &[Stmt],
 ) -> Result<Items<TStmt>, NoMemory>
     requires tables { AreTables scope.names.now tables.now }
-    requires room { length (formats.old.items ++ formats_in (scope_in scope) statements.now) < 2 ^ 32 }
-    ensures trees { IfOk result (λ made. made ≡ trees_in (scope_in scope.entry) (order_of tables.now)
+    requires room { length (formats.old.items ++ formats_of_body (scope_in scope) statements.now) < 2 ^ 32 }
+    ensures trees { IfOk result (λ made. made ≡ body_of (scope_in scope.entry) (order_of tables.now)
         (length formats.old.items) statements.now) }
     ensures formats { OnOk result
-        (formats.new.items ≡ formats.old.items ++ formats_in (scope_in scope.entry) statements.now) }
+        (formats.new.items ≡ formats.old.items ++ formats_of_body (scope_in scope.entry) statements.now) }
 {
     let mut made = Vec::new(alloc);
     for statement in statements {

@@ -22,11 +22,11 @@ returns-in_ok-note-in-Some-clause-values c = λ known are.
     let old = held c.args.table.now in
     let is_fixed : fixed_kind v.form ≡ Some k = ap fixed_kind (sym c.declared_form.ensures) ∙ sym c.in-Some.ensures in
     let number = c.first_number-value.ensures known are
-    ∙ ap (λ (s : Scope). first_number known s k (option_copied c.init_of.result)) c.scope_of-scope.ensures.scope
-    ∙ ap (first_number known (scope_of names v) k) (c.init_of.ensures names.base) in
+    ∙ ap (λ (s : Scope). first_number known s k (option_copied c.init.result)) c.of_declared-scope.ensures.scope
+    ∙ ap (first_number known (scope_of names v) k) (c.init.ensures names.base) in
     let value = c.first_number-value.result in
     let is_number = subst IsNumber (sym (c.first_number-value.ensures known are))
-    (first_is_number known (scope_in c.scope_of-scope.result) k (option_copied c.init_of.result)) in
+    (first_is_number known (scope_in c.of_declared-scope.result) k (option_copied c.init.result)) in
     let written = cast_signed w128 (cast_unsigned w128 value) in
     let one : Constant = record { file = v.file; token = v.token; value = first_number known (scope_of names v) k v.init } in
     let grown = noted old (held c.note.new.self) known one are
@@ -43,6 +43,6 @@ pub returns-in_ok-note-in-Some-clause-numbers : goal.returns-in_ok-note-in-Some-
 returns-in_ok-note-in-Some-clause-numbers c = λ known are.
     let value = c.first_number-value.result in
     let number = subst IsNumber (sym (c.first_number-value.ensures known are))
-    (first_is_number known (scope_in c.scope_of-scope.result) c.in-Some.kind (option_copied c.init_of.result)) in
+    (first_is_number known (scope_in c.of_declared-scope.result) c.in-Some.kind (option_copied c.init.result)) in
     more_numbers (held c.args.table.now) (held c.note.new.self) c.args.declared.now.place.file c.token.result
     (cast_signed w128 (cast_unsigned w128 value)) c.requires (number_back value number) (λ f t. c.in_ok-note-in-Some.ensures f t)

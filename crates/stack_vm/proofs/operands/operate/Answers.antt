@@ -22,9 +22,9 @@ returns c =
     let b : ℤ = get_or s.stack 0 (pos 0) in
     let under = got c.under.result a (record { sfits = c.under.type_inv }) c.under.ensures in
     let top = got c.top.result b (record { sfits = c.top.type_inv }) c.top.ensures in
-    let there' : c.value_of-value.result ≡ Some n = grind arith in
+    let there' : c.value-given.result ≡ Some n = grind arith in
     let e : value op k a b ≡ Some n =
-    sym (c.value_of-value.ensures ∙ ap (λ (x : ℤ). value op k x (cast_signed w128 (cast_unsigned w128 c.top.result))) under ∙ ap (value op k a) top) ∙ there' in
+    sym (c.value-given.ensures ∙ ap (λ (x : ℤ). value op k x (cast_signed w128 (cast_unsigned w128 c.top.result))) under ∙ ap (value op k a) top) ∙ there' in
     let there : ℤ → RunState = λ z. record s { place = s.place + 1; stack = z ∷ drop 2 s.stack } in
     does (Bin op k) s None c.replace_two.new.self (there n) refl refl
     (λ code closed moment active effects. operator_row code closed moment (machine s active effects) op k s.stack n r.named r.taken e)

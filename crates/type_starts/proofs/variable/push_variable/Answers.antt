@@ -18,10 +18,10 @@ returns-in-Message c = λ v at.
     let d : Variable = variable_in names.base c.in-Some.declared.now in
     let same : d ≡ v = let e : Some d ≡ Some v = c.in-Some.ensures ∙ at in cc in
     subst (λ cells. OnOk c.push_message.result (Goes c.args.starts.now c.push_message.new.starts cells))
-    (message_first names v (scope_in c.scope_of.result) c.token.result (type_in c.in-Message.what) (option_copied c.init_of-init.result)
+    (message_first names v (scope_in c.of_declared.result) c.token.result (type_in c.in-Message.what) (option_copied c.init-init.result)
     (sym (c.in-Message.ensures ∙ ap (λ (o : Option Variable). option_map_or (λ v. v.form) o Misfit) at))
-    (c.scope_of.ensures.scope ∙ ap (scope_of names) same) (c.token.ensures names.base ∙ ap (λ (v : Variable). v.token) same)
-    (c.init_of-init.ensures names.base ∙ ap (λ (v : Variable). v.init) same))
+    (c.of_declared.ensures.scope ∙ ap (scope_of names) same) (c.token.ensures names.base ∙ ap (λ (v : Variable). v.token) same)
+    (c.init-init.ensures names.base ∙ ap (λ (v : Variable). v.init) same))
     (c.push_message.ensures _ c.first_message-message.ensures)
 
 pub push-requires : goal.push-requires

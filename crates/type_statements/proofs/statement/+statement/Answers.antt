@@ -2,8 +2,9 @@
 use Rattle.std.proofs.Common.{◌++◌, ◌∙◌, ap, refl, rules, sym}
 use Rattle.capl_tree.specs.declared.statement.Stmt.{the_lemmas}
 use Rattle.typed_source.specs.Statement.{formats_of, formats_of_part}
+use Rattle.typed_source.specs.Program.{formats_of_body}
 use Rattle.check_sorts.specs.Scope.{scope_in}
-use Rattle.type_statements.specs.Rows.{formats_in, formats_in_arms, formats_in_else, formats_in_groups}
+use Rattle.type_statements.specs.Rows.{formats_in_arms, formats_in_else, formats_in_groups}
 use Rattle.type_statements.specs.Tables.{order_of}
 use Rattle.type_statements.proofs.MadeLemmas.{arms_turn, body_turn, for_formats_made, for_made, formats_turn, groups_turn, if_formats_made, if_made}
 use Rattle.type_statements.proofs.RoomLemmas.{room_first, room_rest, room_same, room_third, room_two}
@@ -48,7 +49,7 @@ make_groups-loop-group-preserved t c =
           c.loop-group-test.true c.group-item.is (search rules) (search rules) (search rules)
           c.in_ok-push.ensures.items
           ∙ c.loop-group.invariant.trees;
-      formats = formats_turn (λ group. formats_in s group.body) c.args.groups.now c.loop-group.group-index c.group-item.result
+      formats = formats_turn (λ group. formats_of_body s group.body) c.args.groups.now c.loop-group.group-index c.group-item.result
           c.loop-group.formats.items c.make_body.new.formats.items c.loop-group-test.true c.group-item.is
           (search rules)
           ∙ c.loop-group.invariant.formats;
@@ -95,8 +96,8 @@ make_statement-make_body-requires t c =
       search (rules, the_lemmas, c.in-Block.is, c.as_slice.ensures),
       (
         c.requires.tables,
-        room_same c.args.formats.now.items (formats_of s c.args.s.now) (formats_in s c.as_slice.result.now)
-            (block_formats s c.args.s.now _ c.in-Block.is ∙ ap (formats_in s) (sym c.as_slice.ensures)) c.requires.room,
+        room_same c.args.formats.now.items (formats_of s c.args.s.now) (formats_of_body s c.as_slice.result.now)
+            (block_formats s c.args.s.now _ c.in-Block.is ∙ ap (formats_of_body s) (sym c.as_slice.ensures)) c.requires.room,
       ),
     )
 

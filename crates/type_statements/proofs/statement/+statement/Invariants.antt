@@ -1,17 +1,18 @@
 -- What was made and what is to be made is what is made of all, and so are the formats.
 use Rattle.std.proofs.Common.{◌≡◌, ◌++◌, drop, length}
+use Rattle.typed_source.specs.Program.{body_of, formats_of_body}
 use Rattle.check_sorts.specs.Scope.{scope_in}
-use Rattle.type_statements.specs.Rows.{arms_in, formats_in, formats_in_arms, formats_in_groups, groups_in, trees_in}
+use Rattle.type_statements.specs.Rows.{arms_in, formats_in_arms, formats_in_groups, groups_in}
 use Rattle.type_statements.specs.Tables.{order_of}
 use Rattle.type_statements.proofs.statement.+statement.Given as goal
 
 abbrev pub invariant-make_body-loop-statement : goal.invariant-make_body-loop-statement
 invariant-make_body-loop-statement l = record {
   trees : l.made.items
-      ++ trees_in (scope_in l.scope) (order_of l.tables) (length l.formats.items) (drop l.statement-index l.statements)
-      ≡ trees_in (scope_in l.scope) (order_of l.tables) (length l.fn.formats.items) l.statements;
-  formats : l.formats.items ++ formats_in (scope_in l.scope) (drop l.statement-index l.statements)
-      ≡ l.fn.formats.items ++ formats_in (scope_in l.scope) l.statements;
+      ++ body_of (scope_in l.scope) (order_of l.tables) (length l.formats.items) (drop l.statement-index l.statements)
+      ≡ body_of (scope_in l.scope) (order_of l.tables) (length l.fn.formats.items) l.statements;
+  formats : l.formats.items ++ formats_of_body (scope_in l.scope) (drop l.statement-index l.statements)
+      ≡ l.fn.formats.items ++ formats_of_body (scope_in l.scope) l.statements;
 }
 
 abbrev pub invariant-make_arms-loop-arm : goal.invariant-make_arms-loop-arm

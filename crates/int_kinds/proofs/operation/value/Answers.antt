@@ -2,7 +2,7 @@
 use Rattle.std.proofs.Common.{ap, ◌∙◌, Some}
 use Rattle.std.specs.Int.{w128}
 use Rattle.std.proofs.lemmas.Int.{to_z-of_z}
-use Rattle.check_sorts.proofs.evaluation.value_of.Goals as goal
+use Rattle.int_kinds.proofs.operation.value.Goals as goal
 
 pub returns-in-And : goal.returns-in-And
 returns-in-And c = let e = simp (to_z-of_z, c.ranges.a, c.ranges.b) at c.and.ensures in rw c.in-And.is (ap Some (to_z-of_z w128 c.and.result (record { sfits = c.and.type_inv })) ∙ e)
