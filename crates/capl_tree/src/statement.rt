@@ -34,14 +34,14 @@ pub enum Stmt {
     },
     /// `for (INIT; TEST; STEP) BODY`, where each of the three may be missing.
     For {
-        init: Option<Expr>,
-        test: Option<Expr>,
-        step: Option<Expr>,
+        init: Option<Boxed<Expr>>,
+        test: Option<Boxed<Expr>>,
+        step: Option<Boxed<Expr>>,
         body: Boxed<Stmt>,
     },
     /// `switch (ON) { .. }`
     Switch {
-        on: Expr,
+        on: Boxed<Expr>,
         groups: Items<Group>,
     },
     /// `break;`
@@ -54,7 +54,7 @@ pub enum Stmt {
     },
     /// `return;`, or `return VALUE;`
     Return {
-        value: Option<Expr>,
+        value: Option<Boxed<Expr>>,
         at: u32,
     },
 }

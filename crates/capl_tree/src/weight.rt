@@ -93,7 +93,7 @@ fn statement_weight(statement: &Stmt) -> u64
             pair_weight(part_weight(step), statement_weight(body.get())),
         ),
         Stmt::Switch { on, groups } => {
-            node_weight(expression_weight(on), groups_weight(groups.as_slice()))
+            node_weight(expression_weight(on.get()), groups_weight(groups.as_slice()))
         }
         Stmt::Return { value, .. } => part_weight(value).saturating_add(8),
     }
@@ -173,12 +173,12 @@ fn labels_weight(count: usize) -> u64
 }
 
 /// The weight of an expression that may be missing.
-fn part_weight(part: &Option<Expr>) -> u64
+fn part_weight(part: &Option<Boxed<Expr>>) -> u64
     ensures { result ≡ saturated (part_weight part.now) }
 {
     match part {
         None => 0,
-        Some(e) => expression_weight(e),
+        Some(e) => expression_weight(e.get()),
     }
 }
 

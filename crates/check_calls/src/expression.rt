@@ -7,6 +7,7 @@ ghost use Rattle.check_calls.specs.Inside.Added.{AreAdded, calls_in_all};
 use crate::builtin::is_builtin;
 use capl_tree::{Expr, Field};
 use check_names::Names;
+use items::Boxed;
 use texts::NoMemory;
 
 /// Appends the function of a name, if it is one of the program.
@@ -104,6 +105,20 @@ pub(crate) fn add_calls_in_part(
 {
     match part {
         Some(e) => add_calls(names, e, into),
+        None => Ok(()),
+    }
+}
+
+/// Appends those that are called in a boxed expression that may be missing.
+pub(crate) fn add_calls_in_boxed(
+    names: &Names,
+    part: &Option<Boxed<Expr>>,
+    into: &mut Vec<u32>,
+) -> Result<(), NoMemory>
+    ensures { OnOk result (AreAdded names.now into.new.items into.old.items (calls_in_part part.now)) }
+{
+    match part {
+        Some(e) => add_calls(names, e.get(), into),
         None => Ok(()),
     }
 }

@@ -6,7 +6,7 @@ ghost use Rattle.capl_meaning.specs.Calls.{calls_in_declarator, calls_in_init, c
 ghost use Rattle.check_calls.specs.Callees.{calls_of_all};
 ghost use Rattle.check_calls.specs.Inside.Added.{AreAdded, calls_of_cases, calls_of_list, calls_of_other};
 
-use crate::expression::{add_calls, add_calls_in_field, add_calls_in_part};
+use crate::expression::{add_calls, add_calls_in_boxed, add_calls_in_field, add_calls_in_part};
 use capl_tree::{Arm, Declr, Group, Init, Item, Label, Stmt};
 use check_names::Names;
 use items::Boxed;
@@ -111,7 +111,7 @@ fn add_calls_of(names: &Names, statement: &Stmt, into: &mut Vec<u32>) -> Result<
         Stmt::Empty | Stmt::Break { .. } | Stmt::Continue { .. } => {}
         Stmt::Expr(e) => add_calls(names, e, into)?,
         Stmt::Decl(decl) => add_calls_in_declarators(names, decl.items.as_slice(), into)?,
-        Stmt::Return { value, .. } => add_calls_in_part(names, value, into)?,
+        Stmt::Return { value, .. } => add_calls_in_boxed(names, value, into)?,
         Stmt::Block(body) => add_calls_of_all(names, body.as_slice(), into)?,
         Stmt::If { arms, other } => {
             add_calls_of_arms(names, arms.as_slice(), into)?;
@@ -131,13 +131,13 @@ fn add_calls_of(names: &Names, statement: &Stmt, into: &mut Vec<u32>) -> Result<
             step,
             body,
         } => {
-            add_calls_in_part(names, init, into)?;
-            add_calls_in_part(names, test, into)?;
-            add_calls_in_part(names, step, into)?;
+            add_calls_in_boxed(names, init, into)?;
+            add_calls_in_boxed(names, test, into)?;
+            add_calls_in_boxed(names, step, into)?;
             add_calls_of(names, body.get(), into)?;
         }
         Stmt::Switch { on, groups } => {
-            add_calls(names, on, into)?;
+            add_calls(names, on.get(), into)?;
             add_calls_of_groups(names, groups.as_slice(), into)?;
         }
     }

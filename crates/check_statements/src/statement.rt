@@ -24,14 +24,14 @@ use texts::NoMemory;
 fn judge_alone(
     alloc: Global,
     site: &Site,
-    part: &Option<Expr>,
+    part: &Option<Boxed<Expr>>,
     first: &mut Option<Offence>,
 ) -> Result<(), NoMemory>
     requires { IsReady site.now }
     ensures { OnOk result (first.new ≡ noted first.old (alone_offences (place_of site.now) part.now)) }
 {
     if let Some(e) = part {
-        judge(alloc, site.scope, site.calls, e, first)?;
+        judge(alloc, site.scope, site.calls, e.get(), first)?;
     }
     Ok(())
 }
@@ -40,20 +40,20 @@ fn judge_alone(
 fn judge_needed(
     alloc: Global,
     site: &Site,
-    part: &Option<Expr>,
+    part: &Option<Boxed<Expr>>,
     first: &mut Option<Offence>,
 ) -> Result<(), NoMemory>
     requires { IsReady site.now }
     ensures { OnOk result (first.new ≡ noted first.old (needed_offences (place_of site.now) part.now)) }
 {
     if let Some(e) = part {
-        judge_integer(alloc, site.scope, site.calls, e, first)?;
+        judge_integer(alloc, site.scope, site.calls, e.get(), first)?;
     }
     Ok(())
 }
 
 /// Notes a `return` with a value where nothing is given, or without one where a number is.
-fn note_return(site: &Site, at: u32, value: &Option<Expr>, first: &mut Option<Offence>)
+fn note_return(site: &Site, at: u32, value: &Option<Boxed<Expr>>, first: &mut Option<Offence>)
     ensures { first.new ≡ noted first.old
         (return_rule (place_of site.now) at site.now.scope.gives value.now) }
 {
@@ -118,7 +118,7 @@ fn judge_return(
     alloc: Global,
     site: &Site,
     at: u32,
-    value: &Option<Expr>,
+    value: &Option<Boxed<Expr>>,
     first: &mut Option<Offence>,
 ) -> Result<(), NoMemory>
     requires { IsReady site.now }
@@ -176,7 +176,7 @@ fn judge_statement(
             judge_statement(alloc, site, in_loop(), body.get(), first)?;
         }
         Stmt::Switch { on, groups } => {
-            judge_switch(alloc, site, on, groups.as_slice(), first)?;
+            judge_switch(alloc, site, on.get(), groups.as_slice(), first)?;
             judge_groups(alloc, site, in_switch(around), groups.as_slice(), first)?;
         }
         Stmt::Break { at } => note_broken(site.scope, !around.breakable, *at, 22, first),

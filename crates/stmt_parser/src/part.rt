@@ -9,7 +9,7 @@ use capl_lexer::{Sign, Word};
 use capl_tree::{Decl, Expr, Label, Stmt};
 use decl_parser::read_declaration;
 use expr_parser::{Cursor, Refusal, read_expression};
-use items::Items;
+use items::{Boxed, Items};
 
 /// An expression that binds at the level `least` or more strongly. `total` is the number of tokens of the
 /// file.
@@ -43,7 +43,7 @@ pub(crate) fn part_before(
     cursor: &mut Cursor<'_>,
     total: u32,
     end: Sign,
-) -> Result<Option<Expr>, Refusal>
+) -> Result<Option<Boxed<Expr>>, Refusal>
     ensures { Gives (read.part_before (parts_of total) end cursor.old) result cursor.new }
 {
     if cursor.eat(end) {
@@ -51,7 +51,8 @@ pub(crate) fn part_before(
     }
     let value = read_value(cursor, total, 1)?;
     cursor.expect(end)?;
-    Ok(Some(value))
+    let boxed = Boxed::new(cursor.alloc(), value)?;
+    Ok(Some(boxed))
 }
 
 /// Whether a declaration begins.

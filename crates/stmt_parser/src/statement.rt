@@ -201,7 +201,7 @@ fn switch(cursor: &mut Cursor<'_>, total: u32, depth: usize) -> Result<Stmt, Ref
     ensures { Gives (read.switch (parts_of total) (read.statement (parts_of total) depth) cursor.old)
         result cursor.new }
 {
-    let on = enclosed(cursor, total)?;
+    let on = Boxed::new(cursor.alloc(), enclosed(cursor, total)?)?;
     cursor.expect(Sign::OpenBrace)?;
     let groups = groups(cursor, total, depth)?;
     cursor.expect(Sign::CloseBrace)?;
@@ -254,11 +254,11 @@ fn for_loop(cursor: &mut Cursor<'_>, total: u32, depth: usize) -> Result<Stmt, R
 #[derive(Drop)]
 struct ForHead {
     /// What begins it.
-    init: Option<Expr>,
+    init: Option<Boxed<Expr>>,
     /// What is asked before each turn.
-    test: Option<Expr>,
+    test: Option<Boxed<Expr>>,
     /// What is done behind each turn.
-    step: Option<Expr>,
+    step: Option<Boxed<Expr>>,
 }
 
 /// Behind a `for`: its three parts. With them a `for` is read where its body is.

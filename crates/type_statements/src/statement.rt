@@ -32,7 +32,7 @@ fn make_part(
     scope: Scope,
     tables: &StatementTables,
     formats: &mut Vec<Format>,
-    part: &Option<Expr>,
+    part: &Option<Boxed<Expr>>,
 ) -> Result<Option<Boxed<TStmt>>, NoMemory>
     requires tables { AreTables scope.names.now tables.now }
     requires room { length (formats.old.items ++ formats_of_part (scope_in scope) part.now) < 2 ^ 32 }
@@ -44,7 +44,7 @@ fn make_part(
     match part {
         None => Ok(None),
         Some(e) => {
-            let tree = make_alone(alloc, scope, tables, formats, e)?;
+            let tree = make_alone(alloc, scope, tables, formats, e.get())?;
             let boxed = Boxed::new(alloc, tree)?;
             Ok(Some(boxed))
         }
@@ -76,7 +76,7 @@ fn make_returned(
     alloc: Global,
     scope: Scope,
     tables: &StatementTables,
-    value: &Option<Expr>,
+    value: &Option<Boxed<Expr>>,
 ) -> Result<Option<TExpr>, NoMemory>
     requires { AreTables scope.names.now tables.now }
     ensures { let s = scope_in scope.entry in IfOk result (λ made. made
@@ -85,7 +85,7 @@ fn make_returned(
     let Some(e) = value else {
         return Ok(None);
     };
-    let made = make_expression(alloc, scope, &tables.trees, e)?;
+    let made = make_expression(alloc, scope, &tables.trees, e.get())?;
     match scope.gives {
         None => Ok(Some(made.tree)),
         Some(kind) => {
@@ -100,7 +100,7 @@ fn make_test(
     alloc: Global,
     scope: Scope,
     tables: &StatementTables,
-    test: &Option<Expr>,
+    test: &Option<Boxed<Expr>>,
 ) -> Result<Option<TExpr>, NoMemory>
     requires { AreTables scope.names.now tables.now }
     ensures { IfOk result (λ made. made
@@ -109,7 +109,7 @@ fn make_test(
     match test {
         None => Ok(None),
         Some(e) => {
-            let made = make_expression(alloc, scope, &tables.trees, e)?;
+            let made = make_expression(alloc, scope, &tables.trees, e.get())?;
             Ok(Some(made.tree))
         }
     }
@@ -132,9 +132,9 @@ fn make_head(
     scope: Scope,
     tables: &StatementTables,
     formats: &mut Vec<Format>,
-    init: &Option<Expr>,
-    test: &Option<Expr>,
-    step: &Option<Expr>,
+    init: &Option<Boxed<Expr>>,
+    test: &Option<Boxed<Expr>>,
+    step: &Option<Boxed<Expr>>,
 ) -> Result<Head, NoMemory>
     requires tables { AreTables scope.names.now tables.now }
     requires room { let s = scope_in scope in
@@ -251,7 +251,7 @@ pub fn make_statement(
             Ok(tree)
         }
         Stmt::Switch { on, groups } => {
-            let (on, kind) = make_value(alloc, scope, tables, on)?;
+            let (on, kind) = make_value(alloc, scope, tables, on.get())?;
             let groups = make_groups(alloc, scope, tables, formats, kind, groups.as_slice())?;
             Ok(TStmt::Switch { on, groups })
         }

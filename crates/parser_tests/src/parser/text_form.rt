@@ -183,6 +183,17 @@ fn show_maybe(out: &mut String, e: &Option<Expr>) -> Result<(), Fail> {
     }
 }
 
+/// A boxed expression that may be missing, behind a blank.
+fn show_boxed(out: &mut String, e: &Option<Boxed<Expr>>) -> Result<(), Fail> {
+    match e {
+        Some(e) => show_part(out, e.get()),
+        None => {
+            out.push_str(" -")?;
+            Ok(())
+        }
+    }
+}
+
 /// The type of a declaration.
 fn show_type(out: &mut String, what: &DeclType) -> Result<(), Fail> {
     match what {
@@ -284,7 +295,7 @@ fn show_statement(out: &mut String, statement: &Stmt) -> Result<(), Fail> {
         Stmt::Continue { at } => write!(out, " Continue@{at}")?,
         Stmt::Return { value, at } => {
             write!(out, " (Return@{at}")?;
-            show_maybe(out, value)?;
+            show_boxed(out, value)?;
             out.push_str(")")?;
         }
         Stmt::Block(body) => {
@@ -312,7 +323,7 @@ fn show_compound(out: &mut String, statement: &Stmt) -> Result<(), Fail> {
         }
         Stmt::Switch { on, groups } => {
             out.push_str(" (Switch")?;
-            show_part(out, on)?;
+            show_part(out, on.get())?;
             for group in groups.as_slice() {
                 show_group(out, group)?;
             }
@@ -344,9 +355,9 @@ fn show_loop(out: &mut String, statement: &Stmt) -> Result<(), Fail> {
             body,
         } => {
             out.push_str(" (For")?;
-            show_maybe(out, init)?;
-            show_maybe(out, test)?;
-            show_maybe(out, step)?;
+            show_boxed(out, init)?;
+            show_boxed(out, test)?;
+            show_boxed(out, step)?;
             show_statement(out, body.get())
         }
         _ => Ok(()),

@@ -63,12 +63,12 @@ pub add_calls_of-returns-in_ok-add_calls_of-in-For : goal.add_calls_of-returns-i
 add_calls_of-returns-in_ok-add_calls_of-in-For t c =
     added_triple calls_in_part calls_in_part (λ (body : Stmt). calls_in_part c.in-For.step ++ calls_of body) c.args.names.now
     _ _ _ _ _ c.in-For.init c.in-For.init c.in-For.test c.in-For.test _ _ (for_calls _ _ _ _ _ c.in-For.is)
-    refl refl c.get-in-For.ensures c.in_ok-add_calls_in_part-in-For.ensures c.in_ok-add_calls_in_part-in-For-2.ensures
-    (added_two c.args.names.now _ _ _ _ _ c.in_ok-add_calls_in_part-in-For-3.ensures c.in_ok-add_calls_of-in-For.ensures)
+    refl refl c.get-in-For.ensures c.in_ok-add_calls_in_boxed-in-For.ensures c.in_ok-add_calls_in_boxed-in-For-2.ensures
+    (added_two c.args.names.now _ _ _ _ _ c.in_ok-add_calls_in_boxed-in-For-3.ensures c.in_ok-add_calls_of-in-For.ensures)
 
 pub add_calls_of-returns-in_ok-add_calls_of_groups-in-Switch :
     goal.add_calls_of-returns-in_ok-add_calls_of_groups-in-Switch
 add_calls_of-returns-in_ok-add_calls_of_groups-in-Switch t c =
-    added_pair calls_in calls_of_cases c.args.names.now _ _ _ _ c.in-Switch.on c.in-Switch.on _ _
-    (switch_calls _ _ _ c.in-Switch.is) refl c.as_slice-in-Switch.ensures
+    added_pair calls_in calls_of_cases c.args.names.now _ _ _ _ _ _ _ _
+    (switch_calls _ _ _ c.in-Switch.is) c.get-in-Switch.ensures c.as_slice-in-Switch.ensures
     c.in_ok-add_calls-in-Switch.ensures c.in_ok-add_calls_of_groups-in-Switch.ensures
