@@ -7,9 +7,9 @@ use Rattle.std.proofs.lemmas.Bool.Decides.{nat_tests}
 use Rattle.std.proofs.lemmas.List.Elements.{All-same, All-append, All-take, All-drop}
 use Rattle.can_bus.specs.declared.waiting.Waiting.{Waiting}
 use Rattle.can_bus.specs.declared.transmission.Transmission.{Transmission}
-use Rattle.can_bus.specs.Waiting.{Requests, name_of, members, requests_of, winner}
+use Rattle.can_bus.specs.Waiting.{Requests, request_name, members, requests_of, winner}
 use Rattle.can_bus.specs.Transmission.{time_on_wire, intermission}
-use Rattle.can_bus.specs.Bus.{BusState, moment_of, is_free, after_arbitration}
+use Rattle.can_bus.specs.Bus.{BusState, moment_by, is_free, after_arbitration}
 use Rattle.can_bus.proofs.Requests.{len-requests_of, members-requests_of}
 use Rattle.can_bus.proofs.Winner.{NoneBefore, winner-from, IsWinner-from}
 use Rattle.can_bus.proofs.Arbitration.{after_arbitration-winner}
@@ -19,17 +19,17 @@ use Rattle.arbitration.proofs.ListEdits.{requests_of-remove, in_order-remove}
 -- ---- the next moment
 -- nothing is due where the wire is empty and nothing waits
 pub due-nothing : (wire : Option Transmission) (rs : List Waiting) (free : ℕ) → wire ≡ None → InOrder rs → length rs ≡ 0
-    → moment_of wire (requests_of rs) free ≡ None
+    → moment_by wire (requests_of rs) free ≡ None
 due-nothing wire rs free off order none =
-    ap (λ w. moment_of w (requests_of rs) free) off
+    ap (λ w. moment_by w (requests_of rs) free) off
     ∙ ap (λ n. cond (eqb n 0) None (Some free)) (len-requests_of rs order ∙ none)
 
 -- the moment from which the bus is free is due where the wire is empty and a request waits
 pub due-free : (wire : Option Transmission) (rs : List Waiting) (free : ℕ) → wire ≡ None → InOrder rs → length rs ≢ 0
-    → moment_of wire (requests_of rs) free ≡ Some free
+    → moment_by wire (requests_of rs) free ≡ Some free
 due-free wire rs free off order some =
     let apart : eqb (length rs) 0 ≡ false = grind (arith, nat_tests) in
-    ap (λ w. moment_of w (requests_of rs) free) off
+    ap (λ w. moment_by w (requests_of rs) free) off
     ∙ ap (λ n. cond (eqb n 0) None (Some free)) (len-requests_of rs order)
     ∙ ap (λ b. cond b None (Some free)) apart
 
@@ -53,8 +53,8 @@ pub begins : (s : BusState) (rs after : List Waiting) (now place : ℕ) (r : Wai
     (record s { waiting = requests_of after; wire = Some (record { request = r; end = now + time }); free = now + time + idle })
     (after_arbitration s now)
 begins s rs after now place r time idle set order first is left ready lasts rests =
-    let gone : requests_of after ≡ finmap.remove s.waiting (name_of r) =
-    ap requests_of left ∙ requests_of-remove rs place r order first.within is ∙ ap (λ w. finmap.remove w (name_of r)) (sym set) in
+    let gone : requests_of after ≡ finmap.remove s.waiting (request_name r) =
+    ap requests_of left ∙ requests_of-remove rs place r order first.within is ∙ ap (λ w. finmap.remove w (request_name r)) (sym set) in
     (λ i. record s {
       waiting = gone i;
       wire = Some (record { request = r; end = now + lasts i });

@@ -13,7 +13,7 @@ use Rattle.std.proofs.lemmas.List.Edits.{map_over_more}
 use Rattle.std.proofs.lemmas.List.Elements.{All-head, All-tail, All-contains_itself}
 use Rattle.can_bus.specs.declared.waiting.Waiting.{Waiting}
 use Rattle.can_bus.specs.declared.transmission.Transmission.{Transmission}
-use Rattle.can_bus.specs.Waiting.{name_cmp, name_of, entry_of}
+use Rattle.can_bus.specs.Waiting.{name_cmp, request_name, entry_of}
 use Rattle.can_bus.proofs.Requests.{both_true, below_member, Contains-cons, Contains-map, not_Contains-nil}
 use Rattle.can_bus.proofs.RankLemmas.{count_on_wire}
 use Rattle.arbitration.specs.Inside.Places.{InOrder, place_behind}
@@ -37,10 +37,10 @@ before_earlier m n p q h = grind (arith, nat_tests)
 not_before_itself : (n p : ℕ) → (eqb n n && ltb p p) ≡ false
 not_before_itself n p = grind (arith, nat_tests)
 
-none_earlier : (x : Waiting) (rs : List Waiting) → IsTrue (below_all name_cmp (name_of x) (map entry_of rs)) → earlier_count rs x.node x.number ≡ 0
+none_earlier : (x : Waiting) (rs : List Waiting) → IsTrue (below_all name_cmp (request_name x) (map entry_of rs)) → earlier_count rs x.node x.number ≡ 0
 none_earlier x [] h = refl
 none_earlier x (s ∷ rs) h =
-    let parts = both_true (is_lt (name_cmp (name_of x) (name_of s))) (below_all name_cmp (name_of x) (map entry_of rs)) h in
+    let parts = both_true (is_lt (name_cmp (request_name x) (request_name s))) (below_all name_cmp (request_name x) (map entry_of rs)) h in
     let test : is_earlier x.node x.number s ≡ false = later_not_earlier x.node s.node x.number s.number parts.0 in
     let rest = none_earlier x rs parts.1 in
     earlier_count-cons s rs x.node x.number ∙ ap (λ b. cond b 1 0 + earlier_count rs x.node x.number) test ∙ omega (arith, rest)
@@ -50,14 +50,14 @@ pub earlier_count-at : (rs : List Waiting) (i : ℕ) (x : Waiting) → InOrder r
     → earlier_count rs x.node x.number ≡ count_by (λ r. eqb r.node x.node) (take i rs)
 earlier_count-at [] i x order low is = absurd (omega arith)
 earlier_count-at (s ∷ rs) zero x order low is =
-    let parts = both_true (below_all name_cmp (name_of s) (map entry_of rs)) (is_sorted name_cmp (map entry_of rs)) order in
+    let parts = both_true (below_all name_cmp (request_name s) (map entry_of rs)) (is_sorted name_cmp (map entry_of rs)) order in
     let P : Waiting → Type 0 = λ y. earlier_count (s ∷ rs) y.node y.number ≡ 0 in
     let rest = none_earlier s rs parts.0 in
     subst P (sym is)
     (earlier_count-cons s rs s.node s.number ∙ ap (λ b. cond b 1 0 + earlier_count rs s.node s.number) (not_before_itself s.node s.number) ∙ omega (arith, rest))
 earlier_count-at (s ∷ rs) (suc i) x order low is =
-    let parts = both_true (below_all name_cmp (name_of s) (map entry_of rs)) (is_sorted name_cmp (map entry_of rs)) order in
-    let less = below_member (name_of s) (map entry_of rs) (entry_of x) parts.0 (Contains-map entry_of x rs (i, omega arith, sym is)) in
+    let parts = both_true (below_all name_cmp (request_name s) (map entry_of rs)) (is_sorted name_cmp (map entry_of rs)) order in
+    let less = below_member (request_name s) (map entry_of rs) (entry_of x) parts.0 (Contains-map entry_of x rs (i, omega arith, sym is)) in
     earlier_count-cons s rs x.node x.number
     ∙ ap (λ b. cond b 1 0 + earlier_count rs x.node x.number) (before_earlier s.node x.node s.number x.number less)
     ∙ ap (λ n. cond (eqb s.node x.node) 1 0 + n) (earlier_count-at rs i x parts.1 (omega arith) is)
@@ -229,7 +229,7 @@ numbers_less rs wire node s t in' same less =
 
 -- of two requests in the list the first name stays the lesser
 stays_less : (rs : List Waiting) (wire : Option Transmission) (node : ℕ) (s t : Waiting) → Contains rs s
-    → is_lt (name_cmp (name_of s) (name_of t)) ≡ true → is_lt (name_cmp (name_of (with_rank_in rs wire node s)) (name_of (with_rank_in rs wire node t))) ≡ true
+    → is_lt (name_cmp (request_name s) (request_name t)) ≡ true → is_lt (name_cmp (request_name (with_rank_in rs wire node s)) (request_name (with_rank_in rs wire node t))) ≡ true
 stays_less rs wire node s t in' h =
     let ns = node-with_rank_in rs wire node s in
     let nt = node-with_rank_in rs wire node t in
@@ -244,17 +244,17 @@ two_true : (a b : Bool) → a ≡ true → b ≡ true → IsTrue (a && b)
 two_true a b p q = cc
 
 stays_below : (rs : List Waiting) (wire : Option Transmission) (node : ℕ) (s : Waiting) (ts : List Waiting) → Contains rs s
-    → IsTrue (below_all name_cmp (name_of s) (map entry_of ts)) → IsTrue (below_all name_cmp (name_of (with_rank_in rs wire node s)) (map entry_of (map (with_rank_in rs wire node) ts)))
+    → IsTrue (below_all name_cmp (request_name s) (map entry_of ts)) → IsTrue (below_all name_cmp (request_name (with_rank_in rs wire node s)) (map entry_of (map (with_rank_in rs wire node) ts)))
 stays_below rs wire node s [] in' h = refl
 stays_below rs wire node s (t ∷ ts) in' h =
-    let parts = both_true (is_lt (name_cmp (name_of s) (name_of t))) (below_all name_cmp (name_of s) (map entry_of ts)) h in
+    let parts = both_true (is_lt (name_cmp (request_name s) (request_name t))) (below_all name_cmp (request_name s) (map entry_of ts)) h in
     two_true _ _ (stays_less rs wire node s t in' parts.0) (stays_below rs wire node s ts in' parts.1)
 
 stays_in_order : (rs : List Waiting) (wire : Option Transmission) (node : ℕ) (ts : List Waiting) → All (Contains rs) ts
     → InOrder ts → InOrder (map (with_rank_in rs wire node) ts)
 stays_in_order rs wire node [] in' h = refl
 stays_in_order rs wire node (t ∷ ts) in' h =
-    let parts = both_true (below_all name_cmp (name_of t) (map entry_of ts)) (is_sorted name_cmp (map entry_of ts)) h in
+    let parts = both_true (below_all name_cmp (request_name t) (map entry_of ts)) (is_sorted name_cmp (map entry_of ts)) h in
     two_true _ _ (stays_below rs wire node t ts (All-head (Contains rs) t ts in') parts.0) (stays_in_order rs wire node ts (All-tail (Contains rs) t ts in') parts.1)
 
 -- with ranks the list stays in order

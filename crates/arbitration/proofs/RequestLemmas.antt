@@ -14,7 +14,7 @@ use Rattle.std.proofs.lemmas.List.Sums.{length-filter, sum_by-cons}
 use Rattle.can_frame.specs.Frame.{FrameFields}
 use Rattle.can_bus.specs.declared.waiting.Waiting.{Waiting}
 use Rattle.can_bus.specs.declared.transmission.Transmission.{Transmission}
-use Rattle.can_bus.specs.Waiting.{RequestName, name_of, entry_of, requests_of, members}
+use Rattle.can_bus.specs.Waiting.{RequestName, request_name, entry_of, requests_of, members}
 use Rattle.can_bus.specs.Bus.{BusState, next_number, last_number, rank, with_rank, transmission_with_rank, with_ranks, with_request, after_request}
 use Rattle.can_bus.proofs.Requests.{entries-retain_keys, entries-from_entries, members-requests_of}
 use Rattle.can_bus.proofs.NextNumbers.{get-map, insert-map, get-insert_same, get-insert_other, insert-insert}
@@ -86,7 +86,7 @@ count_by-map p (r ∷ rs) =
     ∙ ap (λ n. cond (p (entry_of r)) 1 0 + n) (count_by-map p rs)
     ∙ sym (sum_by-cons (λ s. cond (p (entry_of s)) 1 0) r rs)
 
-len-retain_keys : (rs : List Waiting) (p : RequestName → Bool) → InOrder rs → len (retain_keys (requests_of rs) p) ≡ count_by (λ r. p (name_of r)) rs
+len-retain_keys : (rs : List Waiting) (p : RequestName → Bool) → InOrder rs → len (retain_keys (requests_of rs) p) ≡ count_by (λ r. p (request_name r)) rs
 len-retain_keys rs p order =
     len-entries (retain_keys (requests_of rs) p)
     ∙ ap length (entries-retain_keys (requests_of rs) p)

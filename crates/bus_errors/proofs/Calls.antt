@@ -8,7 +8,7 @@ use Rattle.can_frame.specs.Frame.{FrameFields}
 use Rattle.can_bus.specs.declared.waiting.Waiting.{Waiting}
 use Rattle.can_bus.specs.declared.transmission.Transmission.{Transmission}
 use Rattle.can_bus.specs.Transmission.{time_on_wire}
-use Rattle.can_bus.specs.Waiting.{RequestName, Requests, name_of}
+use Rattle.can_bus.specs.Waiting.{RequestName, Requests, request_name}
 use Rattle.can_bus.specs.Bus.{BusState}
 use Rattle.can_bus.specs.Bus as channel
 use Rattle.can_bus.proofs.Requests.{name_cmp_total, name_cmp-IsAntisymmetric, ties}
@@ -26,18 +26,18 @@ ends_now : (m n : ℕ) → m ≡ n → eqb m n ≡ true
 ends_now m n e = grind (arith, nat_tests)
 
 -- dropped with the others of its node, a request leaves the same as if it had not waited
-dropped_too : (w : Requests) (r : Waiting) → retain_keys (insert w (name_of r) r.frame) (λ name. not (eqb name.0 r.node)) ≡ retain_keys w (λ name. not (eqb name.0 r.node))
+dropped_too : (w : Requests) (r : Waiting) → retain_keys (insert w (request_name r) r.frame) (λ name. not (eqb name.0 r.node)) ≡ retain_keys w (λ name. not (eqb name.0 r.node))
 dropped_too w r =
     let p : RequestName → Bool = λ name. not (eqb name.0 r.node) in
     same_map name_cmp_total name_cmp-IsAntisymmetric _ _
-    (λ q. get-retain_keys (insert w (name_of r) r.frame) p q (ties p q)
+    (λ q. get-retain_keys (insert w (request_name r) r.frame) p q (ties p q)
     ∙ elim (eqb_tells q.0 r.node) [
       | inl own ↦
-          ap (λ b. cond (not b) (get (insert w (name_of r) r.frame) q) None) own.0
+          ap (λ b. cond (not b) (get (insert w (request_name r) r.frame) q) None) own.0
           ∙ sym (ap (λ b. cond (not b) (get w q) None) own.0)
       | inr other ↦
-          ap (λ o. cond (p q) o None) (get-insert name_cmp_total w (name_of r) r.frame q
-          ∙ ap (λ b. cond b (Some r.frame) (get w q)) (other_name q (name_of r) other.1))
+          ap (λ o. cond (p q) o None) (get-insert name_cmp_total w (request_name r) r.frame q
+          ∙ ap (λ b. cond b (Some r.frame) (get w q)) (other_name q (request_name r) other.1))
     ]
     ∙ sym (get-retain_keys w p q (ties p q)))
 
@@ -62,7 +62,7 @@ module _ (s : ErrorState) (now : ℕ) (t : Transmission) (carried : s.plain.wire
       (λ i. record s { plain = again waits i; counts = counted i })
       ∙ sym (finish_disturbed planned
       ∙ ap (λ b. record s {
-        plain = record s.plain { wire = None; waiting = cond b (retain_keys s.plain.waiting (λ name. not (eqb name.0 r.node))) (insert s.plain.waiting (name_of r) r.frame) };
+        plain = record s.plain { wire = None; waiting = cond b (retain_keys s.plain.waiting (λ name. not (eqb name.0 r.node))) (insert s.plain.waiting (request_name r) r.frame) };
         counts = after;
       }) (ap (λ c. is_off_in c r.node) (sym counted) ∙ on))
 
@@ -79,7 +79,7 @@ module _ (s : ErrorState) (now : ℕ) (t : Transmission) (carried : s.plain.wire
       (λ i. record s { plain = gone i; counts = counted i })
       ∙ sym (finish_disturbed planned
       ∙ ap (λ b. record s {
-        plain = record s.plain { wire = None; waiting = cond b (retain_keys s.plain.waiting (λ name. not (eqb name.0 r.node))) (insert s.plain.waiting (name_of r) r.frame) };
+        plain = record s.plain { wire = None; waiting = cond b (retain_keys s.plain.waiting (λ name. not (eqb name.0 r.node))) (insert s.plain.waiting (request_name r) r.frame) };
         counts = after;
       }) (ap (λ c. is_off_in c r.node) (sym counted) ∙ off))
 

@@ -8,9 +8,9 @@ use Rattle.std.proofs.lemmas.Bool.Decides.{nat_tests}
 use Rattle.std.proofs.lemmas.List.Sorted.{Contains-permutation, IsPermutation-sym}
 use Rattle.can_bus.specs.declared.waiting.Waiting.{Waiting}
 use Rattle.can_bus.specs.declared.transmission.Transmission.{Transmission}
-use Rattle.can_bus.specs.Waiting.{name_of, requests_of, winner}
+use Rattle.can_bus.specs.Waiting.{request_name, requests_of, winner}
 use Rattle.can_bus.specs.Transmission.{time_on_wire, intermission}
-use Rattle.can_bus.specs.Bus.{BusState, moment_of, is_free, winner_at, with_transmission}
+use Rattle.can_bus.specs.Bus.{BusState, moment_by, is_free, winner_at, with_transmission}
 use Rattle.can_bus.proofs.Requests.{Contains-first}
 use Rattle.can_bus.proofs.Winner.{winner-nil}
 use Rattle.bus_heap.specs.Retransmission.{after_longer_arbitration}
@@ -21,17 +21,17 @@ use Rattle.bus_heap.proofs.SetLemmas.{len-list, requests_of-less, winner-list}
 -- ---- the next moment
 -- nothing is due where the wire is empty and nothing waits
 pub due-nothing : (wire : Option Transmission) (rs : List Waiting) (free : ℕ) → wire ≡ None → AreNamesDistinct rs → length rs ≡ 0
-    → moment_of wire (requests_of rs) free ≡ None
+    → moment_by wire (requests_of rs) free ≡ None
 due-nothing wire rs free off distinct none =
-    ap (λ w. moment_of w (requests_of rs) free) off
+    ap (λ w. moment_by w (requests_of rs) free) off
     ∙ ap (λ n. cond (eqb n 0) None (Some free)) (len-list rs distinct ∙ none)
 
 -- the moment from which the bus is free is due where the wire is empty and a request waits
 pub due-free : (wire : Option Transmission) (rs : List Waiting) (free : ℕ) → wire ≡ None → AreNamesDistinct rs → length rs ≢ 0
-    → moment_of wire (requests_of rs) free ≡ Some free
+    → moment_by wire (requests_of rs) free ≡ Some free
 due-free wire rs free off distinct some =
     let apart : eqb (length rs) 0 ≡ false = grind (arith, nat_tests) in
-    ap (λ w. moment_of w (requests_of rs) free) off
+    ap (λ w. moment_by w (requests_of rs) free) off
     ∙ ap (λ n. cond (eqb n 0) None (Some free)) (len-list rs distinct)
     ∙ ap (λ b. cond b None (Some free)) apart
 
@@ -64,8 +64,8 @@ module _ (s : BusState) (rs after : List Waiting) (now : ℕ) (r : Waiting) (set
       (record s { waiting = requests_of after; wire = Some (record { request = r; end = now + time }); free = now + time + idle })
       (after_longer_arbitration s now bits)
   begins bits time idle lasts rests =
-      let gone : requests_of after ≡ finmap.remove s.waiting (name_of r) =
-      requests_of-less rs after r taken.others distinct ∙ ap (λ w. finmap.remove w (name_of r)) (sym set) in
+      let gone : requests_of after ≡ finmap.remove s.waiting (request_name r) =
+      requests_of-less rs after r taken.others distinct ∙ ap (λ w. finmap.remove w (request_name r)) (sym set) in
       (λ i. record s {
         waiting = gone i;
         wire = Some (record { request = r; end = now + lasts i });

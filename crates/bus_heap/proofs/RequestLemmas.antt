@@ -17,7 +17,7 @@ use Rattle.can_bus.specs.declared.waiting.Waiting.{Waiting}
 use Rattle.can_bus.specs.declared.transmission.Transmission.{Transmission}
 use Rattle.can_bus.specs.Order.{goes_before}
 use Rattle.can_bus.specs.Ranks.{IsBelowNext, rank_in, with_rank_in, transmission_with_rank_in}
-use Rattle.can_bus.specs.Waiting.{name_cmp, name_of, entry_of, requests_of, members}
+use Rattle.can_bus.specs.Waiting.{name_cmp, request_name, entry_of, requests_of, members}
 use Rattle.can_bus.specs.Bus.{BusState, next_number, last_number, rank, with_rank, transmission_with_rank, with_ranks, with_request, after_request}
 use Rattle.can_bus.proofs.Precedence.{key_of, goes_before-keys}
 use Rattle.can_bus.proofs.Requests.{from_T, map-forth}
@@ -32,7 +32,7 @@ use Rattle.bus_heap.proofs.SetLemmas.{is_named, named, distinct-permutation, dis
 
 -- ---- a request under its node's next number
 -- has a name of its own
-other_names : (s : BusState) (rs : List Waiting) (node n : ℕ) (f : FrameFields) → All (IsBelowNext s) rs → n ≡ next_number s node → All (λ t. is_named (name_of (new_request node n f)) t ≡ false) rs
+other_names : (s : BusState) (rs : List Waiting) (node n : ℕ) (f : FrameFields) → All (IsBelowNext s) rs → n ≡ next_number s node → All (λ t. is_named (request_name (new_request node n f)) t ≡ false) rs
 other_names s rs node n f below is =
     All-weaker (IsBelowNext s) (λ t. is_named (node, n) t ≡ false)
     (λ t less. elim (is_named (node, n) t) as (λ b. is_named (node, n) t ≡ b → b ≡ false) [

@@ -15,7 +15,7 @@ use Rattle.std.proofs.lemmas.List.Sorted.{IsPermutation-refl, IsPermutation-sym,
 use Rattle.can_frame.specs.Frame.{FrameFields}
 use Rattle.can_bus.specs.declared.waiting.Waiting.{Waiting}
 use Rattle.can_bus.specs.Order.{goes_before}
-use Rattle.can_bus.specs.Waiting.{RequestName, name_cmp, Requests, name_of, entry_of, request_at, Waits, requests_of, members, winner}
+use Rattle.can_bus.specs.Waiting.{RequestName, name_cmp, Requests, request_name, entry_of, request_at, Waits, requests_of, members, winner}
 use Rattle.can_bus.proofs.Precedence.{goes_before-decides, one_goes_first}
 use Rattle.can_bus.proofs.Requests.{name_cmp_total, name_cmp-IsAntisymmetric, both_true, equal_from, Contains-cons, Contains-map, not_Contains-nil, member_found, map-back, members-requests_of, length-map}
 use Rattle.can_bus.proofs.Winner.{winner-from}
@@ -23,18 +23,18 @@ use Rattle.bus_heap.specs.Inside.HeapBus.{AreNamesDistinct}
 
 -- whether the request has the name
 abbrev pub is_named : RequestName → Waiting → Bool
-is_named name r = eq_by_cmp name_cmp name (name_of r)
+is_named name r = eq_by_cmp name_cmp name (request_name r)
 
 -- how many have it, request by request
 count-cons : (name : RequestName) (r : Waiting) (rs : List Waiting) → count_by (is_named name) (r ∷ rs) ≡ cond (is_named name r) 1 0 + count_by (is_named name) rs
 count-cons name r rs = sum_by-cons (λ s. cond (is_named name s) 1 0) r rs
 
-own_name : (r : Waiting) → is_named (name_of r) r ≡ true
-own_name r = ap is_eq (tied_itself name_cmp_total (name_of r))
+own_name : (r : Waiting) → is_named (request_name r) r ≡ true
+own_name r = ap is_eq (tied_itself name_cmp_total (request_name r))
 
 -- a test that passes is of this name
-pub named : (name : RequestName) (r : Waiting) → is_named name r ≡ true → name ≡ name_of r
-named name r h = name_cmp-IsAntisymmetric name (name_of r) (equal_from (name_cmp name (name_of r)) h)
+pub named : (name : RequestName) (r : Waiting) → is_named name r ≡ true → name ≡ request_name r
+named name r h = name_cmp-IsAntisymmetric name (request_name r) (equal_from (name_cmp name (request_name r)) h)
 
 -- ---- lists in another order
 -- the names stay distinct
@@ -56,11 +56,11 @@ none_named name (r ∷ rs) h =
     ∙ omega (arith, rest)
 
 -- with a request of another name, the names stay distinct
-pub distinct-cons : (r : Waiting) (rs : List Waiting) → All (λ s. is_named (name_of r) s ≡ false) rs → AreNamesDistinct rs → AreNamesDistinct (r ∷ rs)
+pub distinct-cons : (r : Waiting) (rs : List Waiting) → All (λ s. is_named (request_name r) s ≡ false) rs → AreNamesDistinct rs → AreNamesDistinct (r ∷ rs)
 distinct-cons r rs other h name =
     elim (is_named name r) as (λ b. is_named name r ≡ b → count_by (is_named name) (r ∷ rs) ≤ 1) [
       | true ↦ λ e.
-          let none : count_by (is_named name) rs ≡ 0 = ap (λ n. count_by (is_named n) rs) (named name r e) ∙ none_named (name_of r) rs other in
+          let none : count_by (is_named name) rs ≡ 0 = ap (λ n. count_by (is_named n) rs) (named name r e) ∙ none_named (request_name r) rs other in
           let at : count_by (is_named name) (r ∷ rs) ≡ 1 + count_by (is_named name) rs = count-cons name r rs ∙ ap (λ b. cond b 1 0 + count_by (is_named name) rs) e in
           omega arith
       | false ↦ λ e.
@@ -82,30 +82,30 @@ counted name r (s ∷ rs) e in' =
     ]
 
 -- where the names are distinct, a request is found under its name
-found : (rs : List Waiting) (r : Waiting) → AreNamesDistinct rs → Contains rs r → find name_cmp (name_of r) (map entry_of rs) ≡ Some r.frame
+found : (rs : List Waiting) (r : Waiting) → AreNamesDistinct rs → Contains rs r → find name_cmp (request_name r) (map entry_of rs) ≡ Some r.frame
 found [] r h in' = absurd (not_Contains-nil r in')
 found (s ∷ rs) r h in' =
     elim (Contains-cons s r rs in') [
       | inl same ↦
-          subst (λ (t : Waiting). find name_cmp (name_of t) (map entry_of (s ∷ rs)) ≡ Some t.frame) same
-          (ap (λ b. cond b (Some s.frame) (find name_cmp (name_of s) (map entry_of rs))) (own_name s))
+          subst (λ (t : Waiting). find name_cmp (request_name t) (map entry_of (s ∷ rs)) ≡ Some t.frame) same
+          (ap (λ b. cond b (Some s.frame) (find name_cmp (request_name s) (map entry_of rs))) (own_name s))
       | inr later ↦
-          let apart : is_named (name_of r) s ≡ false =
-          elim (is_named (name_of r) s) as (λ b. is_named (name_of r) s ≡ b → b ≡ false) [
+          let apart : is_named (request_name r) s ≡ false =
+          elim (is_named (request_name r) s) as (λ b. is_named (request_name r) s ≡ b → b ≡ false) [
             | true ↦ λ e.
-                let le = h (name_of r) in
-                let more = counted (name_of r) r rs (own_name r) later in
-                let at : count_by (is_named (name_of r)) (s ∷ rs) ≡ 1 + count_by (is_named (name_of r)) rs =
-                count-cons (name_of r) s rs ∙ ap (λ b. cond b 1 0 + count_by (is_named (name_of r)) rs) e in
+                let le = h (request_name r) in
+                let more = counted (request_name r) r rs (own_name r) later in
+                let at : count_by (is_named (request_name r)) (s ∷ rs) ≡ 1 + count_by (is_named (request_name r)) rs =
+                count-cons (request_name r) s rs ∙ ap (λ b. cond b 1 0 + count_by (is_named (request_name r)) rs) e in
                 absurd (omega arith)
             | false ↦ λ _. refl
           ] refl in
-          ap (λ b. cond b (Some s.frame) (find name_cmp (name_of r) (map entry_of rs))) apart ∙ found rs r (distinct-tail s rs h) later
+          ap (λ b. cond b (Some s.frame) (find name_cmp (request_name r) (map entry_of rs))) apart ∙ found rs r (distinct-tail s rs h) later
     ]
 
 -- a request that was put in waits
 pub Waits-list : (rs : List Waiting) (r : Waiting) → AreNamesDistinct rs → Contains rs r → Waits (requests_of rs) r
-Waits-list rs r h in' = get-from_entries name_cmp_total (map entry_of rs) (name_of r) ∙ found rs r h in'
+Waits-list rs r h in' = get-from_entries name_cmp_total (map entry_of rs) (request_name r) ∙ found rs r h in'
 
 contained : (rs : List Waiting) (q : RequestName) (f : FrameFields) → find name_cmp q (map entry_of rs) ≡ Some f → Contains rs (request_at (q, f))
 contained rs q f e =
@@ -113,7 +113,7 @@ contained rs q f e =
 
 -- one that waits was put in
 pub Contains-waits : (rs : List Waiting) (r : Waiting) → Waits (requests_of rs) r → Contains rs r
-Contains-waits rs r h = contained rs (name_of r) r.frame (sym (get-from_entries name_cmp_total (map entry_of rs) (name_of r)) ∙ h)
+Contains-waits rs r h = contained rs (request_name r) r.frame (sym (get-from_entries name_cmp_total (map entry_of rs) (request_name r)) ∙ h)
 
 -- ---- lists in another order have one set
 find-same : (xs ys : List Waiting) (q : RequestName) → IsPermutation xs ys → AreNamesDistinct xs → find name_cmp q (map entry_of ys) ≡ find name_cmp q (map entry_of xs)
@@ -137,7 +137,7 @@ requests_of-permutation xs ys moved h =
 
 -- ---- a request enters, and one leaves
 -- the list with a request is the set with it
-pub requests_of-more : (xs ys : List Waiting) (r : Waiting) → IsPermutation (r ∷ xs) ys → AreNamesDistinct (r ∷ xs) → requests_of ys ≡ finmap.insert (requests_of xs) (name_of r) r.frame
+pub requests_of-more : (xs ys : List Waiting) (r : Waiting) → IsPermutation (r ∷ xs) ys → AreNamesDistinct (r ∷ xs) → requests_of ys ≡ finmap.insert (requests_of xs) (request_name r) r.frame
 requests_of-more xs ys r moved h = requests_of-permutation (r ∷ xs) ys moved h
 
 none_found : (name : RequestName) (rs : List Waiting) → count_by (is_named name) rs ≡ 0 → find name_cmp name (map entry_of rs) ≡ None
@@ -158,9 +158,9 @@ left_out true x y z h = sym (h refl)
 left_out false x y z h = refl
 
 -- the list without the request is the set without it
-pub requests_of-less : (xs ys : List Waiting) (r : Waiting) → IsPermutation xs (r ∷ ys) → AreNamesDistinct xs → requests_of ys ≡ finmap.remove (requests_of xs) (name_of r)
+pub requests_of-less : (xs ys : List Waiting) (r : Waiting) → IsPermutation xs (r ∷ ys) → AreNamesDistinct xs → requests_of ys ≡ finmap.remove (requests_of xs) (request_name r)
 requests_of-less xs ys r moved h =
-    let k : RequestName = name_of r in
+    let k : RequestName = request_name r in
     let both : AreNamesDistinct (r ∷ ys) = distinct-permutation xs (r ∷ ys) moved h in
     let gone : count_by (is_named k) ys ≡ 0 =
     let le = both k in
@@ -180,10 +180,10 @@ requests_of-less xs ys r moved h =
 above_all : (name low : RequestName) (rs : List Waiting) → IsTrue (below_all name_cmp low (map entry_of rs)) → is_lt (name_cmp low name) ≡ false → count_by (is_named name) rs ≡ 0
 above_all name low [] h e = refl
 above_all name low (r ∷ rs) h e =
-    let parts = both_true (is_lt (name_cmp low (name_of r))) (below_all name_cmp low (map entry_of rs)) h in
+    let parts = both_true (is_lt (name_cmp low (request_name r))) (below_all name_cmp low (map entry_of rs)) h in
     let apart : is_named name r ≡ false =
     elim (is_named name r) as (λ b. is_named name r ≡ b → b ≡ false) [
-      | true ↦ λ t. let under : is_lt (name_cmp low (name_of r)) ≡ true = parts.0 in let same : is_lt (name_cmp low name) ≡ is_lt (name_cmp low (name_of r)) = ap (λ n. is_lt (name_cmp low n)) (named name r t) in absurd (cc)
+      | true ↦ λ t. let under : is_lt (name_cmp low (request_name r)) ≡ true = parts.0 in let same : is_lt (name_cmp low name) ≡ is_lt (name_cmp low (request_name r)) = ap (λ n. is_lt (name_cmp low n)) (named name r t) in absurd (cc)
       | false ↦ λ _. refl
     ] refl in
     let rest = above_all name low rs parts.1 e in
@@ -193,11 +193,11 @@ above_all name low (r ∷ rs) h e =
 pub distinct-sorted : (rs : List Waiting) → IsTrue (is_sorted name_cmp (map entry_of rs)) → AreNamesDistinct rs
 distinct-sorted [] h name = omega arith
 distinct-sorted (r ∷ rs) h name =
-    let parts = both_true (below_all name_cmp (name_of r) (map entry_of rs)) (is_sorted name_cmp (map entry_of rs)) h in
+    let parts = both_true (below_all name_cmp (request_name r) (map entry_of rs)) (is_sorted name_cmp (map entry_of rs)) h in
     elim (is_named name r) as (λ b. is_named name r ≡ b → count_by (is_named name) (r ∷ rs) ≤ 1) [
       | true ↦ λ e.
           let none : count_by (is_named name) rs ≡ 0 =
-          ap (λ n. count_by (is_named n) rs) (named name r e) ∙ above_all (name_of r) (name_of r) rs parts.0 (ap is_lt (tied_itself name_cmp_total (name_of r))) in
+          ap (λ n. count_by (is_named n) rs) (named name r e) ∙ above_all (request_name r) (request_name r) rs parts.0 (ap is_lt (tied_itself name_cmp_total (request_name r))) in
           let at : count_by (is_named name) (r ∷ rs) ≡ 1 + count_by (is_named name) rs = count-cons name r rs ∙ ap (λ b. cond b 1 0 + count_by (is_named name) rs) e in
           omega arith
       | false ↦ λ e.
@@ -206,10 +206,10 @@ distinct-sorted (r ∷ rs) h name =
           omega arith
     ] refl
 
-put-moves : (r : Waiting) (es : List (RequestName × FrameFields)) → find name_cmp (name_of r) es ≡ None → IsPermutation (r ∷ map request_at es) (map request_at (put name_cmp (name_of r) r.frame es))
+put-moves : (r : Waiting) (es : List (RequestName × FrameFields)) → find name_cmp (request_name r) es ≡ None → IsPermutation (r ∷ map request_at es) (map request_at (put name_cmp (request_name r) r.frame es))
 put-moves r [] none = IsPermutation-refl (r ∷ [])
 put-moves r (e ∷ es) none =
-    let k : RequestName = name_of r in
+    let k : RequestName = request_name r in
     let x : Waiting = request_at e in
     let xs : List Waiting = map request_at es in
     elim (name_cmp k e.0) as (λ o. cond (is_eq o) (Some e.1) (find name_cmp k es) ≡ None
@@ -227,7 +227,7 @@ pub members-permutation : (rs : List Waiting) → AreNamesDistinct rs → IsPerm
 members-permutation [] h = subst (IsPermutation []) (sym (members-requests_of [] refl)) (IsPermutation-refl [])
 members-permutation (r ∷ rs) h =
     let w : Requests = requests_of rs in
-    let k : RequestName = name_of r in
+    let k : RequestName = request_name r in
     let others : count_by (is_named k) rs ≡ 0 =
     let le = h k in
     let at : count_by (is_named k) (r ∷ rs) ≡ 1 + count_by (is_named k) rs = count-cons k r rs ∙ ap (λ b. cond b 1 0 + count_by (is_named k) rs) (own_name r) in
@@ -246,11 +246,11 @@ len-list rs h =
     len-entries w ∙ sym (length-map request_at (entries w)) ∙ length_permutation rs (members w) (members-permutation rs h)
 
 -- no two places have requests of one name
-pub distinct-places : (rs : List Waiting) (i j : ℕ) (d : Waiting) → AreNamesDistinct rs → i < j → j < length rs → ¬ (name_of (get_or rs j d) ≡ name_of (get_or rs i d))
+pub distinct-places : (rs : List Waiting) (i j : ℕ) (d : Waiting) → AreNamesDistinct rs → i < j → j < length rs → ¬ (request_name (get_or rs j d) ≡ request_name (get_or rs i d))
 distinct-places [] i j d h less low = absurd (omega arith)
 distinct-places (r ∷ rs) i zero d h less low = absurd (omega arith)
 distinct-places (r ∷ rs) zero (suc j) d h less low = λ e.
-    let k : RequestName = name_of r in
+    let k : RequestName = request_name r in
     let le = h k in
     let at : count_by (is_named k) (r ∷ rs) ≡ 1 + count_by (is_named k) rs = count-cons k r rs ∙ ap (λ b. cond b 1 0 + count_by (is_named k) rs) (own_name r) in
     let other : is_named k (get_or rs j d) ≡ true = ap (eq_by_cmp name_cmp k) e ∙ own_name r in

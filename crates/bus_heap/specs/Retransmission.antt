@@ -5,7 +5,7 @@ use Rattle.std.specs.Option.{option_map_or}
 use Rattle.std.specs.FinMap.{insert, retain_keys}
 use Rattle.can_bus.specs.declared.waiting.Waiting.{Waiting}
 use Rattle.can_bus.specs.Transmission.{time_on_wire}
-use Rattle.can_bus.specs.Waiting.{name_of}
+use Rattle.can_bus.specs.Waiting.{request_name}
 use Rattle.can_bus.specs.Bus.{BusState, winner_at, with_transmission}
 
 -- the bus after arbitration: a request that begins now takes the time of its frame and of so many bits more
@@ -16,7 +16,7 @@ after_longer_arbitration s now bits =
 
 -- the bus with an empty wire, on which the request waits again under its own number
 abbrev pub waiting_again : BusState → Waiting → BusState
-waiting_again s r = record s { waiting = insert s.waiting (name_of r) r.frame; wire = None }
+waiting_again s r = record s { waiting = insert s.waiting (request_name r) r.frame; wire = None }
 
 -- the bus on which the request that was on the wire waits again
 abbrev pub with_wire_waiting : BusState → BusState

@@ -14,7 +14,7 @@ use Rattle.can_bus.specs.declared.transmission.Transmission.{Transmission}
 use Rattle.can_bus.specs.declared.bus.Ended.{Ended}
 use Rattle.can_bus.specs.Waiting.{Requests, name_cmp, winner, IsWinner}
 use Rattle.can_bus.specs.Transmission.{time_on_wire}
-use Rattle.can_bus.specs.Bus.{BusState, BitTakesTime, next_moment, moment_of, next_number, last_number, after_request, with_ranks, with_request, transmission_with_rank, after_finish, winner_at, with_transmission, after_arbitration, one_channel}
+use Rattle.can_bus.specs.Bus.{BusState, BitTakesTime, next_moment, moment_by, next_number, last_number, after_request, with_ranks, with_request, transmission_with_rank, after_finish, winner_at, with_transmission, after_arbitration, one_channel}
 use Rattle.can_bus.specs.Laws.{Follows, DueLater, DueLaterFromNothing}
 use Rattle.can_bus.specs.Laws.Follows.{nothing, request, finish}
 use Rattle.can_bus.proofs.Winner.{winner_law}
@@ -109,17 +109,17 @@ pub later_with_transmission : (s : BusState) (now duration : ℕ) (r : Waiting) 
 later_with_transmission s now duration r takes = omega arith
 
 none_waits : (waiting : Requests) (free now : ℕ) (o : Option Waiting) → MatchOption o (waiting ≡ empty) (IsWinner waiting) → o ≡ None
-    → IfSome (moment_of None waiting free) (λ due. now < due)
+    → IfSome (moment_by None waiting free) (λ due. now < due)
 none_waits waiting free now None none e =
     subst (λ n. IfSome (cond (eqb n 0) None (Some free)) (λ due. now < due)) (sym (ap len none ∙ len-empty name_cmp FrameFields)) tt
 none_waits waiting free now (Some r) wins e = absurd (cc)
 
-free_later : (waiting : Requests) (free now : ℕ) → now < free → IfSome (moment_of None waiting free) (λ due. now < due)
+free_later : (waiting : Requests) (free now : ℕ) → now < free → IfSome (moment_by None waiting free) (λ due. now < due)
 free_later waiting free now h =
     elim (eqb (len waiting) 0) as (λ b. IfSome (cond b None (Some free)) (λ due. now < due)) [ true ↦ tt | false ↦ h ]
 
 later_by : (wire : Option Transmission) (waiting : Requests) (free now : ℕ) → EndsLater now wire
-    → cond (is_none wire && leb free now) (winner waiting) None ≡ None → IfSome (moment_of wire waiting free) (λ due. now < due)
+    → cond (is_none wire && leb free now) (winner waiting) None ≡ None → IfSome (moment_by wire waiting free) (λ due. now < due)
 later_by (Some t) waiting free now h none = h
 later_by None waiting free now h none =
     elim (leb_tells free now) [

@@ -9,7 +9,7 @@ use Rattle.can_frame.specs.Frame.{FrameFields}
 use Rattle.can_bus.specs.declared.waiting.Waiting.{Waiting}
 use Rattle.can_bus.specs.declared.transmission.Transmission.{Transmission}
 use Rattle.can_bus.specs.declared.bus.Ended.{Ended}
-use Rattle.can_bus.specs.Waiting.{RequestName, Requests, name_cmp, name_of, entry_of, requests_of, members, Waits}
+use Rattle.can_bus.specs.Waiting.{RequestName, Requests, name_cmp, request_name, entry_of, requests_of, members, Waits}
 use Rattle.can_bus.specs.Transmission.{time_on_wire}
 use Rattle.can_bus.specs.Bus.{BusState, Carries, next_number, last_number, rank, with_rank, transmission_with_rank, with_ranks, with_request, after_request, ended, ended_on, after_finish, is_free, winner_at, with_transmission, after_arbitration, new_bus, one_channel}
 use Rattle.can_bus.specs.Laws.{FramesCome}
@@ -54,7 +54,7 @@ module _ (s : BusState) (node : ℕ) where
       → (r : Waiting) × Contains rs r × (r.frame ≡ frame)
   of_list [] q frame e = absurd (cc)
   of_list (r ∷ rs) q frame e =
-      elim (eq_by_cmp name_cmp q (name_of (with_rank s node r))) as (λ b. cond b (Some (with_rank s node r).frame) (find name_cmp q (map entry_of (map (with_rank s node) rs))) ≡ Some frame
+      elim (eq_by_cmp name_cmp q (request_name (with_rank s node r))) as (λ b. cond b (Some (with_rank s node r).frame) (find name_cmp q (map entry_of (map (with_rank s node) rs))) ≡ Some frame
       → (r' : Waiting) × Contains (r ∷ rs) r' × (r'.frame ≡ frame)) [
         | true ↦ λ is. let same : (with_rank s node r).frame ≡ frame = cc in (r, Contains-first r rs, sym (frame-with_rank r) ∙ same)
         | false ↦ λ is. let rest = of_list rs q frame is in (rest.0, Contains-later r rest.0 rs rest.1, rest.2)
@@ -63,7 +63,7 @@ module _ (s : BusState) (node : ℕ) where
   waits-with_ranks : (frame : FrameFields) → HasFrame (requests_of (map (with_rank s node) (members s.waiting))) frame → HasFrame s.waiting frame
   waits-with_ranks frame h =
       let found = of_list (members s.waiting) h.0 frame (sym (get-from_entries name_cmp_total (map entry_of (map (with_rank s node) (members s.waiting))) h.0) ∙ h.1) in
-      (name_of found.0, Waits-members s.waiting found.0 found.1 ∙ ap Some found.2)
+      (request_name found.0, Waits-members s.waiting found.0 found.1 ∙ ap Some found.2)
 
   wire-with_ranks : (wire : Option Transmission) (frame : FrameFields) → IsOnWire (option_map (transmission_with_rank s node) wire) frame → IsOnWire wire frame
   wire-with_ranks None frame h = h
@@ -106,8 +106,8 @@ carries-after_finish s now frame =
 -- the request that begins waited before
 pub carries-with_transmission : (s : BusState) (now duration : ℕ) (r : Waiting) (frame : FrameFields) → Waits s.waiting r
     → Carries (with_transmission s now duration r) frame → Carries s frame
-carries-with_transmission s now duration r frame waits (inl h) = inl (HasFrame-remove s.waiting (name_of r) frame h)
-carries-with_transmission s now duration r frame waits (inr same) = inl (name_of r, waits ∙ ap Some same)
+carries-with_transmission s now duration r frame waits (inl h) = inl (HasFrame-remove s.waiting (request_name r) frame h)
+carries-with_transmission s now duration r frame waits (inr same) = inl (request_name r, waits ∙ ap Some same)
 
 -- what is on it after arbitration was on it before
 pub carries-after_arbitration : (s : BusState) (now : ℕ) (frame : FrameFields) → Carries (after_arbitration s now) frame → Carries s frame

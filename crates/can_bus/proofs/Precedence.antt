@@ -10,8 +10,8 @@ use Rattle.can_frame.specs.Arbitration.{Wins, arbitration_field, arbitration_key
 use Rattle.can_frame.specs.Frame.{FrameFields}
 use Rattle.can_frame.proofs.Fields.{KeysOrderFields-all}
 use Rattle.can_bus.specs.declared.waiting.Waiting.{Waiting}
-use Rattle.can_bus.specs.Waiting.{name_of}
-use Rattle.can_bus.specs.Order.{field_of, ComesFirst, GoesBefore, wins, comes_first, goes_before}
+use Rattle.can_bus.specs.Waiting.{request_name}
+use Rattle.can_bus.specs.Order.{arbitration_of, ComesFirst, GoesBefore, wins, comes_first, goes_before}
 
 -- the arbitration key of a request's frame
 abbrev pub key_of : Waiting → ℕ
@@ -52,7 +52,7 @@ by_numbers k l m n p q = grind (arith, nat_tests)
 pub goes_before-precedence : (a b : Waiting) → goes_before a b ≡ is_lt (precedence a b)
 unfolding goes_before
 goes_before-precedence a b =
-    ap (λ t. cond t true (cond (wins (field_of b) (field_of a)) false (comes_first a b))) (wins-key a.frame b.frame)
+    ap (λ t. cond t true (cond (wins (arbitration_of b) (arbitration_of a)) false (comes_first a b))) (wins-key a.frame b.frame)
     ∙ ap (λ t. cond (ltb (key_of a) (key_of b)) true (cond t false (comes_first a b))) (wins-key b.frame a.frame)
     ∙ by_numbers (key_of a) (key_of b) a.node b.node a.number b.number
 
@@ -61,7 +61,7 @@ comes_first-decides : (a b : Waiting) → Decides (comes_first a b) (ComesFirst 
 comes_first-decides a b =
     Decides-or _ _ (Decides-ltb a.node b.node) (Decides-and _ _ (Decides-eqb a.node b.node) (Decides-ltb a.number b.number))
 
-goes_before-is : (a b : Waiting) → goes_before a b ≡ cond (wins (field_of a) (field_of b)) true (cond (wins (field_of b) (field_of a)) false (comes_first a b))
+goes_before-is : (a b : Waiting) → goes_before a b ≡ cond (wins (arbitration_of a) (arbitration_of b)) true (cond (wins (arbitration_of b) (arbitration_of a)) false (comes_first a b))
 unfolding goes_before
 goes_before-is a b = refl
 
@@ -83,11 +83,11 @@ goes_before-decides a b =
     let l : ℕ = key_of b in
     let order = KeysOrderFields-all a.frame b.frame in
     let back = KeysOrderFields-all b.frame a.frame in
-    let at : wins (field_of a) (field_of b) ≡ ltb k l = wins-key a.frame b.frame in
-    let at_back : wins (field_of b) (field_of a) ≡ ltb l k = wins-key b.frame a.frame in
+    let at : wins (arbitration_of a) (arbitration_of b) ≡ ltb k l = wins-key a.frame b.frame in
+    let at_back : wins (arbitration_of b) (arbitration_of a) ≡ ltb l k = wins-key b.frame a.frame in
     subst (λ t. Decides t (GoesBefore a b)) (sym (goes_before-is a b))
-    (decided (wins (field_of a) (field_of b)) (wins (field_of b) (field_of a)) (comes_first a b)
-    (wins-decides (field_of a) (field_of b)) (wins-decides (field_of b) (field_of a)) (comes_first-decides a b)
+    (decided (wins (arbitration_of a) (arbitration_of b)) (wins (arbitration_of b) (arbitration_of a)) (comes_first a b)
+    (wins-decides (arbitration_of a) (arbitration_of b)) (wins-decides (arbitration_of b) (arbitration_of a)) (comes_first-decides a b)
     (λ p q. order.equal.0 (same_key k l (sym at ∙ p) (sym at_back ∙ q)))
     (λ e w. let less = order.lesser.1 w in let same = order.equal.1 e in absurd (omega (arith, less, same)))
     (λ e w. let less = back.lesser.1 w in let same = order.equal.1 e in absurd (omega (arith, less, same)))
@@ -112,7 +112,7 @@ goes_before-self a = goes_before-precedence a a ∙ ap is_lt (tied_itself preced
 same_by_numbers : (k l m n p q : ℕ) → ordering_then (nat_cmp k l) (ordering_then (nat_cmp m n) (nat_cmp p q)) ≡ Equal → (m ≡ n) × (p ≡ q)
 same_by_numbers k l m n p q e = grind (arith, nat_tests)
 
-by_order : (a b : Waiting) (o : Ordering) → precedence a b ≡ o → is_lt o ≡ false → (name_of a ≡ name_of b) ⊎ (goes_before b a ≡ true)
+by_order : (a b : Waiting) (o : Ordering) → precedence a b ≡ o → is_lt o ≡ false → (request_name a ≡ request_name b) ⊎ (goes_before b a ≡ true)
 by_order a b Less is e = absurd (cc)
 by_order a b Equal is e =
     let same = same_by_numbers (key_of a) (key_of b) a.node b.node a.number b.number is in inl (λ i. (same.0 i, same.1 i))
@@ -120,7 +120,7 @@ by_order a b Greater is e =
     inr (goes_before-precedence b a ∙ ap is_lt (precedence_total.antisymm b a ∙ ap ordering_reverse is))
 
 -- of two requests one goes before the other, or they have one name
-pub one_goes_first : (a b : Waiting) → goes_before a b ≡ false → (name_of a ≡ name_of b) ⊎ (goes_before b a ≡ true)
+pub one_goes_first : (a b : Waiting) → goes_before a b ≡ false → (request_name a ≡ request_name b) ⊎ (goes_before b a ≡ true)
 one_goes_first a b h = by_order a b (precedence a b) refl (sym (goes_before-precedence a b) ∙ h)
 
 -- the test by the numbers that the code compares

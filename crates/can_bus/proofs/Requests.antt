@@ -12,7 +12,7 @@ use Rattle.std.specs.FinMap.Entries.{below_all, same_entries, where_key, is_sort
 use Rattle.std.proofs.lemmas.Bool.Decides.{nat_tests}
 use Rattle.can_frame.specs.Frame.{FrameFields}
 use Rattle.can_bus.specs.declared.waiting.Waiting.{Waiting}
-use Rattle.can_bus.specs.Waiting.{RequestName, name_cmp, Requests, name_of, Waits, entry_of, request_at, requests_of, members}
+use Rattle.can_bus.specs.Waiting.{RequestName, name_cmp, Requests, request_name, Waits, entry_of, request_at, requests_of, members}
 
 -- ---- the order of names
 -- it is a total order
@@ -143,12 +143,12 @@ Contains-map f x (y ∷ xs) h =
 
 -- a request that waits is a member
 pub Contains-members : (w : Requests) (r : Waiting) → Waits w r → Contains (members w) r
-Contains-members w r h = Contains-map request_at (entry_of r) (entries w) (member_found (name_of r) r.frame (entries w) (sym (get-entries w (name_of r)) ∙ h))
+Contains-members w r h = Contains-map request_at (entry_of r) (entries w) (member_found (request_name r) r.frame (entries w) (sym (get-entries w (request_name r)) ∙ h))
 
 -- and a member waits
 pub Waits-members : (w : Requests) (r : Waiting) → Contains (members w) r → Waits w r
 Waits-members w r h =
-    get-entries w (name_of r)
+    get-entries w (request_name r)
     ∙ find-member (entries w) (entry_of r) (from_T _ (entries_sorted w))
     (subst (λ (es : List (RequestName × FrameFields)). Contains es (entry_of r)) (map-forth (entries w)) (Contains-map entry_of r (members w) h))
 

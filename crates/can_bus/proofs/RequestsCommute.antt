@@ -10,7 +10,7 @@ use Rattle.std.proofs.lemmas.Bool.Decides.{nat_tests, eqb_tells}
 use Rattle.can_frame.specs.Frame.{FrameFields}
 use Rattle.can_bus.specs.declared.waiting.Waiting.{Waiting}
 use Rattle.can_bus.specs.declared.transmission.Transmission.{Transmission}
-use Rattle.can_bus.specs.Waiting.{RequestName, name_cmp, name_of, entry_of, request_at, members}
+use Rattle.can_bus.specs.Waiting.{RequestName, name_cmp, request_name, entry_of, request_at, members}
 use Rattle.can_bus.specs.Bus.{BusState, next_number, last_number, rank, with_rank, transmission_with_rank, with_ranks, after_request, one_channel}
 use Rattle.can_bus.specs.Laws.{RequestsCommute}
 use Rattle.can_bus.proofs.Requests.{name_cmp_total, name_cmp-IsAntisymmetric, ties, entries-retain_keys}
@@ -49,13 +49,13 @@ module _ (s : BusState) (m : ℕ) where
       let rest = find-with_rank_other q es e in
       elim (eqb_tells d.0.0 m) [
         | inl own ↦
-            let left : eq_by_cmp name_cmp q (name_of (with_rank s m (request_at d))) ≡ false = other_name q (name_of (with_rank s m (request_at d))) (λ same. e (same ∙ with_rank_node (request_at d) ∙ own.1)) in
+            let left : eq_by_cmp name_cmp q (request_name (with_rank s m (request_at d))) ≡ false = other_name q (request_name (with_rank s m (request_at d))) (λ same. e (same ∙ with_rank_node (request_at d) ∙ own.1)) in
             let right : eq_by_cmp name_cmp q d.0 ≡ false = other_name q d.0 (λ same. e (same ∙ own.1)) in
             ap (λ b. cond b (Some (with_rank s m (request_at d)).frame) (find name_cmp q (map entry_of (map (with_rank s m) (map request_at es))))) left
             ∙ rest
             ∙ sym (ap (λ b. cond b (Some d.1) (find name_cmp q es)) right)
         | inr other ↦
-            ap (λ (r : Waiting). cond (eq_by_cmp name_cmp q (name_of r)) (Some r.frame) (find name_cmp q (map entry_of (map (with_rank s m) (map request_at es))))) (with_rank_other (request_at d) other.1)
+            ap (λ (r : Waiting). cond (eq_by_cmp name_cmp q (request_name r)) (Some r.frame) (find name_cmp q (map entry_of (map (with_rank s m) (map request_at es))))) (with_rank_other (request_at d) other.1)
             ∙ ap (cond (eq_by_cmp name_cmp q d.0) (Some d.1)) rest
       ]
 

@@ -8,7 +8,7 @@ use Rattle.std.proofs.lemmas.List.Elements.{All-contains, All-nil, All-cons, All
 use Rattle.std.proofs.lemmas.List.Sums.{AllPass-from_list_all, list_all-from_AllPass}
 use Rattle.can_bus.specs.declared.waiting.Waiting.{Waiting}
 use Rattle.can_bus.specs.Order.{goes_before}
-use Rattle.can_bus.specs.Waiting.{Requests, name_cmp, name_of, entry_of, Waits, IsWinner, members, winner}
+use Rattle.can_bus.specs.Waiting.{Requests, name_cmp, request_name, entry_of, Waits, IsWinner, members, winner}
 use Rattle.can_bus.proofs.Precedence.{goes_before-decides, goes_before-trans, goes_before-self, one_goes_first}
 use Rattle.can_bus.proofs.Requests.{Contains-first, Contains-later, Contains-cons, not_Contains-nil, Contains-members, Waits-members, map-forth}
 
@@ -109,9 +109,9 @@ waits_winner true w r e = let wins : IsWinner w r = subst (λ o. MatchOption o (
 waits_winner false w r e = absurd (cc)
 
 -- two members with one name are one
-pub same_request : (w : Requests) (r s : Waiting) → Waits w r → Waits w s → name_of s ≡ name_of r → r ≡ s
+pub same_request : (w : Requests) (r s : Waiting) → Waits w r → Waits w s → request_name s ≡ request_name r → r ≡ s
 same_request w r s h g name =
-    let frame : r.frame ≡ s.frame = let e : get w (name_of s) ≡ Some r.frame = ap (get w) name ∙ h in cc in
+    let frame : r.frame ≡ s.frame = let e : get w (request_name s) ≡ Some r.frame = ap (get w) name ∙ h in cc in
     λ i. record { node = (sym name i).0; number = (sym name i).1; frame = frame i }
 
 -- no two requests win
@@ -132,7 +132,7 @@ same_winner w r s h g =
 pub winner-from : (w : Requests) (r : Waiting) → IsWinner w r → winner w ≡ Some r
 winner-from w r h =
     elim (winner w) as (λ o. MatchOption o (w ≡ empty) (IsWinner w) → o ≡ Some r) [
-      | None ↦ λ e. let none = get-empty {X = FrameFields} name_cmp (name_of r) in let waits = h.waits in let same = ap (λ m. get m (name_of r)) e in absurd (cc)
+      | None ↦ λ e. let none = get-empty {X = FrameFields} name_cmp (request_name r) in let waits = h.waits in let same = ap (λ m. get m (request_name r)) e in absurd (cc)
       | Some s ↦ λ g. ap Some (same_winner w s r g h)
     ] (winner_law w)
 
@@ -141,7 +141,7 @@ pub winner-nil : (w : Requests) → len w ≡ 0 → winner w ≡ None
 winner-nil w none =
     elim (winner w) as (λ o. MatchOption o (w ≡ empty) (IsWinner w) → o ≡ None) [
       | None ↦ λ _. refl
-      | Some r ↦ λ h. let waits = h.waits in let e = empty_of_len w none in let gone = get-empty {X = FrameFields} name_cmp (name_of r) in let at = ap (λ m. get m (name_of r)) e in absurd (cc)
+      | Some r ↦ λ h. let waits = h.waits in let e = empty_of_len w none in let gone = get-empty {X = FrameFields} name_cmp (request_name r) in let at = ap (λ m. get m (request_name r)) e in absurd (cc)
     ] (winner_law w)
 
 -- ---- the place of the first request so far

@@ -10,7 +10,7 @@ use Rattle.can_bus.specs.declared.transmission.Transmission.{Transmission}
 use Rattle.can_bus.specs.declared.bus.Ended.{Ended}
 use Rattle.can_bus.specs.Meaning.{BusMeaning}
 use Rattle.can_bus.specs.Transmission.{time_on_wire, intermission}
-use Rattle.can_bus.specs.Waiting.{RequestName, Requests, name_of, requests_of, members, winner}
+use Rattle.can_bus.specs.Waiting.{RequestName, Requests, request_name, requests_of, members, winner}
 
 -- the waiting requests, the one on the wire, the moment from which the bus is free, the number of
 -- each node's next request (0 where there is none), and the microseconds that a bit takes
@@ -113,7 +113,7 @@ abbrev pub with_transmission : BusState → ℕ → ℕ → Waiting → BusState
 with_transmission s now duration r =
     let end = now + duration in
     record s {
-      waiting = remove s.waiting (name_of r);
+      waiting = remove s.waiting (request_name r);
       wire = Some (record { request = r; end = end });
       free = end + intermission s.bit;
     }
@@ -124,13 +124,13 @@ after_arbitration s now =
     option_map_or (λ r. with_transmission s now (time_on_wire r.frame s.bit) r) (winner_at s now) s
 
 -- the moment by what is on the wire, what waits and when the bus is free
-abbrev pub moment_of : Option Transmission → Requests → ℕ → Option ℕ
-moment_of (Some t) waiting free = Some t.end
-moment_of None waiting free = if len waiting == 0 then None else Some free
+abbrev pub moment_by : Option Transmission → Requests → ℕ → Option ℕ
+moment_by (Some t) waiting free = Some t.end
+moment_by None waiting free = if len waiting == 0 then None else Some free
 
 -- the end of the frame on the wire, else where a request waits the moment from which the bus is free
 abbrev pub next_moment : BusState → Option ℕ
-next_moment s = moment_of s.wire s.waiting s.free
+next_moment s = moment_by s.wire s.waiting s.free
 
 -- the bus of one channel without errors, whose nodes have numbers of 32 bits
 abbrev pub one_channel : BusMeaning BusState

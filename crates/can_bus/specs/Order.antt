@@ -4,8 +4,8 @@ use Rattle.can_frame.specs.Arbitration.{Wins, arbitration_field}
 use Rattle.can_bus.specs.declared.waiting.Waiting.{Waiting}
 
 -- the arbitration field of the request's frame
-abbrev pub field_of : Waiting → List Bool
-field_of r = arbitration_field r.frame
+abbrev pub arbitration_of : Waiting → List Bool
+arbitration_of r = arbitration_field r.frame
 
 -- of one node the earlier request comes first, and of two nodes the lesser
 abbrev pub ComesFirst : Waiting → Waiting → Type 0
@@ -13,7 +13,8 @@ ComesFirst a b = (a.node < b.node) ⊎ ((a.node ≡ b.node) × (a.number < b.num
 
 -- a's field wins the bus, or the fields are equal and a comes first
 abbrev pub GoesBefore : Waiting → Waiting → Type 0
-GoesBefore a b = Wins (field_of a) (field_of b) ⊎ ((field_of a ≡ field_of b) × ComesFirst a b)
+GoesBefore a b =
+    Wins (arbitration_of a) (arbitration_of b) ⊎ ((arbitration_of a ≡ arbitration_of b) × ComesFirst a b)
 
 -- the same as tests: whether the first field wins
 abbrev pub wins : List Bool → List Bool → Bool
@@ -31,5 +32,5 @@ comes_first a b = nat_lt a.node b.node || ((a.node == b.node) && nat_lt a.number
 -- whether a goes before b
 unfoldable pub goes_before : Waiting → Waiting → Bool
 goes_before a b =
-    if wins (field_of a) (field_of b) then true
-    else (if wins (field_of b) (field_of a) then false else comes_first a b)
+    if wins (arbitration_of a) (arbitration_of b) then true
+    else (if wins (arbitration_of b) (arbitration_of a) then false else comes_first a b)

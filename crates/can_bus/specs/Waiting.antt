@@ -21,21 +21,22 @@ abbrev pub Requests : Type 0
 Requests = FinMap name_cmp FrameFields
 
 -- the name of a request
-abbrev pub name_of : Waiting → RequestName
-name_of r = (r.node, r.number)
+abbrev pub request_name : Waiting → RequestName
+request_name r = (r.node, r.number)
 
 -- the request is a member
 abbrev pub Waits : Requests → Waiting → Type 0
-Waits requests r = get requests (name_of r) ≡ Some r.frame
+Waits requests r = get requests (request_name r) ≡ Some r.frame
 
 -- the request is a member and goes before each other one
 pub record IsWinner (requests : Requests) (r : Waiting) : Type 0 where
   pub waits : Waits requests r
-  pub before : (other : Waiting) → Waits requests other → (name_of other ≡ name_of r) ⊎ GoesBefore r other
+  pub before : (other : Waiting) → Waits requests other →
+      (request_name other ≡ request_name r) ⊎ GoesBefore r other
 
 -- a request as an entry of the set
 abbrev pub entry_of : Waiting → RequestName × FrameFields
-entry_of r = (name_of r, r.frame)
+entry_of r = (request_name r, r.frame)
 
 -- the request that an entry stands for
 abbrev pub request_at : RequestName × FrameFields → Waiting

@@ -4,7 +4,7 @@ use Rattle.texts.specs.declared.blame.Blame.{Blame}
 use Rattle.capl_lexer.specs.declared.token.Tok.{Tok}
 use Rattle.capl_lexer.specs.declared.token.Tok.TheVariants as tok
 use Rattle.capl_lexer.specs.declared.token.Token.{Token}
-use Rattle.capl_include.specs.Blame.{source_rule, place_blame}
+use Rattle.capl_include.specs.Blame.{place_blame}
 use Rattle.capl_include.specs.Name.{included_name, is_included_name}
 use Rattle.capl_include.specs.Expansion.{Include, Refused, Passed, Visited, includes_of, include_then, has_met}
 use Rattle.capl_include.specs.Inside.Visit.{HasStep, StepAgrees}
@@ -12,6 +12,7 @@ use Rattle.capl_include.specs.Inside.Refusal.{IsBlamedOrNoMemory}
 use Rattle.capl_include.specs.declared.refusal.ExpandRefusal.{ExpandRefusal}
 use Rattle.capl_include.specs.declared.refusal.ExpandRefusal.TheVariants.{Blamed, Failed, NoMemory}
 use Rattle.std.proofs.Common.{Err}
+use Rattle.texts.specs.Rule.{source_rule}
 
 -- the include of a token
 abbrev pub include_at : Token → List ℕ → Include

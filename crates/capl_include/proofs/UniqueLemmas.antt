@@ -1,11 +1,12 @@
 -- An expansion comes to one outcome.
 use Rattle.std.proofs.Common.{◌≡◌, ◌+◌, ℕ, zero, suc, Bool, true, false, List, [], ◌∷◌, length, Option, Some, None, inl, inr, sym, ap, subst, ◌∙◌, nat_lt, nat_le}
 use Rattle.texts.specs.declared.blame.Blame.{Blame}
+use Rattle.texts.specs.Rule.{source_rule}
 use Rattle.capl_lexer.specs.Reading.{line_at, column_at, token_limit}
 use Rattle.capl_lexer.specs.declared.token.Token.{Token}
 use Rattle.capl_lexer.proofs.ReadingLemmas.{reading-unique, bad_place-reading, bad_place-unique}
-use Rattle.capl_include.specs.Blame.{source_rule, too_long_rule, file_blame, place_blame}
-use Rattle.capl_include.specs.Expansion.{Contents, Expansion, Outcome, Include, Step, Went, Stopped, Refused, Passed, Visited, Visits, GoesOn, IsIncluded, AreIncluded, StopsIf, VisitsTokens, VisitsText, VisitsHeld, IsVisit, includes_of, step_of, meeting, appending, file_limit, byte_limit}
+use Rattle.capl_include.specs.Blame.{too_long_rule, file_blame, place_blame}
+use Rattle.capl_include.specs.Expansion.{Contents, Expansion, Outcome, Include, Inclusion, Went, Stopped, Refused, Passed, Visited, Visits, GoesOn, IsIncluded, AreIncluded, StopsIf, VisitsTokens, VisitsText, VisitsHeld, IsVisit, includes_of, step_of, meeting, appending, file_limit, byte_limit}
 
 -- the visit of a file comes to one outcome
 abbrev pub AreOnce : Visits → Type 0
@@ -22,7 +23,7 @@ goes-unique : (after : Outcome) (one other : Outcome) (First Second : Expansion 
 goes-unique (Went next) one other First Second rest first second = rest next first second
 goes-unique (Stopped blame) one other First Second rest first second = first ∙ sym second
 
-step-unique : (IsVisited : Visits) → AreOnce IsVisited → (step : Step) (at : Expansion) (one other : Outcome) (First Second : Expansion → Type 0)
+step-unique : (IsVisited : Visits) → AreOnce IsVisited → (step : Inclusion) (at : Expansion) (one other : Outcome) (First Second : Expansion → Type 0)
     → ((next : Expansion) → First next → Second next → one ≡ other)
     → IsIncluded IsVisited step at one First → IsIncluded IsVisited step at other Second → one ≡ other
 step-unique IsVisited once (Refused blame) at one other First Second rest first second = first ∙ sym second

@@ -4,12 +4,13 @@ use Rattle.std.specs.Prelude.{◌⊎◌, IfSome, IfErr, IsErrAnd}
 use Rattle.std.proofs.lemmas.Bool.Decides.{nat_tests}
 use Rattle.std.proofs.lemmas.List.{drop_more, drop_all}
 use Rattle.texts.specs.declared.blame.Blame.{Blame}
+use Rattle.texts.specs.Rule.{source_rule}
 use Rattle.capl_lexer.specs.Reading.{line_at, token_limit}
 use Rattle.capl_lexer.specs.declared.token.Tok.{Tok}
 use Rattle.capl_lexer.specs.declared.token.Tok.TheVariants as tok
 use Rattle.capl_lexer.specs.declared.token.Token.{Token}
-use Rattle.capl_include.specs.Blame.{source_rule, too_long_rule, file_blame, place_blame}
-use Rattle.capl_include.specs.Expansion.{Contents, Expansion, Outcome, Step, Went, Stopped, Refused, Passed, Visited, Visits, IsIncluded, AreIncluded, StopsIf, VisitsText, VisitsHeld, IsVisit, includes_of, include_then, meeting, appending, file_limit, byte_limit}
+use Rattle.capl_include.specs.Blame.{too_long_rule, file_blame, place_blame}
+use Rattle.capl_include.specs.Expansion.{Contents, Expansion, Outcome, Inclusion, Went, Stopped, Refused, Passed, Visited, Visits, IsIncluded, AreIncluded, StopsIf, VisitsText, VisitsHeld, IsVisit, includes_of, include_then, meeting, appending, file_limit, byte_limit}
 use Rattle.capl_include.specs.Inside.Visit.{IsRead, IsReadBlame, ReadAgrees, HasStep, StepAgrees, IsVisitAt, IsVisitRefusal}
 use Rattle.capl_include.specs.Inside.Refusal.{IsBlamedOrNoMemory}
 use Rattle.capl_include.specs.declared.refusal.ExpandRefusal.{ExpandRefusal}
@@ -127,14 +128,14 @@ no_include IsVisited naming token tokens at outcome none included =
     subst (λ includes. AreIncluded IsVisited naming includes at outcome)
     (sym (includes-cons token tokens ∙ ap (λ first. first ++ includes_of tokens) none)) included
 
-with_include : (IsVisited : Visits) (naming : List ℕ) (token : Token) (tokens : List Token) (at : Expansion) (outcome : Outcome) (step : Step)
+with_include : (IsVisited : Visits) (naming : List ℕ) (token : Token) (tokens : List Token) (at : Expansion) (outcome : Outcome) (step : Inclusion)
     → HasStep naming token at.met step
     → IsIncluded IsVisited step at outcome (λ next. AreIncluded IsVisited naming (includes_of tokens) next outcome)
     → AreIncluded IsVisited naming (includes_of (token ∷ tokens)) at outcome
 with_include IsVisited naming token tokens at outcome step has included =
     subst (λ includes. AreIncluded IsVisited naming includes at outcome)
     (sym (includes-cons token tokens ∙ ap (λ first. first ++ includes_of tokens) has.only))
-    (subst (λ (s : Step). IsIncluded IsVisited s at outcome (λ next. AreIncluded IsVisited naming (includes_of tokens) next outcome)) (sym has.is) included)
+    (subst (λ (s : Inclusion). IsIncluded IsVisited s at outcome (λ next. AreIncluded IsVisited naming (includes_of tokens) next outcome)) (sym has.is) included)
 
 -- a token that names a file which was met, or none
 pub passed_over : (IsVisited : Visits) (naming : List ℕ) (token : Token) (tokens : List Token) (at : Expansion) (outcome : Outcome)

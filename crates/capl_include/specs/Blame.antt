@@ -3,10 +3,6 @@ use Rattle.std.specs.Prelude.{ℕ, List, Some, None}
 use Rattle.texts.specs.declared.blame.Blame.{Blame}
 use Rattle.texts.specs.declared.blame.Rule.{Rule}
 
--- a rule on sources
-abbrev pub source_rule : ℕ → Rule
-source_rule number = record { group = 69; number = number }
-
 -- a file has more bytes than a file may
 abbrev pub too_long_rule : Rule
 too_long_rule = record { group = 70; number = 2 }

@@ -4,11 +4,12 @@ use Rattle.std.specs.Prelude.{◌≡◌, ◌+◌, ◌^◌, ◌⊎◌, ℕ, zero,
 use Rattle.std.specs.List.{list_any}
 use Rattle.std.specs.Str.{bytes_eq}
 use Rattle.texts.specs.declared.blame.Blame.{Blame}
+use Rattle.texts.specs.Rule.{source_rule}
 use Rattle.capl_lexer.specs.Reading.{IsReading, IsBadPlace, line_at, column_at, token_limit}
 use Rattle.capl_lexer.specs.declared.token.Tok.{Tok}
 use Rattle.capl_lexer.specs.declared.token.Tok.TheVariants as tok
 use Rattle.capl_lexer.specs.declared.token.Token.{Token}
-use Rattle.capl_include.specs.Blame.{source_rule, too_long_rule, file_blame, place_blame}
+use Rattle.capl_include.specs.Blame.{too_long_rule, file_blame, place_blame}
 use Rattle.capl_include.specs.Name.{included_name, is_included_name}
 use Rattle.capl_include.specs.declared.expanded.SourceFile.{SourceFile}
 
@@ -62,13 +63,13 @@ abbrev pub has_met : List (List ℕ) → List ℕ → Bool
 has_met met name = list_any (λ other. bytes_eq other name) met
 
 -- what comes of an include: a blame, nothing, or the visit of a file
-pub data Step : Type 0 where
-  Refused : Blame → Step
-  Passed : Step
-  Visited : List ℕ → Step
+pub data Inclusion : Type 0 where
+  Refused : Blame → Inclusion
+  Passed : Inclusion
+  Visited : List ℕ → Inclusion
 
 -- a name that is none is refused, a file that was met is passed over, and another one is visited
-abbrev pub step_of : List ℕ → Include → List (List ℕ) → Step
+abbrev pub step_of : List ℕ → Include → List (List ℕ) → Inclusion
 step_of naming include met =
     let name = included_name naming include.own in
     if is_included_name include.own name then (if has_met met name then Passed else Visited name)
@@ -84,7 +85,7 @@ GoesOn (Went next) outcome Rest = Rest next
 GoesOn (Stopped blame) outcome Rest = outcome ≡ Stopped blame
 
 -- an include goes so, and this holds from there
-abbrev pub IsIncluded : Visits → Step → Expansion → Outcome → (Expansion → Type 0) → Type 0
+abbrev pub IsIncluded : Visits → Inclusion → Expansion → Outcome → (Expansion → Type 0) → Type 0
 IsIncluded IsVisited (Refused blame) at outcome Rest = outcome ≡ Stopped blame
 IsIncluded IsVisited Passed at outcome Rest = Rest at
 IsIncluded IsVisited (Visited name) at outcome Rest =

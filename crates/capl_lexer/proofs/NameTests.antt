@@ -11,7 +11,7 @@ use Rattle.std.proofs.lemmas.List.Folds.{list_any_none}
 use Rattle.std.proofs.lemmas.Slice.Eq.{bytes_eq-Decides}
 use Rattle.capl_lexer.specs.Bytes.{IsNameStart, IsNamePart}
 use Rattle.capl_lexer.specs.Spelling.{IsName, word_spelling}
-use Rattle.capl_lexer.specs.Name.{is_name_start, is_name_part, words, is_reserved, is_name}
+use Rattle.capl_lexer.specs.Name.{is_name_start, is_name_part, reserved_words, is_reserved, is_name}
 use Rattle.capl_lexer.specs.declared.token.Word.{Word}
 use Rattle.capl_lexer.specs.declared.token.Word.TheVariants as word
 
@@ -78,8 +78,8 @@ not_reserved bytes free some same =
 
 free_of_words : (bytes : List ℕ) → ((some : Word) → bytes ≢ word_spelling some) → is_reserved bytes ≡ false
 free_of_words bytes free =
-    list_any_none (λ (some : Word). bytes_eq bytes (word_spelling some)) words
-    (λ k d within. by (get_or words k d) (bytes_eq bytes (word_spelling (get_or words k d))) refl)
+    list_any_none (λ (some : Word). bytes_eq bytes (word_spelling some)) reserved_words
+    (λ k d within. by (get_or reserved_words k d) (bytes_eq bytes (word_spelling (get_or reserved_words k d))) refl)
   where
     by : (some : Word) (b : Bool) → bytes_eq bytes (word_spelling some) ≡ b → b ≡ false
     by some true is = absurd (free some ((bytes_eq-Decides bytes (word_spelling some)).0 is))

@@ -5,7 +5,7 @@ use Rattle.std.proofs.lemmas.Bool.{cases_lt}
 use Rattle.std.specs.List.{suffix_len}
 use Rattle.std.proofs.lemmas.List.Sums.{count_by-le-length}
 use Rattle.std.proofs.lemmas.List.{append_assoc, append-nil, drop-drop, drop_all, take_all, take-append-le, length-take-le}
-use Rattle.capl_lexer.specs.Reading.{Piece, Blank, Comment, Lexeme, IsFront, AreFront, start_of, line_at, column_at, tokens_at, IsReading, IsBadPlace}
+use Rattle.capl_lexer.specs.Reading.{Piece, Blank, Comment, Lexeme, IsFront, AreFront, first_place, line_at, column_at, tokens_at, IsReading, IsBadPlace}
 use Rattle.capl_lexer.specs.Inside.Step.{IsStep, HasNoPiece, token_of}
 use Rattle.capl_lexer.specs.Inside.Position.{IsPositionIn}
 use Rattle.capl_lexer.specs.declared.position.Position.{Position}
@@ -18,9 +18,9 @@ use Rattle.capl_lexer.proofs.SpellingLemmas.{spelling-front}
 -- pieces that give these tokens lead from the beginning to the place
 pub record HasRead (text : List ℕ) (place : ℕ) (tokens : List Token) : Type 0 where
   pub pieces : List Piece
-  pub fronts : AreFront pieces (drop (start_of text) text) (drop place text)
-  pub goes_on : (more : List Piece) → tokens_at text (start_of text) (pieces ++ more) ≡ tokens ++ tokens_at text place more
-  pub start : start_of text ≤ place
+  pub fronts : AreFront pieces (drop (first_place text) text) (drop place text)
+  pub goes_on : (more : List Piece) → tokens_at text (first_place text) (pieces ++ more) ≡ tokens ++ tokens_at text place more
+  pub start : first_place text ≤ place
 
 -- one more piece
 fronts_push : (pieces : List Piece) (piece : Piece) (text between rest : List ℕ)
@@ -30,7 +30,7 @@ fronts_push [] piece text between rest fronts front = (rest, subst (λ t. IsFron
 fronts_push (first ∷ pieces) piece text between rest (next, is, fronts) front = (next, is, fronts_push pieces piece next between rest fronts front)
 
 -- nothing is read at the beginning
-pub read_nothing : (text : List ℕ) → HasRead text (start_of text) []
+pub read_nothing : (text : List ℕ) → HasRead text (first_place text) []
 read_nothing text = record { pieces = []; fronts = refl; goes_on = λ more. refl; start = omega arith }
 
 -- how many bytes a piece has
@@ -86,10 +86,10 @@ read_piece text place tokens step read is =
     let ends : place + size_of piece ≡ place + step.length = ap (λ n. place + n) (step-size text place step is) in
     record {
       pieces = read.pieces ++ piece ∷ [];
-      fronts = fronts_push read.pieces piece (drop (start_of text) text) (drop place text) (drop (place + step.length) text) read.fronts
+      fronts = fronts_push read.pieces piece (drop (first_place text) text) (drop place text) (drop (place + step.length) text) read.fronts
           (subst (IsFront piece (drop place text)) (drop-drop step.length place text) is.front);
       goes_on = λ more.
-          ap (tokens_at text (start_of text)) (append_assoc read.pieces (piece ∷ []) more) ∙ read.goes_on (piece ∷ more)
+          ap (tokens_at text (first_place text)) (append_assoc read.pieces (piece ∷ []) more) ∙ read.goes_on (piece ∷ more)
           ∙ ap (λ t. tokens ++ t) (tokens_at-step text place piece more)
           ∙ ap (λ n. tokens ++ (own ++ tokens_at text n more)) ends
           ∙ sym (append_assoc tokens own (tokens_at text (place + step.length) more));
@@ -154,7 +154,7 @@ kept_many limit text place tokens has many =
     ]
 
 -- nothing is kept at the beginning
-pub keep_nothing : (limit : ℕ) (text : List ℕ) → HasKept limit text (start_of text) []
+pub keep_nothing : (limit : ℕ) (text : List ℕ) → HasKept limit text (first_place text) []
 keep_nothing limit text = record { all = []; read = read_nothing text; kept = sym (take_all (limit + 1) [] (omega arith)) }
 
 -- a blank or a comment is passed over
@@ -207,8 +207,8 @@ pub reading_from : (text : List ℕ) (place : ℕ) (tokens : List Token) → Has
     → length text ≤ place → IsReading text tokens
 reading_from text place tokens read end = (
   read.pieces,
-  subst (AreFront read.pieces (drop (start_of text) text)) (drop_all place text end) read.fronts,
-  sym (append-nil tokens) ∙ sym (read.goes_on []) ∙ ap (tokens_at text (start_of text)) (append-nil read.pieces),
+  subst (AreFront read.pieces (drop (first_place text) text)) (drop_all place text end) read.fronts,
+  sym (append-nil tokens) ∙ sym (read.goes_on []) ∙ ap (tokens_at text (first_place text)) (append-nil read.pieces),
 )
 
 -- a place that is reached and at which no piece begins is bad

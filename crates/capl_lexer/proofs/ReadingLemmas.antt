@@ -5,7 +5,7 @@ use Rattle.std.proofs.lemmas.Bool.Decides.{nat_tests}
 use Rattle.std.proofs.lemmas.List.{append_cancel_left}
 use Rattle.capl_lexer.specs.Bytes.{IsBlank}
 use Rattle.capl_lexer.specs.Spelling.{Spells}
-use Rattle.capl_lexer.specs.Reading.{Piece, Blank, Comment, Lexeme, IsFront, AreFront, OpensComment, IsLineComment, IsBlockComment, start_of, tokens_at, IsReading, IsBadPlace}
+use Rattle.capl_lexer.specs.Reading.{Piece, Blank, Comment, Lexeme, IsFront, AreFront, OpensComment, IsLineComment, IsBlockComment, first_place, tokens_at, IsReading, IsBadPlace}
 use Rattle.capl_lexer.specs.Inside.Step.{HasNoPiece}
 use Rattle.capl_lexer.specs.declared.token.Sign.{Sign}
 use Rattle.capl_lexer.specs.declared.token.Sign.TheVariants as sign
@@ -109,15 +109,15 @@ fronts-unique text (piece ∷ pieces) (other ∷ others) rest after (between, fr
 pub reading-unique : (text : List ℕ) (tokens others : List Token) → IsReading text tokens
     → IsReading text others → tokens ≡ others
 reading-unique text tokens others (pieces, fronts, is) (more, also, same) =
-    let one = fronts-unique (drop (start_of text) text) pieces more [] [] fronts also front-nil front-nil in
-    is ∙ ap (tokens_at text (start_of text)) one.0 ∙ sym same
+    let one = fronts-unique (drop (first_place text) text) pieces more [] [] fronts also front-nil front-nil in
+    is ∙ ap (tokens_at text (first_place text)) one.0 ∙ sym same
 
 -- a text with a bad place has no reading
 pub bad_place-reading : (text : List ℕ) (place : ℕ) (tokens : List Token) → IsBadPlace text place
     → IsReading text tokens → ⊥
 bad_place-reading text place tokens bad (pieces, fronts, is) =
     let (before, led) = bad.before in
-    let one = fronts-unique (drop (start_of text) text) before pieces (drop place text) [] led fronts bad.no_piece front-nil in
+    let one = fronts-unique (drop (first_place text) text) before pieces (drop place text) [] led fronts bad.no_piece front-nil in
     let within = bad.within.1 in
     omega (arith, ap length one.1, length-drop place text)
 
@@ -127,7 +127,7 @@ pub bad_place-unique : (text : List ℕ) (place other : ℕ) → IsBadPlace text
 bad_place-unique text place other bad also =
     let (before, led) = bad.before in
     let (pieces, fronts) = also.before in
-    let one = fronts-unique (drop (start_of text) text) before pieces (drop place text) (drop other text) led fronts bad.no_piece also.no_piece in
+    let one = fronts-unique (drop (first_place text) text) before pieces (drop place text) (drop other text) led fronts bad.no_piece also.no_piece in
     let within = bad.within.1 in
     let beyond = also.within.1 in
     omega (arith, ap length one.1, length-drop place text, length-drop other text)

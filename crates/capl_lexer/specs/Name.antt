@@ -16,8 +16,8 @@ abbrev pub is_name_part : ℕ → Bool
 is_name_part byte = is_name_start byte || is_digit byte
 
 -- the reserved words
-abbrev pub words : List Word
-words =
+abbrev pub reserved_words : List Word
+reserved_words =
     word.Includes ∷ word.Variables ∷ word.On ∷ word.This ∷ word.If ∷ word.Else ∷ word.While ∷
     word.Do ∷ word.For ∷ word.Switch ∷ word.Case ∷ word.Default ∷ word.Break ∷ word.Continue ∷
     word.Return ∷ word.Message ∷ word.Timer ∷ word.MsTimer ∷ word.Byte ∷ word.Word ∷ word.Dword ∷
@@ -28,7 +28,7 @@ words =
 
 -- whether the bytes spell a reserved word
 abbrev pub is_reserved : List ℕ → Bool
-is_reserved bytes = list_any (λ word. bytes_eq bytes (word_spelling word)) words
+is_reserved bytes = list_any (λ word. bytes_eq bytes (word_spelling word)) reserved_words
 
 -- whether the bytes are a letter or `_`, then letters, digits and `_`, and no reserved word
 abbrev pub is_name : List ℕ → Bool

@@ -73,8 +73,8 @@ abbrev pub byte_order_mark : List ℕ
 byte_order_mark = 0xEF ∷ 0xBB ∷ 0xBF ∷ []
 
 -- the place at which the first piece begins
-abbrev pub start_of : List ℕ → ℕ
-start_of text = if starts_with nat_eq text byte_order_mark then 3 else 0
+abbrev pub first_place : List ℕ → ℕ
+first_place text = if starts_with nat_eq text byte_order_mark then 3 else 0
 
 -- 1 and the line ends before the place
 abbrev pub line_at : List ℕ → ℕ → ℕ
@@ -101,13 +101,13 @@ tokens_at text place (Lexeme bytes tok ∷ pieces) =
 -- the tokens are those of a reading of the whole text
 abbrev pub IsReading : List ℕ → List Token → Type 0
 IsReading text tokens =
-    (pieces : List Piece) × AreFront pieces (drop (start_of text) text) []
-    × (tokens ≡ tokens_at text (start_of text) pieces)
+    (pieces : List Piece) × AreFront pieces (drop (first_place text) text) []
+    × (tokens ≡ tokens_at text (first_place text) pieces)
 
 -- pieces lead to the place, and none begins there
 pub record IsBadPlace (text : List ℕ) (place : ℕ) : Type 0 where
-  pub before : (pieces : List Piece) × AreFront pieces (drop (start_of text) text) (drop place text)
-  pub within : (start_of text ≤ place) × (place < length text)
+  pub before : (pieces : List Piece) × AreFront pieces (drop (first_place text) text) (drop place text)
+  pub within : (first_place text ≤ place) × (place < length text)
   pub no_piece : (piece : Piece) (rest : List ℕ) → IsFront piece (drop place text) rest → ⊥
 
 -- how many tokens a text may have

@@ -1,7 +1,7 @@
 // Places in a text, with their lines and columns.
 
 ghost use Rattle.std.specs.Prelude.{◌≡◌, ◌+◌, ◌<◌, ◌≤◌, length};
-ghost use Rattle.capl_lexer.specs.Reading.{start_of};
+ghost use Rattle.capl_lexer.specs.Reading.{first_place};
 ghost use Rattle.capl_lexer.specs.Inside.Position.{IsPositionIn};
 
 /// A place in a text, with its line and its column.
@@ -20,7 +20,7 @@ impl Position {
     /// are there.
     pub(crate) fn start(text: &[u8]) -> Position
         ensures at { IsPositionIn text.now result }
-        ensures place { result.place ≡ start_of text.now }
+        ensures place { result.place ≡ first_place text.now }
     {
         let first = Position {
             place: 0,

@@ -71,35 +71,35 @@ calls_in_labels labels = flat_map (λ label. calls_in_part label.value) labels
 
 abbrev mutual
   -- the names that are called in a statement
-  pub calls_of : Stmt → List (List ℕ)
-  calls_of stmt.Empty = []
-  calls_of (stmt.Block' shape body) = calls_of_row body
-  calls_of (stmt.Decl declaration) = flat_map calls_in_declarator declaration.items
-  calls_of (stmt.Expr e) = calls_in e
-  calls_of (stmt.If' shape arms other) = calls_of_arms arms ++ calls_of_else other
-  calls_of (tree.While test body) = calls_in test ++ calls_of body
-  calls_of (tree.Do body test) = calls_of body ++ calls_in test
-  calls_of (tree.For init test step body) =
-      calls_in_part init ++ (calls_in_part test ++ (calls_in_part step ++ calls_of body))
-  calls_of (stmt.Switch' on shape groups) = calls_in on ++ calls_of_groups groups
-  calls_of (stmt.Break at) = []
-  calls_of (stmt.Continue at) = []
-  calls_of (stmt.Return value at) = calls_in_part value
+  pub names_called : Stmt → List (List ℕ)
+  names_called stmt.Empty = []
+  names_called (stmt.Block' shape body) = calls_of_row body
+  names_called (stmt.Decl declaration) = flat_map calls_in_declarator declaration.items
+  names_called (stmt.Expr e) = calls_in e
+  names_called (stmt.If' shape arms other) = calls_of_arms arms ++ calls_of_else other
+  names_called (tree.While test body) = calls_in test ++ names_called body
+  names_called (tree.Do body test) = names_called body ++ calls_in test
+  names_called (tree.For init test step body) =
+      calls_in_part init ++ (calls_in_part test ++ (calls_in_part step ++ names_called body))
+  names_called (stmt.Switch' on shape groups) = calls_in on ++ calls_of_groups groups
+  names_called (stmt.Break at) = []
+  names_called (stmt.Continue at) = []
+  names_called (stmt.Return value at) = calls_in_part value
 
   -- in statements in a row
   pub calls_of_row : {m : _} → Row_of-Stmt m → List (List ℕ)
   calls_of_row end_of-Stmt = []
-  calls_of_row (more_of-Stmt first rest) = calls_of first ++ calls_of_row rest
+  calls_of_row (more_of-Stmt first rest) = names_called first ++ calls_of_row rest
 
   -- in the arms of an `if`
   pub calls_of_arms : {m : _} → Row_of-Arm m → List (List ℕ)
   calls_of_arms end_of-Arm = []
-  calls_of_arms (more_of-Arm test body rest) = calls_in test ++ (calls_of body ++ calls_of_arms rest)
+  calls_of_arms (more_of-Arm test body rest) = calls_in test ++ (names_called body ++ calls_of_arms rest)
 
   -- behind a last `else`
   pub calls_of_else : Held-Stmt-If-1 → List (List ℕ)
   calls_of_else tree.NoElse = []
-  calls_of_else (tree.Else body) = calls_of body
+  calls_of_else (tree.Else body) = names_called body
 
   -- in the groups of a `switch`
   pub calls_of_groups : {m : _} → Row_of-Group m → List (List ℕ)
@@ -118,7 +118,7 @@ function_numbered names number = find (λ f. f.number == number) names.functions
 
 -- the numbers of the functions that a function calls
 abbrev pub called_by : Names → Function → List ℕ
-called_by names f = filter_map (λ name. number_of_callee (callee names name)) (flat_map calls_of f.body)
+called_by names f = filter_map (λ name. number_of_callee (callee names name)) (flat_map names_called f.body)
 
 -- the same, of a function given by its number
 abbrev pub called_by_number : Names → ℕ → List ℕ

@@ -27,13 +27,13 @@ pub record Constant : Type 0 where
   pub value : ℤ
 
 -- a const integer is that of a variable
-abbrev pub is_of : Variable → Constant → Bool
-is_of v c = c.file == v.file && c.token == v.token
+abbrev pub is_constant_of : Variable → Constant → Bool
+is_constant_of v c = c.file == v.file && c.token == v.token
 
 -- the value of a name, by what it means: that of a known const integer, or of RX and TX
-abbrev pub value_of_name : List Constant → List ℕ → Option Variable → Option ℤ
-value_of_name known name None = option_map pos (direction name)
-value_of_name known name (Some v) = option_map (λ c. c.value) (find (is_of v) known)
+abbrev pub constant_of_name : List Constant → List ℕ → Option Variable → Option ℤ
+constant_of_name known name None = option_map pos (direction name)
+constant_of_name known name (Some v) = option_map (λ c. c.value) (find (is_constant_of v) known)
 
 -- `-`, `+`, `!` and `~` are operators of constants
 abbrev pub is_constant_prefix : UnOp → Bool
@@ -46,7 +46,7 @@ is_constant_prefix _ = true
 abbrev pub is_constant : List Constant → Scope → Expr → Bool
 is_constant known s (expr.Num value extended at) = not (is_bad (sort_of_number value extended))
 is_constant known s (expr.Char value at) = true
-is_constant known s (expr.Name name at) = is_some (value_of_name known name (means s name at))
+is_constant known s (expr.Name name at) = is_some (constant_of_name known name (means s name at))
 is_constant known s (tree.Paren inner at) = is_constant known s inner
 is_constant known s (tree.Cast kind inner at) = is_constant known s inner
 is_constant known s (tree.Unary operator inner at) =
@@ -89,7 +89,7 @@ operator_value operator k left right =
 abbrev pub constant_value : List Constant → Scope → Expr → Option ℤ
 constant_value known s (expr.Num value extended at) = option_map (λ n. number_value n extended) value
 constant_value known s (expr.Char value at) = Some (pos value)
-constant_value known s (expr.Name name at) = value_of_name known name (means s name at)
+constant_value known s (expr.Name name at) = constant_of_name known name (means s name at)
 constant_value known s (tree.Paren inner at) = constant_value known s inner
 constant_value known s (tree.Cast kind inner at) = option_map (wrap kind) (constant_value known s inner)
 constant_value known s (tree.Unary operator inner at) =

@@ -26,11 +26,11 @@ use Rattle.capl_meaning.specs.declared.builtin.Builtin.TheVariants as builtin
 use Rattle.capl_meaning.specs.declared.field.MessageField.{MessageField}
 use Rattle.capl_meaning.specs.Variable.{Form, Number, Array, Timer, Variable}
 use Rattle.capl_meaning.specs.Names.{Callee, Function, OfLanguage, OfProgram, Unknown, Scope, ThisForm, ThisKey, callee, direction, means}
-use Rattle.capl_meaning.specs.Message.{Held, HeldFrame, HeldVariable, Member, IsField, IsSignal, array_in, is_number_place, member_named, message_in, signals_of}
+use Rattle.capl_meaning.specs.Message.{Held, HeldFrame, HeldVariable, NamedMember, IsField, IsSignal, array_in, is_number_place, member_named, message_in, signals_of}
 use Rattle.capl_meaning.specs.Sort.{kind_in, sort_of}
 use Rattle.capl_meaning.specs.Operator.{prefix_value, truth_of}
 use Rattle.capl_meaning.specs.Constant.{branches_kind, elements_of, number_value, operands_kind, prefix_kind}
-use Rattle.capl_meaning.specs.Store.{MessageRecord, Store, This, key_of, read_bytes, read_field, read_signal, timer_number, with_bytes, with_element, with_field, with_message, with_number, with_signal}
+use Rattle.capl_meaning.specs.Store.{MessageRecord, Store, This, variable_key, read_bytes, read_field, read_signal, timer_number, with_bytes, with_element, with_field, with_message, with_number, with_signal}
 
 -- the memory of a program: what its variables hold, and which timers are active
 pub record Memory : Type 0 where
@@ -64,19 +64,19 @@ pub data Spot : Type 0 where
 -- the message that is held
 abbrev pub held_message : This → Store → Held → MessageRecord
 held_message this store (HeldFrame signals) = this.frame
-held_message this store (HeldVariable v signals) = store.message (key_of v)
+held_message this store (HeldVariable v signals) = store.message (variable_key v)
 
 -- the store once a held message is changed; a frame does not change
 abbrev pub with_held : (MessageRecord → MessageRecord) → Held → Store → Store
 with_held change (HeldFrame signals) store = store
 with_held change (HeldVariable v signals) store =
-    with_message (key_of v) (change (store.message (key_of v))) store
+    with_message (variable_key v) (change (store.message (variable_key v))) store
 
 -- the number at a spot
 abbrev pub read : This → Spot → Store → ℤ
 read this Nowhere store = pos 0
-read this (InNumber k v) store = store.number (key_of v)
-read this (InElement k v i) store = store.element (key_of v) i
+read this (InNumber k v) store = store.number (variable_key v)
+read this (InElement k v i) store = store.element (variable_key v) i
 read this (InField held f) store = read_field f (held_message this store held)
 read this (InBytes held k i) store = read_bytes k i (held_message this store held)
 read this (InSignal held layout) store = read_signal layout (held_message this store held)
@@ -84,8 +84,8 @@ read this (InSignal held layout) store = read_signal layout (held_message this s
 -- the store once a number is stored at a spot: wrapped to its kind, or by the write rule of its field
 abbrev pub write : Spot → ℤ → Store → Store
 write Nowhere n store = store
-write (InNumber k v) n store = with_number (key_of v) (wrap k n) store
-write (InElement k v i) n store = with_element (key_of v) i (wrap k n) store
+write (InNumber k v) n store = with_number (variable_key v) (wrap k n) store
+write (InElement k v i) n store = with_element (variable_key v) i (wrap k n) store
 write (InField held f) n store = with_held (with_field f n) held store
 write (InBytes held k i) n store = with_held (with_bytes k i n) held store
 write (InSignal held layout) n store = with_held (with_signal layout n) held store
@@ -130,7 +130,7 @@ element_spot s (Some v) index w =
     indexing (elements_of s.scope.names v) i w (InElement (kind_of_elements v.form) v))
 
 -- the spot of a member of a message
-abbrev pub spot_of_member : Held → Member → Spot
+abbrev pub spot_of_member : Held → NamedMember → Spot
 spot_of_member held (IsField f) = InField held f
 spot_of_member held (IsSignal layout) = InSignal held layout
 spot_of_member held _ = Nowhere
@@ -157,8 +157,8 @@ abbrev pub operates : BinOp → Kind → ℤ → ℤ → Computes Memory
 operates operator k a b w = gives_or_traps (value operator k a b) w
 
 -- `++x` is `x += 1`, and `--x` is `x -= 1`; behind the operand they give the old value
-abbrev pub steps : Setting → BinOp → Bool → Kind → Spot → World Memory → Run Memory ℤ
-steps s operator is_behind k spot w =
+abbrev pub step_by_one : Setting → BinOp → Bool → Kind → Spot → World Memory → Run Memory ℤ
+step_by_one s operator is_behind k spot w =
     and_then (reads s spot w) (λ old w. and_then (operates operator (join k Long) old (pos 1) w) (λ new w.
     run_map (λ now. if is_behind then old else now) (stores s spot new w)))
 
@@ -241,15 +241,15 @@ abbrev mutual
   value_of s call (tree.Cast kind inner at) w = run_map (wrap kind) (value_of s call inner w)
   value_of s call (tree.Unary prefix.Up inner at) w =
       and_then (place_spot s inner (spot_of s call inner) w)
-      (steps s op.Add false (kind_in (sort_of s.scope inner)))
+      (step_by_one s op.Add false (kind_in (sort_of s.scope inner)))
   value_of s call (tree.Unary prefix.Down inner at) w =
       and_then (place_spot s inner (spot_of s call inner) w)
-      (steps s op.Sub false (kind_in (sort_of s.scope inner)))
+      (step_by_one s op.Sub false (kind_in (sort_of s.scope inner)))
   value_of s call (tree.Unary operator inner at) w =
       run_map (prefix_value operator (prefix_kind s.scope inner)) (value_of s call inner w)
   value_of s call (tree.Post up inner at) w =
       and_then (place_spot s inner (spot_of s call inner) w)
-      (steps s (step_operator up) true (kind_in (sort_of s.scope inner)))
+      (step_by_one s (step_operator up) true (kind_in (sort_of s.scope inner)))
   value_of s call (tree.Binary op.AndAlso left right at) w =
       deciding (value_of s call left w) (λ w. run_map truth_of (value_of s call right w)) (Gives (pos 0))
   value_of s call (tree.Binary op.OrElse left right at) w =

@@ -23,8 +23,8 @@ use Rattle.capl_meaning.specs.declared.sort.Sort.TheVariants as sort
 use Rattle.capl_meaning.specs.Rule.{E09, E11, E13, E14, E15, E16, E17, E18, E23, E26, E28}
 use Rattle.capl_meaning.specs.Variable.{Variable}
 use Rattle.capl_meaning.specs.Names.{Callee, Function, OfLanguage, OfProgram, Unknown, Scope, ThisForm, NoThis, callee, direction, means}
-use Rattle.capl_meaning.specs.Format.{format_codes, shows, text_in}
-use Rattle.capl_meaning.specs.Message.{Held, Member, IsField, IsSignal, IsUnusable, IsUnknown, is_message_place, is_number_place, member_named, message_in, signals_of}
+use Rattle.capl_meaning.specs.Format.{format_codes, shows, quoted_text}
+use Rattle.capl_meaning.specs.Message.{Held, NamedMember, IsField, IsSignal, IsUnusable, IsUnknown, is_message_place, is_number_place, member_named, message_in, signals_of}
 use Rattle.capl_meaning.specs.Sort.{is_bad, is_number, is_recursive, sort_of, sort_of_number}
 
 -- a rule is broken at a token where a part stands
@@ -65,14 +65,14 @@ is_array (sort.Array k) = true
 is_array _ = false
 
 -- a sort is a message
-abbrev pub is_message : Sort → Bool
-is_message sort.Message = true
-is_message _ = false
+abbrev pub is_message_sort : Sort → Bool
+is_message_sort sort.Message = true
+is_message_sort _ = false
 
 -- a sort is a timer
-abbrev pub is_timer : Sort → Bool
-is_timer sort.Timer = true
-is_timer _ = false
+abbrev pub is_timer_sort : Sort → Bool
+is_timer_sort sort.Timer = true
+is_timer_sort _ = false
 
 -- E28: an index of what is no array
 abbrev pub index_rule : Scope → ℕ → Sort → List Offence
@@ -80,7 +80,7 @@ index_rule s at base = broken_where (not (is_array base) && not (is_bad base)) s
 
 -- E23, E11 and E28: a signal cannot be used; a member of a message declared by name is neither field nor
 -- signal; an unknown member of another message
-abbrev pub name_of_member_rule : Scope → ℕ → ℕ → Member → List Offence
+abbrev pub name_of_member_rule : Scope → ℕ → ℕ → NamedMember → List Offence
 name_of_member_rule s at name_at (IsField f) = []
 name_of_member_rule s at name_at (IsSignal layout) = []
 name_of_member_rule s at name_at IsUnusable = offence s name_at E23 ∷ []
@@ -128,14 +128,16 @@ left_rule s operator left =
 
 -- E28: an assignment with a message on one side only
 abbrev pub sides_rule : Scope → ℕ → Sort → Sort → List Offence
-sides_rule s at sort.Message right = broken_where (not (is_message right) && not (is_bad right)) s at E28
+sides_rule s at sort.Message right = broken_where (not (is_message_sort right) && not (is_bad right)) s at E28
 sides_rule s at left sort.Message = broken_where (not (is_bad left)) s at E28
 sides_rule s at _ _ = []
 
 -- E13: the right of an assignment is an operand, where no side is a message
 abbrev pub right_rule : Scope → Expr → Expr → List Offence
 right_rule s left right =
-    if is_message (sort_of s left) || is_message (sort_of s right) then [] else integer_needed s right
+    if is_message_sort (sort_of s left) || is_message_sort (sort_of s right)
+    then []
+    else integer_needed s right
 
 -- E16: an argument is not the timer, message or array that is needed
 abbrev pub argument_rule : Scope → ℕ → (Sort → Bool) → Expr → List Offence
@@ -165,15 +167,15 @@ format_rules s format (Some text) arguments =
 
 -- the rules of a call of a function of the language
 abbrev pub builtin_rules : Scope → ℕ → Builtin → List Expr → List Offence
-builtin_rules s at builtin.Output (message ∷ []) = argument_rule s at is_message message
-builtin_rules s at builtin.Write (format ∷ arguments) = format_rules s format (text_in format) arguments
+builtin_rules s at builtin.Output (message ∷ []) = argument_rule s at is_message_sort message
+builtin_rules s at builtin.Write (format ∷ arguments) = format_rules s format (quoted_text format) arguments
 builtin_rules s at builtin.SetTimer (timer ∷ duration ∷ []) =
-    argument_rule s at is_timer timer ++ integer_needed s duration
+    argument_rule s at is_timer_sort timer ++ integer_needed s duration
 builtin_rules s at builtin.SetTimerCyclic (timer ∷ duration ∷ []) =
-    argument_rule s at is_timer timer ++ integer_needed s duration
-builtin_rules s at builtin.CancelTimer (timer ∷ []) = argument_rule s at is_timer timer
+    argument_rule s at is_timer_sort timer ++ integer_needed s duration
+builtin_rules s at builtin.CancelTimer (timer ∷ []) = argument_rule s at is_timer_sort timer
 builtin_rules s at builtin.Stop [] = []
-builtin_rules s at builtin.IsTimerActive (timer ∷ []) = argument_rule s at is_timer timer
+builtin_rules s at builtin.IsTimerActive (timer ∷ []) = argument_rule s at is_timer_sort timer
 builtin_rules s at builtin.TimeNow [] = []
 builtin_rules s at builtin.ElCount (array ∷ []) = argument_rule s at is_array array
 builtin_rules s at _ _ = offence s at E16 ∷ []

@@ -19,15 +19,15 @@ abbrev pub format_codes : List ℕ → Option (List Code)
 format_codes text = option_map codes_of (pieces_of text)
 
 -- the bytes of a text between quotes, under any parentheses
-abbrev pub text_in : Expr → Option (List ℕ)
-text_in (tree.Paren inner at) = text_in inner
-text_in (expr.Str text at) = Some text
-text_in _ = None
+abbrev pub quoted_text : Expr → Option (List ℕ)
+quoted_text (tree.Paren inner at) = quoted_text inner
+quoted_text (expr.Str text at) = Some text
+quoted_text _ = None
 
 -- the bytes of the first of expressions, where it is a text
 abbrev pub first_text : {m : _} → Row_of-Expr m → Option (List ℕ)
 first_text end_of-Expr = None
-first_text (more_of-Expr first rest) = text_in first
+first_text (more_of-Expr first rest) = quoted_text first
 
 -- what an array is as an argument of `write`: a text where it is of characters
 abbrev pub array_argument : Kind → Option ArgKind

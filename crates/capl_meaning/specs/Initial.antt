@@ -14,18 +14,18 @@ use Rattle.capl_tree.specs.declared.expr.Field.TheVariants.{Named}
 use Rattle.capl_tree.specs.Forms as tree
 use Rattle.capl_meaning.specs.Variable.{Form, Number, Array, Message, MessageType, ByIdentifier, ByName, Variable}
 use Rattle.capl_meaning.specs.Names.{Names, Scope}
-use Rattle.capl_meaning.specs.Format.{text_in}
-use Rattle.capl_meaning.specs.Message.{Member, IsField, IsSignal, member_named, signals_of_type}
+use Rattle.capl_meaning.specs.Format.{quoted_text}
+use Rattle.capl_meaning.specs.Message.{NamedMember, IsField, IsSignal, member_named, signals_of_type}
 use Rattle.capl_meaning.specs.Constant.{constant_at, first_number, known_before, scope_of}
-use Rattle.capl_meaning.specs.Store.{Key, MessageRecord, Store, key_of, same_key, with_bytes, with_field, with_signal}
+use Rattle.capl_meaning.specs.Store.{Key, MessageRecord, Store, variable_key, same_key, with_bytes, with_field, with_signal}
 
 -- the number of a constant; 0 where it is none, which no accepted program has
-abbrev pub number_at : Scope → ℕ → Expr → ℤ
-number_at s token e = unwrap_or (constant_at s token e) (pos 0)
+abbrev pub constant_number : Scope → ℕ → Expr → ℤ
+constant_number s token e = unwrap_or (constant_at s token e) (pos 0)
 
 -- the number of an element, by its item
 abbrev pub number_of_item : Scope → ℕ → Kind → Option Item → ℤ
-number_of_item s token k (Some (Plain value)) = wrap k (number_at s token value)
+number_of_item s token k (Some (Plain value)) = wrap k (constant_number s token value)
 number_of_item s token k _ = pos 0
 
 -- the byte of a text, by its number; behind its end 0
@@ -37,7 +37,7 @@ number_of_text i (Some text) = pos (slice_index_or text i 0)
 -- is 0
 abbrev pub first_element : Scope → ℕ → Kind → Option Init → ℕ → ℤ
 first_element s token k (Some (Many items at)) i = number_of_item s token k (slice_get items i)
-first_element s token k (Some (One e)) i = number_of_text i (text_in e)
+first_element s token k (Some (One e)) i = number_of_text i (quoted_text e)
 first_element s token k None i = pos 0
 
 -- a message with this identifier and length: can is 1, the rest 0
@@ -59,7 +59,7 @@ declared_message (ByName None) = plain_message 0 8
 declared_message (ByName (Some m)) = plain_message m.id m.len
 
 -- a message once a number is stored in a member
-abbrev pub with_member : Member → ℤ → MessageRecord → MessageRecord
+abbrev pub with_member : NamedMember → ℤ → MessageRecord → MessageRecord
 with_member (IsField f) n m = with_field f n m
 with_member (IsSignal layout) n m = with_signal layout n m
 with_member _ n m = m
@@ -72,24 +72,25 @@ with_bytes_at k (negsuc i) n m = m
 -- a message once a number is stored in a field, payload bytes or a signal
 abbrev pub with_field_item : Scope → ℕ → Option (List DbcSignal) → Field → ℤ → MessageRecord → MessageRecord
 with_field_item s token signals (Named name at) n m = with_member (member_named signals name) n m
-with_field_item s token signals (tree.Bytes k index at) n m = with_bytes_at k (number_at s token index) n m
+with_field_item s token signals (tree.Bytes k index at) n m =
+    with_bytes_at k (constant_number s token index) n m
 
 -- a message once an item is written
 abbrev pub with_item : Scope → ℕ → Option (List DbcSignal) → MessageRecord → Item → MessageRecord
 with_item s token signals m (Plain value) = m
 with_item s token signals m (Set field value) =
-    with_field_item s token signals field (number_at s token value) m
+    with_field_item s token signals field (constant_number s token value) m
 
 -- the items of an initialiser
-abbrev pub items_of : Option Init → List Item
-items_of (Some (Many items at)) = items
-items_of _ = []
+abbrev pub initial_items : Option Init → List Item
+initial_items (Some (Many items at)) = items
+initial_items _ = []
 
 -- the first value of a message: as it is declared, and then its items in order, each by the write rule of its
 -- field, payload or signal
 abbrev pub first_message : Scope → ℕ → MessageType → Option Init → MessageRecord
 first_message s token type_ init =
-    fold (with_item s token (signals_of_type type_)) (declared_message type_) (items_of init)
+    fold (with_item s token (signals_of_type type_)) (declared_message type_) (initial_items init)
 
 -- the first number of a variable
 abbrev pub number_of_form : Names → Variable → Form → ℤ
@@ -109,7 +110,7 @@ message_of_form names v _ = plain_message 0 8
 
 -- the variable of a key
 abbrev pub variable_of : Names → Key → Option Variable
-variable_of names key = find (λ v. same_key key (key_of v)) names.variables
+variable_of names key = find (λ v. same_key key (variable_key v)) names.variables
 
 -- what the variables hold at first
 abbrev pub first_store : Names → Store

@@ -19,8 +19,8 @@ use Rattle.capl_meaning.specs.declared.offence.Offence.{Offence}
 use Rattle.capl_meaning.specs.Rule.{E11, E19, E23, E27, E28}
 use Rattle.capl_meaning.specs.Variable.{Form, Number, Array, Message, Misfit}
 use Rattle.capl_meaning.specs.Names.{Scope}
-use Rattle.capl_meaning.specs.Format.{text_in}
-use Rattle.capl_meaning.specs.Message.{Member, IsField, IsSignal, IsUnusable, IsUnknown, is_assignable_field, member_named, signals_of_type}
+use Rattle.capl_meaning.specs.Format.{quoted_text}
+use Rattle.capl_meaning.specs.Message.{NamedMember, IsField, IsSignal, IsUnusable, IsUnknown, is_assignable_field, member_named, signals_of_type}
 use Rattle.capl_meaning.specs.Sort.{is_bad, sort_of}
 use Rattle.capl_meaning.specs.Constant.{constant_at, length_at}
 use Rattle.capl_meaning.specs.ExpressionRules.{broken_where, offence, offences, offences_of_field}
@@ -53,9 +53,9 @@ one_for_number s token e None = constant_needed s token e
 
 -- the rules of one value for a variable that is declared at a token
 abbrev pub one_rules : Scope → ℕ → Form → Expr → List Offence
-one_rules s token (Number k fixed) e = one_for_number s token e (text_in e)
+one_rules s token (Number k fixed) e = one_for_number s token e (quoted_text e)
 one_rules s token (Array k fixed size) e =
-    one_for_array s (expression_place e) k (length_at s token size) (text_in e)
+    one_for_array s (expression_place e) k (length_at s token size) (quoted_text e)
 one_rules s token Misfit e = []
 one_rules s token _ e = offence s (expression_place e) E27 ∷ []
 
@@ -71,7 +71,7 @@ is_payload_index k (pos i) = nat_le i (8 - size k)
 is_payload_index k (negsuc i) = false
 
 -- the rules of a name in an initialiser of a message
-abbrev pub name_item_rules : Scope → ℕ → ℕ → Member → List Offence
+abbrev pub name_item_rules : Scope → ℕ → ℕ → NamedMember → List Offence
 name_item_rules s at name_at (IsField f) = broken_where (not (is_assignable_field f)) s at E27
 name_item_rules s at name_at (IsSignal layout) = []
 name_item_rules s at name_at IsUnusable = offence s name_at E23 ∷ []

@@ -119,24 +119,24 @@ is_variable (HeldVariable v signals) = true
 
 -- what a name behind the point of a message is: a field, a signal that can be used or one that cannot, or
 -- unknown, with whether the message is declared by name; fields go before signals
-pub data Member : Type 0 where
-  IsField : MessageField → Member
-  IsSignal : Layout → Member
-  IsUnusable : Member
-  IsUnknown : Bool → Member
+pub data NamedMember : Type 0 where
+  IsField : MessageField → NamedMember
+  IsSignal : Layout → NamedMember
+  IsUnusable : NamedMember
+  IsUnknown : Bool → NamedMember
 
 -- the member of a signal
-abbrev pub member_of_signal : Option DbcSignal → Member
+abbrev pub member_of_signal : Option DbcSignal → NamedMember
 member_of_signal None = IsUnknown true
 member_of_signal (Some signal) = if can_be_used signal then IsSignal signal.layout else IsUnusable
 
 -- the member of a name that is no field
-abbrev pub member_of_signals : Option (List DbcSignal) → List ℕ → Member
+abbrev pub member_of_signals : Option (List DbcSignal) → List ℕ → NamedMember
 member_of_signals None name = IsUnknown false
 member_of_signals (Some signals) name = member_of_signal (signal_named signals name)
 
 -- the member of a name
-abbrev pub member_named : Option (List DbcSignal) → List ℕ → Member
+abbrev pub member_named : Option (List DbcSignal) → List ℕ → NamedMember
 member_named signals name = option_map_or IsField (field_named name) (member_of_signals signals name)
 
 -- the array variable that an expression names, if it names one
@@ -161,7 +161,7 @@ is_open_array (Array kind fixed size) = not fixed
 is_open_array _ = false
 
 -- a member is an assignable field or a signal
-abbrev pub is_open_member : Member → Bool
+abbrev pub is_open_member : NamedMember → Bool
 is_open_member (IsField f) = is_assignable_field f
 is_open_member (IsSignal layout) = true
 is_open_member _ = false

@@ -29,17 +29,17 @@ pub record Number : Type 0 where
   pub extended : Bool
 
 -- the number of a selector; a selector has no other expressions
-abbrev pub number_in : Expr → Number
-number_in (expr.Num value extended at) = record { value = value; extended = extended }
-number_in _ = record { value = None; extended = false }
+abbrev pub selector_number : Expr → Number
+selector_number (expr.Num value extended at) = record { value = value; extended = extended }
+selector_number _ = record { value = None; extended = false }
 
 -- a number is an identifier
 abbrev pub names_identifier : Number → Bool
 names_identifier n = is_identifier n.value n.extended
 
 -- the selection key of an identifier: bit 31 marks an extended one
-abbrev pub key_of : Number → Option ℕ
-key_of n =
+abbrev pub selected_key : Number → Option ℕ
+selected_key n =
     if names_identifier n then option_map (λ id. if n.extended then 2 ^ 31 + id else id) n.value else None
 
 -- two numbers are both marked as extended, or neither
@@ -65,10 +65,11 @@ keys_between rank low high =
 
 -- what a single identifier or a range selects; nothing where it breaks a rule
 abbrev pub selector_of_numbers : Expr → Option Expr → Option Selector
-selector_of_numbers low None = keys_between 0 (key_of (number_in low)) (key_of (number_in low))
+selector_of_numbers low None =
+    keys_between 0 (selected_key (selector_number low)) (selected_key (selector_number low))
 selector_of_numbers low (Some high) =
-    if is_range (number_in low) (number_in high)
-    then keys_between 1 (key_of (number_in low)) (key_of (number_in high)) else None
+    if is_range (selector_number low) (selector_number high)
+    then keys_between 1 (selected_key (selector_number low)) (selected_key (selector_number high)) else None
 
 -- what a message of the database selects: its identifier; nothing where that is out of range
 abbrev pub selector_of_message : DbcMessage → Option Selector
@@ -149,8 +150,9 @@ selector_place s = if names_channel s.chan then selection_place s.what - 2 else 
 
 -- E21: an identifier of a selector is none; a range mixes both forms or falls
 abbrev pub numbers_rule : Scope → ℕ → Expr → Option Expr → List Offence
-numbers_rule s at low None = broken_where (not (names_identifier (number_in low))) s at E21
-numbers_rule s at low (Some high) = broken_where (not (is_range (number_in low) (number_in high))) s at E21
+numbers_rule s at low None = broken_where (not (names_identifier (selector_number low))) s at E21
+numbers_rule s at low (Some high) =
+    broken_where (not (is_range (selector_number low) (selector_number high))) s at E21
 
 -- what is selected, in a selector that begins at a token, breaks by itself: E11 and E23 of a name, at the
 -- name, and E21 of numbers, at the selector
@@ -194,16 +196,16 @@ abbrev pub overlap : Selector → Selector → Bool
 overlap a b = a.rank == b.rank && (nat_le a.low b.high && nat_le b.low a.high)
 
 -- two keys are one, where none stands for `*`
-abbrev pub same_key : Option ℕ → Option ℕ → Bool
-same_key None None = true
-same_key (Some m) (Some n) = m == n
-same_key _ _ = false
+abbrev pub same_pressed_key : Option ℕ → Option ℕ → Bool
+same_pressed_key None None = true
+same_pressed_key (Some m) (Some n) = m == n
+same_pressed_key _ _ = false
 
 -- no two procedures may be for both
 abbrev pub collide : Purpose → Purpose → Bool
 collide (ForFrames here a) (ForFrames there b) = share_channel here there && overlap a b
 collide (ForTimer a) (ForTimer b) = bytes_eq a b
-collide (ForKey a) (ForKey b) = same_key a b
+collide (ForKey a) (ForKey b) = same_pressed_key a b
 collide _ _ = false
 
 -- what a procedure of a file is for, and the token where that is told: the selector, or `on`

@@ -1,10 +1,6 @@
 -- The rules on programs of well formed trees. Their numbers are this project's own.
-use Rattle.std.specs.Prelude.{ℕ}
 use Rattle.texts.specs.declared.blame.Rule.{Rule}
-
--- a rule on sources, by its number
-abbrev pub source_rule : ℕ → Rule
-source_rule number = record { group = 69; number = number }
+use Rattle.texts.specs.Rule.{source_rule}
 
 -- a name is no variable; a called name is no function; the name after `on timer` is no global timer
 abbrev pub E09 : Rule

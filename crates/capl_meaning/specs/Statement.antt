@@ -7,7 +7,7 @@ use Rattle.int_kinds.specs.declared.kinds.Kind.{Kind}
 use Rattle.int_kinds.specs.Kind.{wrap}
 use Rattle.write_format.specs.declared.argument.ArgKind.{ArgKind}
 use Rattle.write_format.specs.declared.argument.ArgKind.TheVariants as argument
-use Rattle.write_format.specs.Format.{elements_of as format_elements}
+use Rattle.write_format.specs.Format.{format_elements}
 use Rattle.write_format.specs.Line.{line_of}
 use Rattle.write_format.specs.declared.piece.Piece.{Piece}
 use Rattle.write_format.specs.Reading.{codes_of, pieces_of}
@@ -27,11 +27,11 @@ use Rattle.capl_meaning.specs.declared.sort.Sort.{Sort}
 use Rattle.capl_meaning.specs.declared.sort.Sort.TheVariants as sort
 use Rattle.capl_meaning.specs.Variable.{Variable}
 use Rattle.capl_meaning.specs.Names.{Callee, OfLanguage, Scope, callee}
-use Rattle.capl_meaning.specs.Format.{show_all, text_in}
+use Rattle.capl_meaning.specs.Format.{show_all, quoted_text}
 use Rattle.capl_meaning.specs.Message.{Held, HeldVariable, array_in, message_in}
 use Rattle.capl_meaning.specs.Sort.{is_number, sort_of}
 use Rattle.capl_meaning.specs.Constant.{constant_at, elements_of, prefix_kind}
-use Rattle.capl_meaning.specs.Store.{Store, key_of, message_cells, row, timer_number, unit_of, with_message}
+use Rattle.capl_meaning.specs.Store.{Store, variable_key, message_cells, row, timer_number, unit_of, with_message}
 use Rattle.capl_meaning.specs.Expression.{Memory, Setting, held_message, timer_in, value_of, with_store}
 
 -- what changes in the world, unless the measurement has ended
@@ -51,12 +51,12 @@ numbers_of s call (e ∷ rest) w =
 -- the bytes that an array of characters holds
 abbrev pub characters_of : Setting → Store → Variable → List ℕ
 characters_of s store v =
-    map unsigned_abs (row (store.element (key_of v)) 0 (elements_of s.scope.names v))
+    map unsigned_abs (row (store.element (variable_key v)) 0 (elements_of s.scope.names v))
 
 -- the bytes of an argument that is shown as a text: those of a text between quotes, or those that an array
 -- holds when the line is made
 abbrev pub text_of : Setting → Store → Expr → List ℕ
-text_of s store e = unwrap_or (text_in e) (option_map_or (characters_of s store) (array_in s.scope e) [])
+text_of s store e = unwrap_or (quoted_text e) (option_map_or (characters_of s store) (array_in s.scope e) [])
 
 -- an argument of a line, when it is made
 abbrev pub argument_by : List ℕ → Sort → ArgKind
@@ -89,7 +89,7 @@ writes_line s call (Some pieces) arguments w =
 -- `write` of a format and arguments
 abbrev pub writes : Setting → Calls Memory → Expr → List Expr → Does Memory
 writes s call format arguments =
-    writes_line s call (fitting_pieces (map (sort_of s.scope) arguments) (text_in format)) arguments
+    writes_line s call (fitting_pieces (map (sort_of s.scope) arguments) (quoted_text format)) arguments
 
 -- ---- messages and timers
 
@@ -102,7 +102,7 @@ sends s (Some held) = unless_closed s (λ w. after_effect
 -- copies a message to a message variable
 abbrev pub copies : Setting → Variable → Held → Does Memory
 copies s v from w = Gives GoesOn
-    (with_store (with_message (key_of v) (held_message s.this w.memory.store from) w.memory.store) w)
+    (with_store (with_message (variable_key v) (held_message s.this w.memory.store from) w.memory.store) w)
 
 -- an assignment copies where a message variable stands on the left and a message on the right; else it does
 -- what it does as an expression
@@ -194,10 +194,10 @@ label_of s k at None = Some None
 label_of s k at (Some value) = option_map (λ n. Some (wrap k n)) (constant_at s at value)
 
 -- the labels of each group in a kind
-abbrev pub labels_of : Scope → Kind → {m : _} → Row_of-Group m → List (List (Option ℤ))
-labels_of s k end_of-Group = []
-labels_of s k (more_of-Group labels shape body rest) =
-    filter_map (λ label. label_of s k label.at label.value) labels ∷ labels_of s k rest
+abbrev pub group_labels : Scope → Kind → {m : _} → Row_of-Group m → List (List (Option ℤ))
+group_labels s k end_of-Group = []
+group_labels s k (more_of-Group labels shape body rest) =
+    filter_map (λ label. label_of s k label.at label.value) labels ∷ group_labels s k rest
 
 -- two labels are the same
 abbrev pub same_label : Option ℤ → Option ℤ → Bool
@@ -236,7 +236,7 @@ abbrev mutual
   stmt_of s call n (stmt.Switch' on shape groups) w =
       and_then (value_of s call on w) (λ v w.
       and_then (groups_of s call n groups (group_for (wrap (prefix_kind s.scope on) v)
-      (labels_of s.scope (prefix_kind s.scope on) groups)) w) leaving_switch)
+      (group_labels s.scope (prefix_kind s.scope on) groups)) w) leaving_switch)
   stmt_of s call n (stmt.Break at) w = Gives Breaks w
   stmt_of s call n (stmt.Continue at) w = Gives Continues w
   stmt_of s call n (stmt.Return value at) w = returns s call value w

@@ -82,18 +82,18 @@ same_saying (Case m) (Case n) = int_eq m n
 same_saying _ _ = false
 
 -- a label, by its token and what it says
-pub record Said : Type 0 where
+pub record SaidLabel : Type 0 where
   pub at : ℕ
   pub saying : Saying
 
 -- a label of a `switch` over an expression of this sort
-abbrev pub said_by : Scope → Sort → Label → Said
+abbrev pub said_by : Scope → Sort → Label → SaidLabel
 said_by s on label = record { at = label.at; saying = saying_of_value s label.at on label.value }
 
 -- the labels of all groups
-abbrev pub labels_of : {m : _} → Row_of-Group m → List Label
-labels_of end_of-Group = []
-labels_of (more_of-Group labels shape body rest) = labels ++ labels_of rest
+abbrev pub labels_said : {m : _} → Row_of-Group m → List Label
+labels_said end_of-Group = []
+labels_said (more_of-Group labels shape body rest) = labels ++ labels_said rest
 
 -- E20: two labels are equal after wrapping to the kind in which the `switch` compares, or two are `default`
 abbrev pub labels_rule : Scope → Sort → List Label → List Offence
@@ -130,7 +130,7 @@ abbrev mutual
       alone_offences s init ++ (needed_offences s test ++ (alone_offences s step
       ++ statement_offences s in_loop body))
   statement_offences s around (stmt.Switch' on shape groups) =
-      integer_offences s on ++ (labels_rule s (sort_of s on) (labels_of groups)
+      integer_offences s on ++ (labels_rule s (sort_of s on) (labels_said groups)
       ++ offences_of_groups s (in_switch around) groups)
   statement_offences s around (stmt.Break at) = broken_where (not around.breakable) s at E22
   statement_offences s around (stmt.Continue at) = broken_where (not around.continuable) s at E22

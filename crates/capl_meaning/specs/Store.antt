@@ -89,8 +89,8 @@ pub record Key : Type 0 where
   pub name : List ℕ
 
 -- the key of a variable
-abbrev pub key_of : Variable → Key
-key_of v = record { owner = v.owner; name = v.name }
+abbrev pub variable_key : Variable → Key
+variable_key v = record { owner = v.owner; name = v.name }
 
 -- two keys are of one variable
 abbrev pub same_key : Key → Key → Bool
@@ -128,7 +128,7 @@ cells_by s k elements Misfit = []
 
 -- the cells of a variable
 abbrev pub cells_of : Names → Store → Variable → List ℤ
-cells_of names s v = cells_by s (key_of v) (elements_of names v) v.form
+cells_of names s v = cells_by s (variable_key v) (elements_of names v) v.form
 
 -- the cells of all variables, in program order of their declarations: 1 for a number, as many as it has
 -- elements for an array, 14 for a message
@@ -175,5 +175,6 @@ timer_units names = filter_map (λ v. unit_of v.form) names.variables
 -- the number of a timer among all timers
 abbrev pub timer_number : Names → Variable → ℕ
 timer_number names v =
-    unwrap_or (position (λ u. same_key (key_of v) (key_of u)) (filter (λ u. is_timer u.form) names.variables))
-    0
+    unwrap_or
+    (position (λ u. same_key (variable_key v) (variable_key u))
+    (filter (λ u. is_timer u.form) names.variables)) 0

@@ -138,22 +138,22 @@ abbrev mutual
   AreExpressions (more_of-Expr first rest) = IsExpression first × AreExpressions rest
 
 -- an expression that may be missing
-abbrev pub IsPart : Option Expr → Type 0
-IsPart part = ForSome part IsExpression
+abbrev pub IsOptional : Option Expr → Type 0
+IsOptional part = ForSome part IsExpression
 
 -- an expression that is no assignment
 abbrev pub IsValue : Expr → Type 0
 IsValue e = IsExpression e × (choice_level ≤ level e)
 
 -- an item between the braces of an initialiser
-abbrev pub IsItem : Item → Type 0
-IsItem (Plain value) = IsValue value
-IsItem (Set field value) = IsField field × IsValue value
+abbrev pub IsInitialItem : Item → Type 0
+IsInitialItem (Plain value) = IsValue value
+IsInitialItem (Set field value) = IsField field × IsValue value
 
 -- an initialiser
 abbrev pub IsInitialiser : Init → Type 0
 IsInitialiser (One value) = IsValue value
-IsInitialiser (Many items at) = (items ≢ []) × All IsItem items
+IsInitialiser (Many items at) = (items ≢ []) × All IsInitialItem items
 
 -- a declared variable
 abbrev pub IsDeclared : Declr → Type 0
@@ -211,11 +211,12 @@ abbrev mutual
   IsStatement (stmt.If' shape arms other) = AreArms arms other × IsElse other
   IsStatement (form.While test body) = IsExpression test × IsStatement body
   IsStatement (form.Do body test) = IsStatement body × IsExpression test
-  IsStatement (form.For init test step body) = IsPart init × IsPart test × IsPart step × IsStatement body
+  IsStatement (form.For init test step body) =
+      IsOptional init × IsOptional test × IsOptional step × IsStatement body
   IsStatement (stmt.Switch' on shape groups) = IsExpression on × AreGroups groups
   IsStatement (stmt.Break at) = ⊤
   IsStatement (stmt.Continue at) = ⊤
-  IsStatement (stmt.Return value at) = IsPart value
+  IsStatement (stmt.Return value at) = IsOptional value
 
   -- declarations and statements in a row
   pub AreStatements : {m : _} → Row_of-Stmt m → Type 0

@@ -93,7 +93,10 @@ fn statement_weight(statement: &Stmt) -> u64
             pair_weight(part_weight(step), statement_weight(body.get())),
         ),
         Stmt::Switch { on, groups } => {
-            node_weight(expression_weight(on.get()), groups_weight(groups.as_slice()))
+            node_weight(
+                expression_weight(on.get()),
+                groups_weight(groups.as_slice()),
+            )
         }
         Stmt::Return { value, .. } => part_weight(value).saturating_add(8),
     }

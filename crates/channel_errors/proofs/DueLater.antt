@@ -26,7 +26,7 @@ EndsFromNow now wire = IfSome wire (λ t. now ≤ t.end)
 
 from_now : (wire : Option Transmission) (s : BusState) (now : ℕ) → s.wire ≡ wire → IfSome (channel.next_moment s) (λ due. now ≤ due) → EndsFromNow now wire
 from_now None s now is due = tt
-from_now (Some t) s now is due = subst (λ w. IfSome (channel.moment_of w s.waiting s.free) (λ due. now ≤ due)) is due
+from_now (Some t) s now is due = subst (λ w. IfSome (channel.moment_by w s.waiting s.free) (λ due. now ≤ due)) is due
 
 clear_finish_of : (wire : Option Transmission) (s : ErrorState) (now : ℕ) → s.plain.wire ≡ wire → BitTakesTime s.plain → EndsFromNow now wire → IsClear now (after_finish_of wire s now).plain
 clear_finish_of None s now is timed due = (subst (EndsLater now) (sym is) tt, timed)

@@ -5,7 +5,7 @@ use Rattle.std.specs.FinMap.{get, insert, retain_keys, get-insert}
 use Rattle.std.proofs.lemmas.Bool.Decides.{nat_tests}
 use Rattle.can_bus.specs.declared.bus.Ended.{Ended}
 use Rattle.can_bus.specs.declared.waiting.Waiting.{Waiting}
-use Rattle.can_bus.specs.Waiting.{Waits, name_of}
+use Rattle.can_bus.specs.Waiting.{Waits, request_name}
 use Rattle.can_bus.specs.Bus as channel
 use Rattle.can_bus.proofs.Requests.{name_cmp_total}
 use Rattle.channel_errors.specs.Errors.{ErrorState, is_off, is_disturbed, after_sent, after_disturbed, after_finish_of}
@@ -27,9 +27,9 @@ WaitsOn r u = is_off u r.node ≡ false → Waits u.plain.waiting r
 
 waits_disturbed : (s : ErrorState) (r : Waiting) → WaitsOn r (after_disturbed s r)
 waits_disturbed s r on =
-    ap (λ b. get (cond b (retain_keys s.plain.waiting (λ name. not (eqb name.0 r.node))) (insert s.plain.waiting (name_of r) r.frame)) (name_of r)) on
-    ∙ get-insert name_cmp_total s.plain.waiting (name_of r) r.frame (name_of r)
-    ∙ ap (λ b. cond b (Some r.frame) (get s.plain.waiting (name_of r))) (own_name (name_of r))
+    ap (λ b. get (cond b (retain_keys s.plain.waiting (λ name. not (eqb name.0 r.node))) (insert s.plain.waiting (request_name r) r.frame)) (request_name r)) on
+    ∙ get-insert name_cmp_total s.plain.waiting (request_name r) r.frame (request_name r)
+    ∙ ap (λ b. cond b (Some r.frame) (get s.plain.waiting (request_name r))) (own_name (request_name r))
 
 ends_now : (m n : ℕ) → m ≡ n → eqb m n ≡ true
 ends_now m n e = grind (arith, nat_tests)

@@ -8,7 +8,7 @@ use Rattle.can_frame.specs.Frame.{FrameFields}
 use Rattle.can_bus.specs.declared.waiting.Waiting.{Waiting}
 use Rattle.can_bus.specs.declared.transmission.Transmission.{Transmission}
 use Rattle.can_bus.specs.declared.bus.Ended.{Ended}
-use Rattle.can_bus.specs.Waiting.{RequestName, Requests, name_of}
+use Rattle.can_bus.specs.Waiting.{RequestName, Requests, request_name}
 use Rattle.can_bus.specs.Bus.{BusState}
 use Rattle.can_bus.specs.Bus as channel
 use Rattle.can_bus.specs.Laws.{FramesCome}
@@ -41,9 +41,9 @@ HasFrame-retain_keys w p frame h = (h.0, left_in (p h.0) frame (get w h.0) (sym 
 
 -- what waits after it waited before, or is the frame
 HasFrame-disturbed : (w : Requests) (b : Bool) (r : Waiting) (frame : FrameFields)
-    → HasFrame (cond b (retain_keys w (λ name. not (eqb name.0 r.node))) (insert w (name_of r) r.frame)) frame → (frame ≡ r.frame) ⊎ HasFrame w frame
+    → HasFrame (cond b (retain_keys w (λ name. not (eqb name.0 r.node))) (insert w (request_name r) r.frame)) frame → (frame ≡ r.frame) ⊎ HasFrame w frame
 HasFrame-disturbed w true r frame h = inr (HasFrame-retain_keys w (λ name. not (eqb name.0 r.node)) frame h)
-HasFrame-disturbed w false r frame h = HasFrame-insert w (name_of r) r.frame frame h
+HasFrame-disturbed w false r frame h = HasFrame-insert w (request_name r) r.frame frame h
 
 module _ (s : ErrorState) (t : Transmission) (is : s.plain.wire ≡ Some t) (frame : FrameFields) where
   on_wire : frame ≡ t.request.frame → Carries s frame

@@ -11,7 +11,7 @@ use Rattle.std.proofs.lemmas.List.{length-set}
 use Rattle.can_frame.specs.Frame.{FrameFields}
 use Rattle.can_bus.specs.declared.waiting.Waiting.{Waiting}
 use Rattle.can_bus.specs.declared.transmission.Transmission.{Transmission}
-use Rattle.can_bus.specs.Waiting.{RequestName, Waits, name_cmp, name_of}
+use Rattle.can_bus.specs.Waiting.{RequestName, Waits, name_cmp, request_name}
 use Rattle.can_bus.specs.Bus as channel
 use Rattle.can_bus.specs.Laws.{SoundStays, NodesStay}
 use Rattle.can_bus.proofs.Requests.{name_cmp_total, ties}
@@ -62,17 +62,17 @@ module _ (s : ErrorState) (r : Waiting) (h : IsSoundErrors s) (node number : ℕ
         | inr other ↦ ap (λ b. cond (not b) (get s.plain.waiting (node, number)) None) other.0 ∙ none_before other.1
       ]
 
-  none_waits_again : is_off_in (counts_after_disturbed s.counts r.node) r.node ≡ false → get (insert s.plain.waiting (name_of r) r.frame) (node, number) ≡ None
+  none_waits_again : is_off_in (counts_after_disturbed s.counts r.node) r.node ≡ false → get (insert s.plain.waiting (request_name r) r.frame) (node, number) ≡ None
   none_waits_again on =
       let apart : node ≢ r.node = off_on_apart (counts_after_disturbed s.counts r.node) node r.node off on in
-      get-insert name_cmp_total s.plain.waiting (name_of r) r.frame (node, number)
-      ∙ ap (λ b. cond b (Some r.frame) (get s.plain.waiting (node, number))) (other_name (node, number) (name_of r) apart)
+      get-insert name_cmp_total s.plain.waiting (request_name r) r.frame (node, number)
+      ∙ ap (λ b. cond b (Some r.frame) (get s.plain.waiting (node, number))) (other_name (node, number) (request_name r) apart)
       ∙ none_before apart
 
   none_after : get (after_disturbed s r).plain.waiting (node, number) ≡ None
   none_after =
       elim (is_off_in (counts_after_disturbed s.counts r.node) r.node) as (λ b. is_off_in (counts_after_disturbed s.counts r.node) r.node ≡ b
-      → get (cond b (retain_keys s.plain.waiting (λ name. not (eqb name.0 r.node))) (insert s.plain.waiting (name_of r) r.frame)) (node, number) ≡ None) [
+      → get (cond b (retain_keys s.plain.waiting (λ name. not (eqb name.0 r.node))) (insert s.plain.waiting (request_name r) r.frame)) (node, number) ≡ None) [
         | true ↦ λ _. none_dropped
         | false ↦ λ on. none_waits_again on
       ] refl
@@ -107,8 +107,8 @@ sound_begun : (s : ErrorState) (now : ℕ) (r : Waiting) → IsSoundErrors s →
 sound_begun s now r h waits = record {
   takes_time = h.takes_time;
   none_waits = λ node number off.
-      get-remove name_cmp_total s.plain.waiting (name_of r) (node, number)
-      ∙ elim (eq_by_cmp name_cmp (node, number) (name_of r)) as (λ b. cond b None (get s.plain.waiting (node, number)) ≡ None) [
+      get-remove name_cmp_total s.plain.waiting (request_name r) (node, number)
+      ∙ elim (eq_by_cmp name_cmp (node, number) (request_name r)) as (λ b. cond b None (get s.plain.waiting (node, number)) ≡ None) [
         | true ↦ refl
         | false ↦ h.none_waits node number off
       ];

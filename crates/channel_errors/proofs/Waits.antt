@@ -9,7 +9,7 @@ use Rattle.std.proofs.lemmas.Bool.Decides.{nat_tests, eqb_tells}
 use Rattle.can_frame.specs.Frame.{FrameFields}
 use Rattle.can_bus.specs.declared.waiting.Waiting.{Waiting}
 use Rattle.can_bus.specs.declared.transmission.Transmission.{Transmission}
-use Rattle.can_bus.specs.Waiting.{RequestName, name_cmp, name_of, entry_of, request_at, members}
+use Rattle.can_bus.specs.Waiting.{RequestName, name_cmp, request_name, entry_of, request_at, members}
 use Rattle.can_bus.specs.Bus.{BusState, next_number, last_number, rank, with_rank, with_ranks, transmission_with_rank, after_request}
 use Rattle.can_bus.proofs.Requests.{name_cmp_total}
 use Rattle.can_bus.proofs.RankLemmas.{with_ranks-is}
@@ -43,11 +43,11 @@ module _ (s : BusState) (m : ℕ) where
   none_ranked q apart (d ∷ es) none =
       let parts = not_first (eq_by_cmp name_cmp q d.0) d.1 (find name_cmp q es) none in
       let r : Waiting = with_rank s m (request_at d) in
-      let differs : eq_by_cmp name_cmp q (name_of r) ≡ false =
+      let differs : eq_by_cmp name_cmp q (request_name r) ≡ false =
       elim (eqb_tells d.0.0 m) [
-        | inl own ↦ other_name q (name_of r) (λ same. apart (same ∙ with_rank_node (request_at d) ∙ own.1))
+        | inl own ↦ other_name q (request_name r) (λ same. apart (same ∙ with_rank_node (request_at d) ∙ own.1))
         | inr other ↦
-            ap (λ b. eq_by_cmp name_cmp q (name_of (cond b (record (request_at d) { number = rank s m d.0.1 }) (request_at d)))) other.0
+            ap (λ b. eq_by_cmp name_cmp q (request_name (cond b (record (request_at d) { number = rank s m d.0.1 }) (request_at d)))) other.0
             ∙ parts.0
       ] in
       ap (λ b. cond b (Some r.frame) (find name_cmp q (map entry_of (map (with_rank s m) (map request_at es))))) differs

@@ -12,7 +12,7 @@ use Rattle.can_bus.specs.declared.transmission.Transmission.{Transmission}
 use Rattle.can_bus.specs.declared.bus.Ended.{Ended}
 use Rattle.can_bus.specs.Meaning.{BusMeaning}
 use Rattle.can_bus.specs.Transmission.{time_on_wire}
-use Rattle.can_bus.specs.Waiting.{Requests, name_of}
+use Rattle.can_bus.specs.Waiting.{Requests, request_name}
 use Rattle.can_bus.specs.Bus.{BusState, BitTakesTime}
 use Rattle.can_bus.specs.Bus as channel
 
@@ -96,7 +96,7 @@ after_sent s r = record s {
 abbrev pub waiting_after_disturbed : Requests → List ℕ → Waiting → Requests
 waiting_after_disturbed waiting counts r =
     if is_off_in counts r.node then retain_keys waiting (λ name. not (name.0 == r.node))
-    else insert waiting (name_of r) r.frame
+    else insert waiting (request_name r) r.frame
 
 -- the bus after the request's frame was disturbed: the wire is empty, and its node's count is 8 more
 abbrev pub after_disturbed : ErrorState → Waiting → ErrorState

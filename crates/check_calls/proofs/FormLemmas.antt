@@ -15,7 +15,7 @@ use Rattle.capl_tree.specs.declared.statement.Stmt.{Stmt, Row_of-Stmt, end_of-St
 use Rattle.capl_tree.specs.declared.statement.Stmt.TheBlock.{Row_of-Arm, end_of-Arm, more_of-Arm, Row_of-Group, end_of-Group, more_of-Group, items-the_row-Stmt, items-the_row-Arm, items-the_row-Group, items_hidden-the_row-Stmt-0, items_shown-the_row-Stmt-0, shown-the_row-Stmt-0, items_hidden-the_row-Arm-1, items_hidden-the_row-Group-3}
 use Rattle.capl_tree.specs.declared.statement.Stmt.TheVariants as stmt
 use Rattle.capl_tree.proofs.FormLemmas as shape
-use Rattle.capl_meaning.specs.Calls.{calls_in, calls_in_field, calls_in_labels, calls_in_part, calls_in_row, calls_of, calls_of_arms, calls_of_groups, calls_of_row}
+use Rattle.capl_meaning.specs.Calls.{calls_in, calls_in_field, calls_in_labels, calls_in_part, calls_in_row, names_called, calls_of_arms, calls_of_groups, calls_of_row}
 use Rattle.check_calls.specs.Callees.{calls_of_all}
 use Rattle.check_calls.specs.Inside.Added.{calls_in_all, calls_of_cases, calls_of_list, calls_of_other}
 
@@ -85,22 +85,22 @@ call_calls e name args at is =
 pub ruleset in_form = (paren_calls, cast_calls, unary_calls, post_calls, index_calls, member_calls, bytes_calls, binary_calls, assign_calls, cond_calls, call_calls)
 
 -- `while`
-pub while_calls : (s : Stmt) (test : Expr) (body : Stmt) → s ≡ stmt.While test body → calls_of s ≡ calls_in test ++ calls_of body
-while_calls s test body is = ap calls_of (is ∙ shape.while_form test body)
+pub while_calls : (s : Stmt) (test : Expr) (body : Stmt) → s ≡ stmt.While test body → names_called s ≡ calls_in test ++ names_called body
+while_calls s test body is = ap names_called (is ∙ shape.while_form test body)
 
 -- `do`
-pub do_calls : (s body : Stmt) (test : Expr) → s ≡ stmt.Do body test → calls_of s ≡ calls_of body ++ calls_in test
-do_calls s body test is = ap calls_of (is ∙ shape.do_form body test)
+pub do_calls : (s body : Stmt) (test : Expr) → s ≡ stmt.Do body test → names_called s ≡ names_called body ++ calls_in test
+do_calls s body test is = ap names_called (is ∙ shape.do_form body test)
 
 -- `for`
 pub for_calls : (s : Stmt) (init test step : Option Expr) (body : Stmt) → s ≡ stmt.For init test step body
-    → calls_of s ≡ calls_in_part init ++ (calls_in_part test ++ (calls_in_part step ++ calls_of body))
-for_calls s init test step body is = ap calls_of (is ∙ shape.for_form init test step body)
+    → names_called s ≡ calls_in_part init ++ (calls_in_part test ++ (calls_in_part step ++ names_called body))
+for_calls s init test step body is = ap names_called (is ∙ shape.for_form init test step body)
 
 -- a row of statements has what its list has
 row-list : (n : _) (row : Row_of-Stmt n) → calls_of_row row ≡ calls_of_all (items-the_row-Stmt n row)
 row-list n end_of-Stmt = refl
-row-list n (more_of-Stmt s row) = ap (λ l. calls_of s ++ l) (row-list _ row)
+row-list n (more_of-Stmt s row) = ap (λ l. names_called s ++ l) (row-list _ row)
 
 -- the row in a block
 abbrev body_of : Stmt → (n : Count) × Row_of-Stmt n
@@ -108,17 +108,17 @@ body_of (stmt.Block' _ row) = (_, row)
 body_of _ = (_, end_of-Stmt)
 
 -- a block
-pub block_calls : (s : Stmt) (body : List Stmt) → s ≡ stmt.Block body → calls_of s ≡ calls_of_all body
+pub block_calls : (s : Stmt) (body : List Stmt) → s ≡ stmt.Block body → names_called s ≡ calls_of_all body
 block_calls s body is =
     let row = body_of (stmt.Block body) in
-    ap calls_of is ∙ row-list row.0 row.1 ∙ ap calls_of_all (items_hidden-the_row-Stmt-0 body)
+    ap names_called is ∙ row-list row.0 row.1 ∙ ap calls_of_all (items_hidden-the_row-Stmt-0 body)
 
 -- a row of arms
 arms-list : (n : _) (row : Row_of-Arm n) → calls_of_arms row ≡ calls_of_list (items-the_row-Arm n row)
 arms-list n end_of-Arm = refl
 arms-list n (more_of-Arm test body row) =
-    ap (λ l. calls_in test ++ (calls_of body ++ l)) (arms-list _ row)
-    ∙ sym (append_assoc (calls_in test) (calls_of body) (calls_of_list (items-the_row-Arm _ row)))
+    ap (λ l. calls_in test ++ (names_called body ++ l)) (arms-list _ row)
+    ∙ sym (append_assoc (calls_in test) (names_called body) (calls_of_list (items-the_row-Arm _ row)))
 
 -- the row in an `if`
 abbrev arms_of : Stmt → (n : Count) × Row_of-Arm n
@@ -127,16 +127,16 @@ arms_of _ = (_, end_of-Arm)
 
 -- `if`
 pub if_calls : (s : Stmt) (arms : List Arm) (other : Option Stmt) → s ≡ stmt.If arms other
-    → calls_of s ≡ calls_of_list arms ++ calls_of_other other
+    → names_called s ≡ calls_of_list arms ++ calls_of_other other
 unfolding Rattle.capl_tree.specs.declared.statement.Stmt.TheBlock.hidden-the_row-Arm-1 denote.Hole.Carrier.hidden
 if_calls s arms None is =
     let row = arms_of (stmt.If arms None) in
-    ap calls_of is
+    ap names_called is
     ∙ ap (λ l. l ++ []) (arms-list row.0 row.1 ∙ ap calls_of_list (items_hidden-the_row-Arm-1 arms))
 if_calls s arms (Some body) is =
     let row = arms_of (stmt.If arms (Some body)) in
-    ap calls_of is
-    ∙ ap (λ l. l ++ calls_of body) (arms-list row.0 row.1 ∙ ap calls_of_list (items_hidden-the_row-Arm-1 arms))
+    ap names_called is
+    ∙ ap (λ l. l ++ names_called body) (arms-list row.0 row.1 ∙ ap calls_of_list (items_hidden-the_row-Arm-1 arms))
 
 -- a row of groups
 groups-list : (n : _) (row : Row_of-Group n) → calls_of_groups row ≡ calls_of_cases (items-the_row-Group n row)
@@ -155,10 +155,10 @@ groups_of _ = (_, end_of-Group)
 
 -- `switch`
 pub switch_calls : (s : Stmt) (on : Expr) (groups : List Group) → s ≡ stmt.Switch on groups
-    → calls_of s ≡ calls_in on ++ calls_of_cases groups
+    → names_called s ≡ calls_in on ++ calls_of_cases groups
 switch_calls s on groups is =
     let row = groups_of (stmt.Switch on groups) in
-    ap calls_of is
+    ap names_called is
     ∙ ap (λ l. calls_in on ++ l) (groups-list row.0 row.1 ∙ ap calls_of_cases (items_hidden-the_row-Group-3 groups))
 
 -- each form of statement

@@ -8,7 +8,7 @@ use Rattle.std.proofs.lemmas.Bool.Decides.{nat_tests}
 use Rattle.std.proofs.lemmas.List.{length-map}
 use Rattle.std.proofs.lemmas.Option.{get_or_from_slice_get, same_Some, slice_get-map, slice_get_within}
 use Rattle.capl_meaning.specs.Names.{Callee, Function, Names, OfLanguage, OfProgram, Unknown, callee}
-use Rattle.capl_meaning.specs.Calls.{called_by, called_by_number, calls_of, function_numbered, number_of_callee, reaches, reaches_within}
+use Rattle.capl_meaning.specs.Calls.{called_by, called_by_number, names_called, function_numbered, number_of_callee, reaches, reaches_within}
 use Rattle.check_calls.specs.Callees.{called, callees, function_called, functions_at}
 use Rattle.check_calls.specs.Graph.{AreCallees, AreRanked, Has, Keeps, Leads}
 use Rattle.check_calls.specs.Inside.Search.{AllPass, IsClosed}
@@ -44,18 +44,18 @@ called_numbers names (name ∷ all) = by (callee names name) (called_numbers nam
 
 -- what a function calls
 called_of : (names : Names) (i : ℕ) (f : Function) → AreNumbered names → slice_get names.functions i ≡ Some f →
-    called_by_number names f.number ≡ map (λ g. g.number) (called names (flat_map calls_of f.body))
+    called_by_number names f.number ≡ map (λ g. g.number) (called names (flat_map names_called f.body))
 called_of names i f are at =
-    ap (λ o. option_map_or (called_by names) o []) (are i f at) ∙ called_numbers names (flat_map calls_of f.body)
+    ap (λ o. option_map_or (called_by names) o []) (are i f at) ∙ called_numbers names (flat_map names_called f.body)
 
 -- the row of a function
 row_of : (names : Names) (rows : List (List ℕ)) (i : ℕ) (f : Function) → AreCallees names rows → slice_get names.functions i ≡ Some f →
     (row : List ℕ) × (slice_get rows i ≡ Some row)
-    × (map (slice_get names.functions) row ≡ map (λ g. Some g) (called names (flat_map calls_of f.body)))
+    × (map (slice_get names.functions) row ≡ map (λ g. Some g) (called names (flat_map names_called f.body)))
 unfolding callees functions_at
 row_of names rows i f are at =
-    let there = ap (λ l. slice_get l i) are ∙ at_map (λ g. callees names (flat_map calls_of g.body)) names.functions i f at in
-    map_at (functions_at names) rows i (callees names (flat_map calls_of f.body)) there
+    let there = ap (λ l. slice_get l i) are ∙ at_map (λ g. callees names (flat_map names_called g.body)) names.functions i f at in
+    map_at (functions_at names) rows i (callees names (flat_map names_called f.body)) there
 
 -- what a function leads to is called by it
 pub leads_called : (names : Names) (rows : List (List ℕ)) (i j : ℕ) (f : Function) → AreCallees names rows → AreNumbered names →
@@ -66,13 +66,13 @@ leads_called names rows i j f are numbered at leads =
     let k = leads.2.0 in
     let here : slice_get row.0 k ≡ Some j = ap (λ (l : List ℕ). slice_get l k) (sym same) ∙ leads.2.1 in
     let mapped = sym (ap (λ l. slice_get l k) row.2) ∙ at_map (slice_get names.functions) row.0 k j here in
-    let g = map_at (λ g. Some g) (called names (flat_map calls_of f.body)) k (slice_get names.functions j) mapped in (
+    let g = map_at (λ g. Some g) (called names (flat_map names_called f.body)) k (slice_get names.functions j) mapped in (
       g.0,
       sym g.2,
       (
         k,
         ap (λ (l : List ℕ). slice_get l k) (called_of names i f numbered at)
-            ∙ at_map (λ h. h.number) (called names (flat_map calls_of f.body)) k g.0 g.1,
+            ∙ at_map (λ h. h.number) (called names (flat_map names_called f.body)) k g.0 g.1,
       ),
     )
 
@@ -83,9 +83,9 @@ pub called_leads : (names : Names) (rows : List (List ℕ)) (i z : ℕ) (f : Fun
 called_leads names rows i z f are numbered at call =
     let row = row_of names rows i f are at in
     let k = call.0 in
-    let g = map_at (λ h. h.number) (called names (flat_map calls_of f.body)) k z
+    let g = map_at (λ h. h.number) (called names (flat_map names_called f.body)) k z
     (ap (λ (l : List ℕ). slice_get l k) (sym (called_of names i f numbered at)) ∙ call.1) in
-    let mapped = ap (λ l. slice_get l k) row.2 ∙ at_map (λ h. Some h) (called names (flat_map calls_of f.body)) k g.0 g.1 in
+    let mapped = ap (λ l. slice_get l k) row.2 ∙ at_map (λ h. Some h) (called names (flat_map names_called f.body)) k g.0 g.1 in
     let j = map_at (slice_get names.functions) row.0 k (Some g.0) mapped in
     (j.0, g.0, (row.0, row.1, (k, j.1)), j.2, g.2)
 
@@ -118,7 +118,7 @@ reached_keeps names rows from are numbered i j leads is =
 pub rows_length : (names : Names) (rows : List (List ℕ)) → AreCallees names rows → length rows ≡ length names.functions
 rows_length names rows are =
     sym (length-map rows (functions_at names)) ∙ ap length are
-    ∙ length-map names.functions (λ f. callees names (flat_map calls_of f.body))
+    ∙ length-map names.functions (λ f. callees names (flat_map names_called f.body))
 
 -- the place of a function has a row
 pub place_within : (names : Names) (rows : List (List ℕ)) (i : ℕ) (f : Function) → AreCallees names rows →

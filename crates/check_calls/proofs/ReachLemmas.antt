@@ -8,7 +8,7 @@ use Rattle.std.proofs.lemmas.Bool.{false≢true}
 use Rattle.std.proofs.lemmas.Bool.Decides.{nat_tests}
 use Rattle.capl_meaning.specs.declared.builtin.Builtin.{Builtin}
 use Rattle.capl_meaning.specs.Names.{Function, Names, builtin_named, callee, callee_before, callee_by}
-use Rattle.capl_meaning.specs.Calls.{called_by, called_by_number, calls_of, function_numbered, number_of_callee, reaches, reaches_within}
+use Rattle.capl_meaning.specs.Calls.{called_by, called_by_number, names_called, function_numbered, number_of_callee, reaches, reaches_within}
 use Rattle.check_calls.specs.Graph.{Has}
 use Rattle.check_calls.proofs.CountLemmas.{AllPass, counted, counted_length, settles}
 
@@ -144,7 +144,7 @@ called_function names from to call = by (function_numbered names from) call
     by : (o : Option Function) → Has (option_map_or (called_by names) o []) to → (f : Function) × Has names.functions f × (f.number ≡ to)
     by None h = let no : None ≡ Some to = h.1 in cc
     by (Some f) h =
-        let r = kept_has (λ name. number_of_callee (callee names name)) (flat_map calls_of f.body) to h in
+        let r = kept_has (λ name. number_of_callee (callee names name)) (flat_map names_called f.body) to h in
         of_program names r.0 to r.1
 
 -- the functions from which a number is reached within some calls

@@ -1,7 +1,7 @@
 -- The functions that are called by names, and functions by their places among those of a program.
 use Rattle.std.specs.Prelude.{ℕ, List, flat_map, filter_map, map, slice_get, Option, Some, None}
 use Rattle.capl_tree.specs.declared.statement.Stmt.{Stmt}
-use Rattle.capl_meaning.specs.Calls.{calls_of}
+use Rattle.capl_meaning.specs.Calls.{names_called}
 use Rattle.capl_meaning.specs.Names.{Callee, Function, Names, OfProgram, callee}
 
 -- the function of the program that a call is of
@@ -23,4 +23,4 @@ functions_at names places = map (slice_get names.functions) places
 
 -- the names that are called in statements
 abbrev pub calls_of_all : List Stmt → List (List ℕ)
-calls_of_all statements = flat_map calls_of statements
+calls_of_all statements = flat_map names_called statements

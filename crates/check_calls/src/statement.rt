@@ -2,7 +2,7 @@
 
 ghost use Rattle.std.specs.Prelude.{◌≡◌, ◌++◌, OnOk, flat_map};
 ghost use Rattle.std.specs.Option.{option_to_list};
-ghost use Rattle.capl_meaning.specs.Calls.{calls_in_declarator, calls_in_init, calls_in_item, calls_in_labels, calls_of};
+ghost use Rattle.capl_meaning.specs.Calls.{calls_in_declarator, calls_in_init, calls_in_item, calls_in_labels, names_called};
 ghost use Rattle.check_calls.specs.Callees.{calls_of_all};
 ghost use Rattle.check_calls.specs.Inside.Added.{AreAdded, calls_of_cases, calls_of_list, calls_of_other};
 
@@ -105,7 +105,7 @@ fn add_calls_in_labels(names: &Names, labels: &[Label], into: &mut Vec<u32>) -> 
 #[tactic(auto, using(crate::proofs::FormLemmas::of_form, crate::proofs::CalleeLemmas::added))]
 #[cycle(calls)]
 fn add_calls_of(names: &Names, statement: &Stmt, into: &mut Vec<u32>) -> Result<(), NoMemory>
-    ensures { OnOk result (AreAdded names.now into.new.items into.old.items (calls_of statement.now)) }
+    ensures { OnOk result (AreAdded names.now into.new.items into.old.items (names_called statement.now)) }
 {
     match statement {
         Stmt::Empty | Stmt::Break { .. } | Stmt::Continue { .. } => {}

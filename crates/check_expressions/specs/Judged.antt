@@ -6,7 +6,7 @@ use Rattle.capl_tree.specs.declared.expr.Field.TheVariants.{Named}
 use Rattle.capl_tree.specs.Forms as tree
 use Rattle.capl_meaning.specs.declared.sort.Sort.{Sort}
 use Rattle.capl_meaning.specs.Names.{Scope}
-use Rattle.capl_meaning.specs.Format.{text_in}
+use Rattle.capl_meaning.specs.Format.{quoted_text}
 use Rattle.capl_meaning.specs.Message.{is_message_place, is_number_place}
 use Rattle.capl_meaning.specs.Sort.{sort_of}
 use Rattle.check_expressions.specs.declared.judged.Judged.{Judged}
@@ -23,7 +23,7 @@ sorts_in s es = map (sort_of s) es
 -- the bytes of the first of expressions, where it is a text
 abbrev pub text_in_first : List Expr → Option (List ℕ)
 text_in_first [] = None
-text_in_first (e ∷ es) = text_in e
+text_in_first (e ∷ es) = quoted_text e
 
 -- of which sort the index of payload bytes is
 abbrev pub index_sort : Scope → Field → Option Sort

@@ -1,8 +1,8 @@
 // Broken rules.
 
 ghost use Rattle.std.specs.Prelude.{◌≡◌};
+ghost use Rattle.texts.specs.Rule.{source_rule};
 ghost use Rattle.capl_meaning.specs.ExpressionRules.{broken_where};
-ghost use Rattle.capl_meaning.specs.Rule.{source_rule};
 ghost use Rattle.check_names.specs.First.{noted};
 ghost use Rattle.check_sorts.specs.Scope.{scope_in};
 

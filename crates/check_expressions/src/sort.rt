@@ -1,7 +1,7 @@
 // What sorts are.
 
 ghost use Rattle.std.specs.Prelude.{◌≡◌};
-ghost use Rattle.capl_meaning.specs.ExpressionRules.{is_array, is_message, is_timer};
+ghost use Rattle.capl_meaning.specs.ExpressionRules.{is_array, is_message_sort, is_timer_sort};
 
 use capl_meaning::Sort;
 
@@ -14,14 +14,14 @@ pub(crate) fn is_array(sort: Sort) -> bool
 
 /// Whether a sort is a message.
 pub(crate) fn is_message(sort: Sort) -> bool
-    ensures { result ≡ is_message sort }
+    ensures { result ≡ is_message_sort sort }
 {
     matches!(sort, Sort::Message)
 }
 
 /// Whether a sort is a timer.
 pub(crate) fn is_timer(sort: Sort) -> bool
-    ensures { result ≡ is_timer sort }
+    ensures { result ≡ is_timer_sort sort }
 {
     matches!(sort, Sort::Timer)
 }

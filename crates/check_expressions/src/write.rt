@@ -3,7 +3,7 @@
 ghost use Rattle.std.specs.Prelude.{◌≡◌, OnOk, Some, flat_map, length};
 ghost use Rattle.std.specs.List.{zip};
 ghost use Rattle.capl_meaning.specs.ExpressionRules.{codes_rules, format_rules, shown_rule};
-ghost use Rattle.capl_meaning.specs.Format.{text_in};
+ghost use Rattle.capl_meaning.specs.Format.{quoted_text};
 ghost use Rattle.capl_meaning.specs.Sort.{sort_of};
 ghost use Rattle.check_names.specs.First.{noted};
 ghost use Rattle.check_sorts.specs.Scope.{scope_in};
@@ -81,7 +81,7 @@ fn note_format(
     requires format { sort ≡ sort_of (scope_in scope) format.now }
     requires sorts { sorts.now ≡ sorts_in (scope_in scope) args.now }
     ensures { OnOk result (first.new ≡
-        noted first.old (format_rules (scope_in scope.entry) format.now (text_in format.now) args.now)) }
+        noted first.old (format_rules (scope_in scope.entry) format.now (quoted_text format.now) args.now)) }
 {
     let at = format.place();
     let Some(text) = text_in(format) else {

@@ -15,7 +15,7 @@ use Rattle.capl_meaning.specs.ExpressionRules.{integer_offences}
 use Rattle.capl_meaning.specs.Names.{Names, Scope, inside, names_of, outside}
 use Rattle.capl_meaning.specs.Offences.{offences_of, part_offences}
 use Rattle.capl_meaning.specs.ProcedureRules.{head_offences, inner_name_offences, outer_name_offences, purpose_offences}
-use Rattle.capl_meaning.specs.StatementRules.{Around, alone_offences, in_body, in_loop, in_switch, label_offences, labels_of, labels_rule, needed_offences, offences_of_arms, offences_of_else, offences_of_groups, offences_of_statements, statement_offences}
+use Rattle.capl_meaning.specs.StatementRules.{Around, alone_offences, in_body, in_loop, in_switch, label_offences, labels_said, labels_rule, needed_offences, offences_of_arms, offences_of_else, offences_of_groups, offences_of_statements, statement_offences}
 use Rattle.capl_meaning.specs.Sort.{sort_of}
 use Rattle.capl_meaning.specs.Variable.{Part, Globals, Procedure, declarations_in, declarations_of, declarations_of_arms, declarations_of_else, declarations_of_groups, parts_of}
 use Rattle.check_names.specs.Named.{head_and_types, named_offences, names_inside, types_offences}
@@ -70,7 +70,7 @@ mutual
       (second (alone_offences s step) (types_offences s (declarations_in body)) _ (statement_within s in_loop body)))
   statement_within s around (stmt.Switch' on shape groups) =
       second (integer_offences s on) (types_offences s (declarations_of_groups groups)) _
-      (second (labels_rule s (sort_of s on) (labels_of groups)) (types_offences s (declarations_of_groups groups)) _
+      (second (labels_rule s (sort_of s on) (labels_said groups)) (types_offences s (declarations_of_groups groups)) _
       (groups_within s (in_switch around) _ groups))
   statement_within s around (stmt.Break at) = λ x is. absurd is
   statement_within s around (stmt.Continue at) = λ x is. absurd is

@@ -6,7 +6,7 @@ use Rattle.std.specs.Option.{option_or}
 use Rattle.std.specs.Str.{bytes_eq}
 use Rattle.std.proofs.lemmas.Bool.Decides.{nat_tests}
 use Rattle.run_effects.specs.declared.event.Selector.{Selector}
-use Rattle.capl_meaning.specs.ProcedureRules.{Channels, Both, First, Second, Purpose, ForFrames, ForTimer, ForKey, Told, collide, hold_first, hold_second, overlap, same_key, share_channel}
+use Rattle.capl_meaning.specs.ProcedureRules.{Channels, Both, First, Second, Purpose, ForFrames, ForTimer, ForKey, Told, collide, hold_first, hold_second, overlap, same_pressed_key, share_channel}
 use Rattle.check_names.specs.declared.purposes.Purposes.{Purposes}
 use Rattle.check_names.specs.declared.ranges.Ranges.{Ranges}
 use Rattle.check_names.specs.declared.table.NameTable.{NameTable}
@@ -145,7 +145,7 @@ above None = omega arith
 above (Some n) = omega arith
 
 -- keys are one where their numbers are
-keys_meet : (a b : Option ℕ) → meet (number_of_key a, number_of_key a) (number_of_key b, number_of_key b) ≡ same_key a b
+keys_meet : (a b : Option ℕ) → meet (number_of_key a, number_of_key a) (number_of_key b, number_of_key b) ≡ same_pressed_key a b
 keys_meet None None = grind (arith, nat_tests)
 keys_meet None (Some n) = grind (arith, nat_tests)
 keys_meet (Some m) None = grind (arith, nat_tests)
@@ -174,7 +174,7 @@ collide_as (ForFrames here a) (ForKey b) one two has = frames_and_key here a (nu
 collide_as (ForTimer a) b one two has = elim has [ ]
 collide_as (ForKey a) (ForFrames there b) one two has = key_and_frames there b (number_of_key a) two.0 two.1 (above a)
 collide_as (ForKey a) (ForTimer b) one two has = refl
-collide_as (ForKey a) (ForKey b) one two has = rw (keys_meet a b) (one_meets (same_key a b))
+collide_as (ForKey a) (ForKey b) one two has = rw (keys_meet a b) (one_meets (same_pressed_key a b))
 
 -- the numbers that were told, and the purposes
 any_as : (a : Purpose) (earlier : List Told) → IsOrdinary a → HasNumbers a → AllByRecursion (λ told. IsOrdinary told.purpose) earlier

@@ -4,7 +4,7 @@ ghost use Rattle.std.specs.Prelude.{◌≡◌, ◌≤◌, ◌<◌, ◌++◌, IfS
 ghost use Rattle.std.specs.Bool.{OnTrue};
 ghost use Rattle.std.specs.Option.{option_map};
 ghost use Rattle.capl_meaning.specs.DeclarationRules.{is_identifier, is_in_range};
-ghost use Rattle.capl_meaning.specs.ProcedureRules.{all_on, channels_of, hold_first, hold_second, identifiers_on, is_range, key_of, number_in, on_second, ranges_of, selection_place, selector_of, selector_of_message, selector_of_numbers, selector_place};
+ghost use Rattle.capl_meaning.specs.ProcedureRules.{all_on, channels_of, hold_first, hold_second, identifiers_on, is_range, selected_key, selector_number, on_second, ranges_of, selection_place, selector_of, selector_of_message, selector_of_numbers, selector_place};
 ghost use Rattle.check_names.specs.Selector.{IsProper, number_of, selector_of_range};
 
 use crate::names::Names;
@@ -36,7 +36,7 @@ pub(crate) struct Spelled {
 
 /// The number of a selector. A selector has no other expressions.
 pub(crate) fn number_in(e: &Expr) -> Spelled
-    ensures { number_of result ≡ number_in e.now }
+    ensures { number_of result ≡ selector_number e.now }
 {
     match e {
         Expr::Num { value, ext, .. } => Spelled {
@@ -75,7 +75,7 @@ pub(crate) fn is_in_range(id: u32) -> bool
 
 /// The selection key of an identifier, or None where the number is none.
 fn key_of(number: Spelled) -> Option<u32>
-    ensures value { result ≡ key_of (number_of number) }
+    ensures value { result ≡ selected_key (number_of number) }
     ensures room { IfSome result (λ key. key < 0xA0000000) }
 {
     if !is_identifier(number.value, number.extended) {

@@ -14,7 +14,7 @@ use Rattle.capl_tree.specs.declared.expr.Expr.TheVariants as expr
 use Rattle.capl_tree.specs.Forms as tree
 use Rattle.capl_meaning.specs.declared.sort.Sort.{Sort}
 use Rattle.capl_meaning.specs.declared.sort.Sort.TheVariants as sort
-use Rattle.capl_meaning.specs.Constant.{Constant, chosen, constant, constant_value, is_before, is_constant, number_value, operator_value, value_of_name}
+use Rattle.capl_meaning.specs.Constant.{Constant, chosen, constant, constant_value, is_before, is_constant, number_value, operator_value, constant_of_name}
 use Rattle.capl_meaning.specs.Names.{Scope, direction, means}
 use Rattle.capl_meaning.specs.Operator.{prefix_value}
 use Rattle.capl_meaning.specs.Sort.{is_bad, kind_in, number_from, sort_of, sort_of_binary, sort_of_choice, sort_of_direction, sort_of_form, sort_of_name, sort_of_number, sort_of_prefix, working_kind}
@@ -57,7 +57,7 @@ direction_says (Some n) = record { constant = refl; sort = refl; value = refl }
 
 -- a name
 name_says : (values : ℕ → ℕ → Option ℤ) (known : List Constant) → AreValues values known → (name : List ℕ) (m : Option Variable)
-    → Says (is_some (value_of_name known name m)) (sort_of_name name m) (value_of_name known name m) (name_by values name m)
+    → Says (is_some (constant_of_name known name m)) (sort_of_name name m) (constant_of_name known name m) (name_by values name m)
 name_says values known are name None = direction_says (direction name)
 name_says values known are name (Some v) = found_says (sort_of_form v.form) (values v.file v.token) _ (are v.file v.token)
 

@@ -9,13 +9,13 @@ use Rattle.capl_tree.specs.declared.expr.Field.{Field}
 use Rattle.capl_tree.specs.declared.expr.Field.TheVariants as field
 use Rattle.capl_tree.proofs.FormLemmas as form
 use Rattle.capl_meaning.specs.Expression.{timer_in}
-use Rattle.capl_meaning.specs.Format.{text_in}
+use Rattle.capl_meaning.specs.Format.{quoted_text}
 use Rattle.capl_meaning.specs.Message.{array_in, is_number_place, is_open_array, is_open_field, is_open_part, message_in}
 use Rattle.capl_meaning.specs.Names.{Scope}
 
 -- a text under parentheses
-pub paren_text : (e inner : Expr) (at : ℕ) → e ≡ expr.Paren inner at → text_in e ≡ text_in inner
-paren_text e inner at is = ap text_in (is ∙ form.paren_form inner at)
+pub paren_text : (e inner : Expr) (at : ℕ) → e ≡ expr.Paren inner at → quoted_text e ≡ quoted_text inner
+paren_text e inner at is = ap quoted_text (is ∙ form.paren_form inner at)
 
 -- a message under parentheses
 pub paren_message : (s : Scope) (e inner : Expr) (at : ℕ) → e ≡ expr.Paren inner at → message_in s e ≡ message_in s inner

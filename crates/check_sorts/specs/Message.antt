@@ -16,7 +16,7 @@ held_in names (held.Variable number signals) =
     option_map (λ v. meant.HeldVariable v (signals_in signals)) (slice_get names.variables number)
 
 -- what a name behind the point is
-abbrev pub member_in : Member → meant.Member
+abbrev pub member_in : Member → meant.NamedMember
 member_in (member.Field f) = meant.IsField f
 member_in (member.Signal layout) = meant.IsSignal layout
 member_in member.Unusable = meant.IsUnusable

@@ -3,7 +3,7 @@
 ghost use Rattle.std.specs.Prelude.{◌≡◌, Option, Some, false, slice_get};
 ghost use Rattle.std.specs.Option.{option_and_then, option_copied, option_map, option_map_or};
 ghost use Rattle.capl_meaning.specs.Expression.{timer_by, timer_in};
-ghost use Rattle.capl_meaning.specs.Format.{text_in};
+ghost use Rattle.capl_meaning.specs.Format.{quoted_text};
 ghost use Rattle.capl_meaning.specs.Message.{array_by, array_in, can_be_used, field_named, held_by, held_this, is_assignable_field, is_message_place, is_number_place, is_open_array, is_open_field, is_open_member, is_open_number, is_open_part, is_usable, member_named, member_of_signal, member_of_signals, message_in, signal_named, signals_of_type};
 ghost use Rattle.capl_meaning.specs.Message as meant;
 ghost use Rattle.capl_meaning.specs.Names.{Names, means, signals_by};
@@ -53,7 +53,7 @@ pub enum Member {
 /// The bytes of a text between quotes, under any parentheses; None of other expressions.
 #[tactic(auto, using(crate::proofs::MessageLemmas::paren_text))]
 pub fn text_in(e: &Expr) -> Option<&[u8]>
-    ensures { option_copied result ≡ text_in e.now }
+    ensures { option_copied result ≡ quoted_text e.now }
 {
     match e {
         Expr::Paren { inner, .. } => text_in(inner.get()),

@@ -8,7 +8,7 @@ use Rattle.std.specs.Ordering.{int_cmp, int_eq, is_eq}
 use Rattle.std.proofs.lemmas.Bool.Decides.{Decides-int_eq}
 use Rattle.std.proofs.lemmas.Cmp.{eq_by_cmp_equiv, int_cmp_total, int_ranked}
 use Rattle.capl_meaning.specs.StatementRules as meant
-use Rattle.capl_meaning.specs.StatementRules.{Said, same_saying}
+use Rattle.capl_meaning.specs.StatementRules.{SaidLabel, same_saying}
 use Rattle.check_statements.specs.declared.label.Seen.{Seen}
 use Rattle.check_statements.specs.Inside.Label.{Has}
 
@@ -30,7 +30,7 @@ same_number m n = by (int_cmp m n) refl (int_eq n m) refl
     by Greater is false test = sym test
 
 -- one more number
-pub more_number : (old new : Seen) (earlier : List Said) (said : Said) (n : ℤ) → said.saying ≡ meant.Case n → Has old earlier
+pub more_number : (old new : Seen) (earlier : List SaidLabel) (said : SaidLabel) (n : ℤ) → said.saying ≡ meant.Case n → Has old earlier
     → new.default ≡ old.default
     → ((q : ℤ) → contains int_cmp new.numbers q ≡ cond (is_eq (int_cmp n q)) true (contains int_cmp old.numbers q))
     → Has new (said ∷ earlier)
@@ -39,10 +39,10 @@ more_number old new earlier said n is has default numbers = record {
       numbers q ∙ by (is_eq (int_cmp n q)) (contains int_cmp old.numbers q)
       ∙ ap (λ (b : Bool). b || contains int_cmp old.numbers q) (same_number n q)
       ∙ ap (λ (b : Bool). int_eq q n || b) (has.numbers q)
-      ∙ ap (λ (s : meant.Saying). same_saying (meant.Case q) s || list_any (λ (t : Said). same_saying (meant.Case q) t.saying) earlier) (sym is);
+      ∙ ap (λ (s : meant.Saying). same_saying (meant.Case q) s || list_any (λ (t : SaidLabel). same_saying (meant.Case q) t.saying) earlier) (sym is);
   default =
       default ∙ has.default
-      ∙ ap (λ (s : meant.Saying). same_saying meant.Default s || list_any (λ (t : Said). same_saying meant.Default t.saying) earlier) (sym is);
+      ∙ ap (λ (s : meant.Saying). same_saying meant.Default s || list_any (λ (t : SaidLabel). same_saying meant.Default t.saying) earlier) (sym is);
 }
   where
     by : (a b : Bool) → cond a true b ≡ (a || b)
@@ -50,24 +50,24 @@ more_number old new earlier said n is has default numbers = record {
     by false b = refl
 
 -- one more `default`
-pub more_default : (old new : Seen) (earlier : List Said) (said : Said) → said.saying ≡ meant.Default → Has old earlier
+pub more_default : (old new : Seen) (earlier : List SaidLabel) (said : SaidLabel) → said.saying ≡ meant.Default → Has old earlier
     → new.default ≡ true → new.numbers ≡ old.numbers → Has new (said ∷ earlier)
 more_default old new earlier said is has default numbers = record {
   numbers = λ q.
       ap (λ s. contains int_cmp s q) numbers ∙ has.numbers q
-      ∙ ap (λ (s : meant.Saying). same_saying (meant.Case q) s || list_any (λ (t : Said). same_saying (meant.Case q) t.saying) earlier) (sym is);
+      ∙ ap (λ (s : meant.Saying). same_saying (meant.Case q) s || list_any (λ (t : SaidLabel). same_saying (meant.Case q) t.saying) earlier) (sym is);
   default =
       default
-      ∙ ap (λ (s : meant.Saying). same_saying meant.Default s || list_any (λ (t : Said). same_saying meant.Default t.saying) earlier) (sym is);
+      ∙ ap (λ (s : meant.Saying). same_saying meant.Default s || list_any (λ (t : SaidLabel). same_saying meant.Default t.saying) earlier) (sym is);
 }
 
 -- one more label that says nothing
-pub more_unclear : (old : Seen) (earlier : List Said) (said : Said) → said.saying ≡ meant.Unclear → Has old earlier → Has old (said ∷ earlier)
+pub more_unclear : (old : Seen) (earlier : List SaidLabel) (said : SaidLabel) → said.saying ≡ meant.Unclear → Has old earlier → Has old (said ∷ earlier)
 more_unclear old earlier said is has = record {
   numbers = λ q.
       has.numbers q
-      ∙ ap (λ (s : meant.Saying). same_saying (meant.Case q) s || list_any (λ (t : Said). same_saying (meant.Case q) t.saying) earlier) (sym is);
+      ∙ ap (λ (s : meant.Saying). same_saying (meant.Case q) s || list_any (λ (t : SaidLabel). same_saying (meant.Case q) t.saying) earlier) (sym is);
   default =
       has.default
-      ∙ ap (λ (s : meant.Saying). same_saying meant.Default s || list_any (λ (t : Said). same_saying meant.Default t.saying) earlier) (sym is);
+      ∙ ap (λ (s : meant.Saying). same_saying meant.Default s || list_any (λ (t : SaidLabel). same_saying meant.Default t.saying) earlier) (sym is);
 }

@@ -14,7 +14,7 @@ use Rattle.capl_meaning.specs.declared.offence.Offence.{Offence}
 use Rattle.capl_meaning.specs.ExpressionRules.{integer_offences}
 use Rattle.capl_meaning.specs.Names.{Scope}
 use Rattle.capl_meaning.specs.Sort.{sort_of}
-use Rattle.capl_meaning.specs.StatementRules.{Around, alone_offences, in_loop, in_switch, label_offences, labels_of, labels_rule, needed_offences, offences_of_arms, offences_of_groups, offences_of_statements, statement_offences}
+use Rattle.capl_meaning.specs.StatementRules.{Around, alone_offences, in_loop, in_switch, label_offences, labels_said, labels_rule, needed_offences, offences_of_arms, offences_of_groups, offences_of_statements, statement_offences}
 use Rattle.check_statements.specs.Statement.{all_offences, arm_offences, else_offences, group_offences, labels_in}
 
 -- `while`
@@ -89,7 +89,7 @@ groups-list s around n (more_of-Group labels shown body row) =
     ∙ sym (append_assoc (flat_map (label_offences s) labels) (all_offences s around list) (flat_map (group_offences s around) (items-the_row-Group _ row)))
 
 -- the labels in a row of groups
-labels-list : (n : _) (row : Row_of-Group n) → labels_of row ≡ labels_in (items-the_row-Group n row)
+labels-list : (n : _) (row : Row_of-Group n) → labels_said row ≡ labels_in (items-the_row-Group n row)
 labels-list n end_of-Group = refl
 labels-list n (more_of-Group labels shown body row) = ap (λ l. labels ++ l) (labels-list _ row)
 

@@ -4,7 +4,7 @@ ghost use Rattle.std.specs.Prelude.{◌≡◌, OnOk, flat_map, length};
 ghost use Rattle.capl_meaning.specs.InitialiserRules.{array_item_rules, initialiser_offences, is_above, item_offences, many_rules, message_item_rules, one_for_array, one_for_number, one_rules};
 ghost use Rattle.capl_meaning.specs.Message.{signals_of_type};
 ghost use Rattle.capl_meaning.specs.Sort.{sort_of};
-ghost use Rattle.capl_meaning.specs.Format.{text_in};
+ghost use Rattle.capl_meaning.specs.Format.{quoted_text};
 ghost use Rattle.capl_tree.specs.Place.{expression_place};
 ghost use Rattle.capl_meaning.specs.Constant.{length_at};
 ghost use Rattle.capl_meaning.specs.Variable.{form_of};
@@ -44,7 +44,7 @@ fn note_one_for_array(
 )
     requires { IsReady site.now }
     ensures { first.new ≡ noted first.old (one_for_array (place_of site.now) (expression_place e.now) kind
-        (length_at (place_of site.now) token size.now) (text_in e.now)) }
+        (length_at (place_of site.now) token size.now) (quoted_text e.now)) }
 {
     let elements = site.constants.length_at(site.scope, token, size);
     let broken = match (kind, text_in(e)) {
@@ -58,7 +58,8 @@ fn note_one_for_array(
 fn note_one_for_number(site: &Site, token: u32, e: &Expr, sort: Sort, first: &mut Option<Offence>)
     requires ready { IsReady site.now }
     requires sort { sort ≡ sort_of (place_of site.now) e.now }
-    ensures { first.new ≡ noted first.old (one_for_number (place_of site.now) token e.now (text_in e.now)) }
+    ensures { first.new ≡
+        noted first.old (one_for_number (place_of site.now) token e.now (quoted_text e.now)) }
 {
     match text_in(e) {
         Some(_) => note_broken(site.scope, true, e.place(), 27, first),

@@ -3,7 +3,7 @@
 ghost use Rattle.std.specs.Prelude.{◌≡◌, ◌++◌, ◌∷◌, [], IfOk, IfSome, List, OnOk};
 ghost use Rattle.std.specs.List.{list_any};
 ghost use Rattle.int_kinds.specs.Kind.{IsNumber};
-ghost use Rattle.capl_meaning.specs.StatementRules.{Said, labels_rule, same_saying, saying_of_case, saying_of_value};
+ghost use Rattle.capl_meaning.specs.StatementRules.{SaidLabel, labels_rule, same_saying, saying_of_case, saying_of_value};
 ghost use Rattle.check_names.specs.First.{noted};
 ghost use Rattle.check_names.specs.Variable.{lent};
 ghost use Rattle.check_statements.specs.Inside.Label.{Has, saying_in};
@@ -52,7 +52,7 @@ impl Seen {
 
     /// Whether a label so far says this.
     fn has(&self, saying: Saying) -> bool
-        ensures { (earlier : List Said) → Has self.now earlier →
+        ensures { (earlier : List SaidLabel) → Has self.now earlier →
             result ≡ list_any (λ said. same_saying (saying_in saying) said.saying) earlier }
     {
         match saying {
@@ -64,7 +64,7 @@ impl Seen {
 
     /// Takes what one more label says.
     fn add(&mut self, saying: Saying) -> Result<(), NoMemory>
-        ensures { (earlier : List Said) (said : Said) → said.saying ≡ saying_in saying →
+        ensures { (earlier : List SaidLabel) (said : SaidLabel) → said.saying ≡ saying_in saying →
             Has self.old earlier → OnOk result (Has self.new (said ∷ earlier)) }
     {
         match saying {

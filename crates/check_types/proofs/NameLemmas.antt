@@ -11,7 +11,7 @@ use Rattle.std.proofs.lemmas.Slice.Eq.{bytes_eq-Decides}
 use Rattle.capl_meaning.specs.Calls.{function_numbered}
 use Rattle.capl_meaning.specs.Names.{Function, Names, is_global}
 use Rattle.capl_meaning.specs.Procedure.{timer_named}
-use Rattle.capl_meaning.specs.Store.{key_of, timer_number}
+use Rattle.capl_meaning.specs.Store.{variable_key, timer_number}
 use Rattle.capl_meaning.specs.Variable.{Variable}
 use Rattle.typed_laws.specs.Laid.{IsAmong}
 use Rattle.check_names.specs.declared.function.DeclaredFunction.{DeclaredFunction}
@@ -44,7 +44,7 @@ is_named procedure name v = v.owner == procedure && bytes_eq name v.name
 -- the first one
 pub named_at : (names : Names) (procedure : ℕ) (name : List ℕ) (number : ℕ) →
     position (is_named procedure name) names.variables ≡ Some number →
-    (v : Variable) × (slice_get names.variables number ≡ Some v) × (key_of v ≡ record { owner = procedure; name = name })
+    (v : Variable) × (slice_get names.variables number ≡ Some v) × (variable_key v ≡ record { owner = procedure; name = name })
 named_at names procedure name number is =
     let first = at_first (is_named procedure name) number names.variables is in
     let v = first.0 in

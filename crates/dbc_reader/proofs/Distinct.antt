@@ -7,7 +7,7 @@ use Rattle.std.proofs.lemmas.List.{map-append, length-append, get_or_push, get_o
 use Rattle.std.proofs.lemmas.List.Folds.{list_any_at}
 use Rattle.std.proofs.lemmas.Slice.Eq.{bytes_eq-Decides}
 use Rattle.dbc_statements.specs.Token.{Placed, tokens_of}
-use Rattle.dbc_reader.specs.Database.{Said, nothing, is_independent, names_of, last_signals, with_signal, bare, unmarked, after_signal, after_statement, repeated_signal, repeated, change_first, with_float, with_mark, Lead, IsDatabase, AreDistinct}
+use Rattle.dbc_reader.specs.Database.{Said, nothing_said, is_independent, signal_names, last_signals, with_further_signal, bare, unmarked, after_signal, after_statement, repeated_signal, repeated_line, change_first, with_float, with_mark, Lead, IsDatabase, AreDistinct}
 use Rattle.dbc_statements.specs.declared.statement.Statement.{Statement}
 use Rattle.dbc_statements.specs.declared.statement.Statement.TheVariants as statement
 use Rattle.dbc_statements.specs.declared.statement.FloatMark.{FloatMark}
@@ -50,7 +50,7 @@ new_number ids id absent i d within same =
 -- each message's signals differ in their names
 abbrev AllSignals : List DbcMessage → Type 0
 AllSignals [] = Unit {0}
-AllSignals (m ∷ ms) = AllPairs ◌≢◌ (names_of m.signals) × AllSignals ms
+AllSignals (m ∷ ms) = AllPairs ◌≢◌ (signal_names m.signals) × AllSignals ms
 
 -- names and identifiers differ
 record Differ (ms : List DbcMessage) : Type 0 where
@@ -61,7 +61,7 @@ record Differ (ms : List DbcMessage) : Type 0 where
 no_pairs : {X : Type 0} → AllPairs (λ (a b : X). a ≢ b) []
 no_pairs i j d below within = absurd (omega (arith, within))
 
-signals-push : (ms : List DbcMessage) (m : DbcMessage) → AllSignals ms → AllPairs ◌≢◌ (names_of m.signals) → AllSignals (ms ++ m ∷ [])
+signals-push : (ms : List DbcMessage) (m : DbcMessage) → AllSignals ms → AllPairs ◌≢◌ (signal_names m.signals) → AllSignals (ms ++ m ∷ [])
 signals-push [] m all pairs = (pairs, tt)
 signals-push (n ∷ ms) m all pairs = (all.0, signals-push ms m all.1 pairs)
 
@@ -72,7 +72,7 @@ news line line' false false true kept none = absurd (cc)
 news line line' false false false kept none = (refl, refl)
 
 message_differs : (said : Said) (id id_line : ℕ) (name : List ℕ) (name_line len : ℕ) (b : Bool) → is_independent id name ≡ b
-    → repeated said (statement.Message id id_line name name_line len) ≡ None → Differ said.messages → Differ (after_statement said (statement.Message id id_line name name_line len)).messages
+    → repeated_line said (statement.Message id id_line name name_line len) ≡ None → Differ said.messages → Differ (after_statement said (statement.Message id id_line name name_line len)).messages
 message_differs said id id_line name name_line len true e new differ = rw e differ
 message_differs said id id_line name name_line len false e new differ =
     let ms = said.messages in
@@ -84,12 +84,12 @@ message_differs said id id_line name name_line len false e new differ =
     } in
     rw e after
 
-names-with_signal : {X : Type 0} (g : DbcMessage → X) (same : (m : DbcMessage) (ss : List DbcSignal) → g (record m { signals = ss }) ≡ g m) (ms : List DbcMessage) (signal : DbcSignal) → map g (with_signal ms signal) ≡ map g ms
+names-with_signal : {X : Type 0} (g : DbcMessage → X) (same : (m : DbcMessage) (ss : List DbcSignal) → g (record m { signals = ss }) ≡ g m) (ms : List DbcMessage) (signal : DbcSignal) → map g (with_further_signal ms signal) ≡ map g ms
 names-with_signal g same [] signal = refl
 names-with_signal g same (m ∷ []) signal = ap (λ x. x ∷ []) (same m (m.signals ++ signal ∷ []))
 names-with_signal g same (m ∷ n ∷ ms) signal = ap (λ xs. g m ∷ xs) (names-with_signal g same (n ∷ ms) signal)
 
-signals-with_signal : (ms : List DbcMessage) (signal : DbcSignal) → list_any (bytes_eq signal.name) (names_of (last_signals ms)) ≡ false → AllSignals ms → AllSignals (with_signal ms signal)
+signals-with_signal : (ms : List DbcMessage) (signal : DbcSignal) → list_any (bytes_eq signal.name) (signal_names (last_signals ms)) ≡ false → AllSignals ms → AllSignals (with_further_signal ms signal)
 signals-with_signal [] signal new all = tt
 signals-with_signal (m ∷ []) signal new all =
     (subst (λ (ns : List (List ℕ)). AllPairs ◌≢◌ ns) (sym (map-append (λ (s : DbcSignal). s.name) m.signals (signal ∷ []))) (pairs_push _ signal.name all.0 (new_name _ signal.name new)), tt)
@@ -105,10 +105,10 @@ signal_differs said owner.Dropped signal line new differ = differ
 signal_differs said owner.LastMessage signal line new differ = record {
   names = subst (λ (ns : List (List ℕ)). AllPairs ◌≢◌ ns) (sym (names-with_signal (λ (m : DbcMessage). m.name) (λ m ss. refl) said.messages signal)) differ.names;
   ids = subst (λ (ns : List ℕ). AllPairs ◌≢◌ ns) (sym (names-with_signal (λ (m : DbcMessage). m.id) (λ m ss. refl) said.messages signal)) differ.ids;
-  signals = signals-with_signal said.messages signal (absent line (list_any (bytes_eq signal.name) (names_of (last_signals said.messages))) new) differ.signals;
+  signals = signals-with_signal said.messages signal (absent line (list_any (bytes_eq signal.name) (signal_names (last_signals said.messages))) new) differ.signals;
 }
 
-statement_differs : (said : Said) (st : Statement) → repeated said st ≡ None → Differ said.messages → Differ (after_statement said st).messages
+statement_differs : (said : Said) (st : Statement) → repeated_line said st ≡ None → Differ said.messages → Differ (after_statement said st).messages
 statement_differs said (statement.Message id id_line name name_line len) new differ = message_differs said id id_line name name_line len (is_independent id name) refl new differ
 statement_differs said (statement.Signal name layout line) new differ = signal_differs said said.owner (unmarked name layout) line new differ
 statement_differs said (statement.Float mark) new differ = differ
@@ -149,7 +149,7 @@ marks_differ : (ms : List DbcMessage) (marks : List FloatMark) → Differ ms →
 marks_differ ms [] differ = differ
 marks_differ ms (mark ∷ marks) differ = marks_differ (with_mark ms mark) marks (mark_differs ms mark differ)
 
-each : (ms : List DbcMessage) → AllSignals ms → All (λ (m : DbcMessage). AllPairs ◌≢◌ (names_of m.signals)) ms
+each : (ms : List DbcMessage) → AllSignals ms → All (λ (m : DbcMessage). AllPairs ◌≢◌ (signal_names m.signals)) ms
 each [] all k d within = absurd (omega (arith, within))
 each (m ∷ ms) all zero d within = all.0
 each (m ∷ ms) all (suc k) d within = each ms all.1 k d (omega (arith, within))
@@ -158,6 +158,6 @@ each (m ∷ ms) all (suc k) d within = each ms all.1 k d (omega (arith, within))
 pub are_distinct : (text : List ℕ) (messages : List DbcMessage) → IsDatabase text messages → AreDistinct messages
 are_distinct text messages is =
     let first : Differ [] = record { names = no_pairs; ids = no_pairs; signals = tt } in
-    let differ = marks_differ is.1.messages is.1.marks (lead_differs nothing (tokens_of text) is.0 is.1 [] is.2 first) in
+    let differ = marks_differ is.1.messages is.1.marks (lead_differs nothing_said (tokens_of text) is.0 is.1 [] is.2 first) in
     let whole : Differ messages = subst (λ (ms : List DbcMessage). Differ ms) (sym is.3) differ in
     record { names = whole.names; ids = whole.ids; signals = each messages whole.signals }

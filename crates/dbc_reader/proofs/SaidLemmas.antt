@@ -5,12 +5,12 @@ use Rattle.std.specs.Str.{bytes_eq}
 use Rattle.std.specs.Global.{Vec}
 use Rattle.std.proofs.lemmas.List.{map-append}
 use Rattle.indexmap.specs.IndexSet.{insert_key}
-use Rattle.dbc_statements.specs.Token.{Placed, line_of}
+use Rattle.dbc_statements.specs.Token.{Placed, first_line}
 use Rattle.dbc_statements.specs.Statement.{statement_at}
 use Rattle.dbc_statements.specs.declared.statement.Statement.{Statement}
 use Rattle.dbc_reader.specs.declared.signals.DbcSignal.{DbcSignal}
 use Rattle.dbc_reader.specs.declared.message.DbcMessage.{DbcMessage}
-use Rattle.dbc_reader.specs.Database.{Said, has_owner, last_signals, with_signal, after_statement, is_independent, bare, names_of, repeated, repeated_signal, after_signal, Lead}
+use Rattle.dbc_reader.specs.Database.{Said, has_owner, last_signals, with_further_signal, after_statement, is_independent, bare, signal_names, repeated_line, repeated_signal, after_signal, Lead}
 use Rattle.dbc_reader.specs.declared.owner.Owner.TheVariants as owner
 use Rattle.dbc_statements.specs.declared.statement.Statement.TheVariants as statement
 use Rattle.dbc_reader.proofs.Tables.{seen}
@@ -34,7 +34,7 @@ last_signals-at (m ∷ n ∷ ms) (suc i) last long is = last_signals-at (n ∷ m
 
 -- one more signal in the last place
 pub set_last : (ms : List DbcMessage) (i : ℕ) (last : DbcMessage) (signals : List DbcSignal) (signal : DbcSignal) → suc i ≡ length ms → last ≡ get_or ms i last
-    → signals ≡ last.signals ++ signal ∷ [] → set ms i (record { id = last.id; name = last.name; len = last.len; signals = signals }) ≡ with_signal ms signal
+    → signals ≡ last.signals ++ signal ∷ [] → set ms i (record { id = last.id; name = last.name; len = last.len; signals = signals }) ≡ with_further_signal ms signal
 set_last [] i last signals signal long is grows = absurd (omega (arith, long))
 set_last (m ∷ []) zero last signals signal long is grows =
     let same : last ≡ m = is in
@@ -46,7 +46,7 @@ set_last (m ∷ n ∷ ms) (suc i) last signals signal long is grows = ap (λ mor
 
 -- one more statement
 pub lead_more : (before : Said) (tokens : List Placed) (sts : List Statement) (after : Said) (rest : List Placed) (st : Statement) (behind : List Placed)
-    → Lead before tokens sts after rest → statement_at (has_owner after.owner) rest ≡ Some (st, behind) → repeated after st ≡ None
+    → Lead before tokens sts after rest → statement_at (has_owner after.owner) rest ≡ Some (st, behind) → repeated_line after st ≡ None
     → Lead before tokens (sts ++ st ∷ []) (after_statement after st) behind
 lead_more before tokens [] after rest st behind lead reads new = rw (sym lead.0, sym lead.1) (behind, reads, new, (refl, refl))
 lead_more before tokens (s ∷ sts) after rest st behind lead reads new =
@@ -79,12 +79,12 @@ old_name name keys names same added = sym (seen name keys names same) ∙ there 
 module _ (said : Said) (id id_line : ℕ) (name : List ℕ) (name_line len : ℕ) (kept : is_independent id name ≡ false) where
   -- a message with a new identifier and an old name
   pub name_twice : list_any (nat_eq id) (map (λ (m : DbcMessage). m.id) said.messages) ≡ false → list_any (bytes_eq name) (map (λ (m : DbcMessage). m.name) said.messages) ≡ true
-      → repeated said (statement.Message id id_line name name_line len) ≡ Some name_line
+      → repeated_line said (statement.Message id id_line name name_line len) ≡ Some name_line
   name_twice id_new name_old = rw (kept, id_new, name_old) refl
 
   -- a message with a new identifier and a new name
   pub nothing_twice : list_any (nat_eq id) (map (λ (m : DbcMessage). m.id) said.messages) ≡ false → list_any (bytes_eq name) (map (λ (m : DbcMessage). m.name) said.messages) ≡ false
-      → repeated said (statement.Message id id_line name name_line len) ≡ None
+      → repeated_line said (statement.Message id id_line name name_line len) ≡ None
   nothing_twice id_new name_new = rw (kept, id_new, name_new) refl
 
   -- it goes last
@@ -94,19 +94,19 @@ module _ (said : Said) (id id_line : ℕ) (name : List ℕ) (name_line len : ℕ
 
 module _ (said : Said) (signal : DbcSignal) (line : ℕ) (last : DbcMessage) (kept : said.owner ≡ owner.LastMessage) (is_last : last_signals said.messages ≡ last.signals) where
   -- a signal with a new name
-  pub signal_new : list_any (bytes_eq signal.name) (names_of last.signals) ≡ false → repeated_signal said said.owner signal line ≡ None
-  signal_new new = ap (λ o. repeated_signal said o signal line) kept ∙ ap (λ b. if b then Some line else None) (ap (λ (ss : List DbcSignal). list_any (bytes_eq signal.name) (names_of ss)) is_last ∙ new)
+  pub signal_new : list_any (bytes_eq signal.name) (signal_names last.signals) ≡ false → repeated_signal said said.owner signal line ≡ None
+  signal_new new = ap (λ o. repeated_signal said o signal line) kept ∙ ap (λ b. if b then Some line else None) (ap (λ (ss : List DbcSignal). list_any (bytes_eq signal.name) (signal_names ss)) is_last ∙ new)
 
   -- a signal with an old name
-  pub signal_twice : list_any (bytes_eq signal.name) (names_of last.signals) ≡ true → repeated_signal said said.owner signal line ≡ Some line
-  signal_twice old = ap (λ o. repeated_signal said o signal line) kept ∙ ap (λ b. if b then Some line else None) (ap (λ (ss : List DbcSignal). list_any (bytes_eq signal.name) (names_of ss)) is_last ∙ old)
+  pub signal_twice : list_any (bytes_eq signal.name) (signal_names last.signals) ≡ true → repeated_signal said said.owner signal line ≡ Some line
+  signal_twice old = ap (λ o. repeated_signal said o signal line) kept ∙ ap (λ b. if b then Some line else None) (ap (λ (ss : List DbcSignal). list_any (bytes_eq signal.name) (signal_names ss)) is_last ∙ old)
 
 -- a signal of the last message goes last in it
 pub signal_added : (said : Said) (signal : DbcSignal) → said.owner ≡ owner.LastMessage
-    → after_signal said said.owner signal ≡ record { messages = with_signal said.messages signal; owner = said.owner; marks = said.marks }
+    → after_signal said said.owner signal ≡ record { messages = with_further_signal said.messages signal; owner = said.owner; marks = said.marks }
 signal_added said signal kept = ap (λ o. after_signal said o signal) kept
 
 -- where no line is left no token is
-pub at_end : (tokens : List Placed) → line_of tokens ≡ None → tokens ≡ []
+pub at_end : (tokens : List Placed) → first_line tokens ≡ None → tokens ≡ []
 at_end [] none = refl
 at_end (token ∷ tokens) none = absurd (cc)

@@ -5,7 +5,7 @@ use Rattle.std.specs.Prelude.{◌≡◌, ◌≢◌, ℕ, Bool, true, false, ◌&
 use Rattle.std.specs.List.{list_any}
 use Rattle.std.specs.Str.{bytes_eq}
 use Rattle.signal_codec.specs.declared.layout.Layout.{Layout}
-use Rattle.dbc_statements.specs.Token.{Placed, tokens_of, line_of}
+use Rattle.dbc_statements.specs.Token.{Placed, tokens_of, first_line}
 use Rattle.dbc_statements.specs.Statement.{statement_at}
 use Rattle.dbc_statements.specs.declared.statement.Statement.{Statement}
 use Rattle.dbc_statements.specs.declared.statement.Statement.TheVariants as statement
@@ -24,8 +24,8 @@ pub record Said : Type 0 where
   pub marks : List FloatMark
 
 -- nothing
-abbrev pub nothing : Said
-nothing = record { messages = []; owner = owner.Nobody; marks = [] }
+abbrev pub nothing_said : Said
+nothing_said = record { messages = []; owner = owner.Nobody; marks = [] }
 
 -- whether a message stood before
 abbrev pub has_owner : Owner → Bool
@@ -37,8 +37,8 @@ abbrev pub is_independent : ℕ → List ℕ → Bool
 is_independent id name = id == 3221225472 && bytes_eq name (codes "VECTOR__INDEPENDENT_SIG_MSG")
 
 -- the names of signals
-abbrev pub names_of : List DbcSignal → List (List ℕ)
-names_of signals = map (λ s. s.name) signals
+abbrev pub signal_names : List DbcSignal → List (List ℕ)
+signal_names signals = map (λ s. s.name) signals
 
 -- the signals of the last message
 abbrev pub last_signals : List DbcMessage → List DbcSignal
@@ -47,10 +47,10 @@ last_signals (m ∷ []) = m.signals
 last_signals (m ∷ n ∷ ms) = last_signals (n ∷ ms)
 
 -- the messages, the last with one more signal
-abbrev pub with_signal : List DbcMessage → DbcSignal → List DbcMessage
-with_signal [] signal = []
-with_signal (m ∷ []) signal = record m { signals = m.signals ++ signal ∷ [] } ∷ []
-with_signal (m ∷ n ∷ ms) signal = m ∷ with_signal (n ∷ ms) signal
+abbrev pub with_further_signal : List DbcMessage → DbcSignal → List DbcMessage
+with_further_signal [] signal = []
+with_further_signal (m ∷ []) signal = record m { signals = m.signals ++ signal ∷ [] } ∷ []
+with_further_signal (m ∷ n ∷ ms) signal = m ∷ with_further_signal (n ∷ ms) signal
 
 -- a message without signals
 abbrev pub bare : ℕ → List ℕ → ℕ → DbcMessage
@@ -62,7 +62,8 @@ unmarked name layout = record { name = name; layout = layout; float = false }
 
 -- with one more signal, where it belongs to the last message
 abbrev pub after_signal : Said → Owner → DbcSignal → Said
-after_signal said owner.LastMessage signal = record said { messages = with_signal said.messages signal }
+after_signal said owner.LastMessage signal =
+    record said { messages = with_further_signal said.messages signal }
 after_signal said _ signal = said
 
 -- what is said, and then a statement
@@ -77,19 +78,19 @@ after_statement said statement.Other = said
 -- the line of a signal's name that the last message has, if the signal belongs to it
 abbrev pub repeated_signal : Said → Owner → DbcSignal → ℕ → Option ℕ
 repeated_signal said owner.LastMessage signal line =
-    if list_any (bytes_eq signal.name) (names_of (last_signals said.messages)) then Some line else None
+    if list_any (bytes_eq signal.name) (signal_names (last_signals said.messages)) then Some line else None
 repeated_signal said _ signal line = None
 
 -- the line of the identifier or name that a statement gives for the second time, if it does
-abbrev pub repeated : Said → Statement → Option ℕ
-repeated said (statement.Message id id_line name name_line len) =
+abbrev pub repeated_line : Said → Statement → Option ℕ
+repeated_line said (statement.Message id id_line name name_line len) =
     if is_independent id name then None
     else if list_any (nat_eq id) (map (λ m. m.id) said.messages) then Some id_line
     else if list_any (bytes_eq name) (map (λ m. m.name) said.messages) then Some name_line
     else None
-repeated said (statement.Signal name layout line) =
+repeated_line said (statement.Signal name layout line) =
     repeated_signal said said.owner (unmarked name layout) line
-repeated said _ = None
+repeated_line said _ = None
 
 -- the tokens begin with these statements, none of which repeats what those before it gave; they lead to
 -- what is said after them, and leave the rest
@@ -97,7 +98,7 @@ abbrev pub Lead : Said → List Placed → List Statement → Said → List Plac
 Lead before tokens [] after rest = (after ≡ before) × (rest ≡ tokens)
 Lead before tokens (st ∷ sts) after rest =
     (behind : List Placed) × (statement_at (has_owner before.owner) tokens ≡ Some (st, behind))
-    × (repeated before st ≡ None) × Lead (after_statement before st) behind sts after rest
+    × (repeated_line before st ≡ None) × Lead (after_statement before st) behind sts after rest
 
 -- the first that passes is changed
 abbrev pub change_first : {X : Type 0} → (X → Bool) → (X → X) → List X → List X
@@ -121,33 +122,33 @@ messages_of said = fold with_mark said.messages said.marks
 -- the text is a sequence of statements, which say these messages
 abbrev pub IsDatabase : List ℕ → List DbcMessage → Type 0
 IsDatabase text messages =
-    (statements : List Statement) × (said : Said) × Lead nothing (tokens_of text) statements said []
+    (statements : List Statement) × (said : Said) × Lead nothing_said (tokens_of text) statements said []
     × (messages ≡ messages_of said)
 
 -- behind statements that are well the rest of the text is wrong in this way
 abbrev pub IsWrong : List ℕ → (Said → List Placed → Type 0) → Type 0
 IsWrong text Wrong =
     (statements : List Statement) × (said : Said) × (rest : List Placed)
-    × Lead nothing (tokens_of text) statements said rest × Wrong said rest
+    × Lead nothing_said (tokens_of text) statements said rest × Wrong said rest
 
 -- no statement is spelled here, and the next token begins in this line
 abbrev pub IsUnspelled : ℕ → Said → List Placed → Type 0
-IsUnspelled line said rest = (statement_at (has_owner said.owner) rest ≡ None) × (line_of rest ≡ Some line)
+IsUnspelled line said rest = (statement_at (has_owner said.owner) rest ≡ None) × (first_line rest ≡ Some line)
 
 -- the statement here gives an identifier or a name for the second time, which stands in this line
 abbrev pub IsRepeated : ℕ → Said → List Placed → Type 0
 IsRepeated line said rest =
     (st : Statement) × (behind : List Placed)
-    × (statement_at (has_owner said.owner) rest ≡ Some (st, behind)) × (repeated said st ≡ Some line)
+    × (statement_at (has_owner said.owner) rest ≡ Some (st, behind)) × (repeated_line said st ≡ Some line)
 
 -- the refusal says what is wrong with the text, if it says anything
-abbrev pub IsRefusal : List ℕ → DbcRefusal → Type 0
-IsRefusal text (refusal.Text line) = IsWrong text (IsUnspelled line)
-IsRefusal text (refusal.Twice line) = IsWrong text (IsRepeated line)
-IsRefusal text refusal.NoMemory = Unit {0}
+abbrev pub IsDatabaseRefusal : List ℕ → DbcRefusal → Type 0
+IsDatabaseRefusal text (refusal.Text line) = IsWrong text (IsUnspelled line)
+IsDatabaseRefusal text (refusal.Twice line) = IsWrong text (IsRepeated line)
+IsDatabaseRefusal text refusal.NoMemory = Unit {0}
 
 -- no two messages have one name or one identifier, and no two signals of a message one name
 pub record AreDistinct (messages : List DbcMessage) : Type 0 where
   pub names : AllPairs ◌≢◌ (map (λ m. m.name) messages)
   pub ids : AllPairs ◌≢◌ (map (λ m. m.id) messages)
-  pub signals : All (λ m. AllPairs ◌≢◌ (names_of m.signals)) messages
+  pub signals : All (λ m. AllPairs ◌≢◌ (signal_names m.signals)) messages

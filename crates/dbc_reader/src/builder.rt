@@ -1,7 +1,7 @@
 // What statements said so far.
 
 ghost use Rattle.std.specs.Prelude.{◌≡◌};
-ghost use Rattle.dbc_reader.specs.Database.{Said, has_owner, is_independent, messages_of, nothing};
+ghost use Rattle.dbc_reader.specs.Database.{Said, has_owner, is_independent, messages_of, nothing_said};
 ghost use Rattle.dbc_statements.specs.declared.statement.Statement.TheVariants as statement;
 ghost use Rattle.dbc_reader.specs.Inside.Builder.{Adds, Agree, said_of};
 
@@ -32,7 +32,7 @@ impl Builder {
     /// No statement yet.
     pub(crate) fn new(alloc: Global, seed: Seed) -> Builder
         ensures agree { Agree result }
-        ensures nothing { said_of result ≡ nothing }
+        ensures nothing_said { said_of result ≡ nothing_said }
     {
         Builder {
             messages: Vec::new(alloc),

@@ -2,7 +2,7 @@
 
 ghost use Rattle.std.specs.Prelude.{◌≡◌, ◌<◌, ◌^◌, length, List, IfOk, IfErr};
 ghost use Rattle.dbc_reader.specs.declared.message.DbcMessage.{DbcMessage};
-ghost use Rattle.dbc_reader.specs.Database.{IsDatabase, IsRefusal, AreDistinct};
+ghost use Rattle.dbc_reader.specs.Database.{IsDatabase, IsDatabaseRefusal, AreDistinct};
 
 use crate::builder::Builder;
 use crate::database::Database;
@@ -22,7 +22,7 @@ pub fn read(alloc: Global, bytes: &[u8]) -> Result<Database, DbcRefusal>
     ensures only { IfOk result (λ database.
         (others : List DbcMessage) → IsDatabase bytes.now others → others ≡ database) }
     ensures distinct { IfOk result AreDistinct }
-    ensures refused { IfErr result (IsRefusal bytes.now) }
+    ensures refused { IfErr result (IsDatabaseRefusal bytes.now) }
 {
     let mut cursor = Cursor::new(bytes);
     let mut builder = Builder::new(alloc, Seed::of(bytes));

@@ -4,7 +4,7 @@ ghost use Rattle.std.specs.Prelude.{◌≡◌, ◌∷◌, ◌++◌, [], map, not
 ghost use Rattle.std.specs.List.{list_any};
 ghost use Rattle.std.specs.Option.{option_copied};
 ghost use Rattle.std.specs.Str.{bytes_eq};
-ghost use Rattle.dbc_reader.specs.Database.{names_of, with_float};
+ghost use Rattle.dbc_reader.specs.Database.{signal_names, with_float};
 
 use crate::seed::Seed;
 use indexmap::IndexSet;
@@ -73,7 +73,7 @@ impl Signals {
     /// there.
     pub(crate) fn push(&mut self, alloc: Global, signal: DbcSignal) -> Result<bool, NoMemory>
         ensures added { IfOk result (λ added.
-            added ≡ not (list_any (bytes_eq signal.name) (names_of self.old))) }
+            added ≡ not (list_any (bytes_eq signal.name) (signal_names self.old))) }
         ensures signals { IfOk result (λ added.
             self.new ≡ (if added then self.old ++ signal ∷ [] else self.old)) }
     {

@@ -6,7 +6,7 @@ use Rattle.std.specs.List.{prefix_len, list_all, ends_with}
 use Rattle.std.specs.Str.{bytes_eq}
 use Rattle.text_parts.specs.Number.{is_digit, number_up_to}
 use Rattle.signal_codec.specs.declared.layout.Layout.{Layout}
-use Rattle.dbc_statements.specs.Token.{Token, Placed, Word, Number, Quoted, Byte, begins_with, line_of}
+use Rattle.dbc_statements.specs.Token.{Token, Placed, Word, Number, Quoted, Byte, begins_with, first_line}
 use Rattle.dbc_statements.specs.declared.keyword.Keyword.{Keyword}
 use Rattle.dbc_statements.specs.declared.keyword.Keyword.TheVariants as key
 use Rattle.dbc_statements.specs.declared.receivers.Before.{Before}
@@ -19,9 +19,9 @@ abbrev pub Read : Type 0 → Type 0
 Read A = Option (A × List Placed)
 
 -- what is read, and then behind it what depends on it
-abbrev pub and_then : {A B : Type 0} → Read A → (A → List Placed → Read B) → Read B
-and_then None more = None
-and_then (Some read) more = more read.0 read.1
+abbrev pub read_then : {A B : Type 0} → Read A → (A → List Placed → Read B) → Read B
+read_then None more = None
+read_then (Some read) more = more read.0 read.1
 
 -- a value behind which these tokens stand, if there is one
 abbrev pub read_as : {A : Type 0} → Option A → List Placed → Read A
@@ -34,9 +34,9 @@ word_in (Word bytes) = Some bytes
 word_in _ = None
 
 -- the bytes of a number
-abbrev pub number_in : Token → Option (List ℕ)
-number_in (Number bytes) = Some bytes
-number_in _ = None
+abbrev pub number_bytes : Token → Option (List ℕ)
+number_bytes (Number bytes) = Some bytes
+number_bytes _ = None
 
 -- decimal digits of a number up to a limit
 abbrev pub decimal_in : ℕ → Token → Option ℕ
@@ -50,7 +50,7 @@ is_byte byte _ = false
 
 -- the line of the next token
 unfoldable pub line : List Placed → Read ℕ
-line tokens = read_as (line_of tokens) tokens
+line tokens = read_as (first_line tokens) tokens
 
 -- a word
 unfoldable pub word : List Placed → Read (List ℕ)
@@ -60,7 +60,7 @@ word (first ∷ behind) = read_as (word_in first.token) behind
 -- a number
 unfoldable pub number : List Placed → Read (List ℕ)
 number [] = None
-number (first ∷ behind) = read_as (number_in first.token) behind
+number (first ∷ behind) = read_as (number_bytes first.token) behind
 
 -- decimal digits of a number up to a limit
 unfoldable pub decimal : ℕ → List Placed → Read ℕ
@@ -167,10 +167,10 @@ up_to_semicolon (first ∷ behind) =
 -- a message: its identifier, its name, `:`, its length and its sender
 unfoldable pub message : List Placed → Read Statement
 message tokens =
-    and_then (line tokens) (λ id_line tokens. and_then (decimal 4294967295 tokens) (λ id tokens.
-    and_then (line tokens) (λ name_line tokens. and_then (word tokens) (λ name tokens.
-    and_then (byte 58 tokens) (λ _ tokens. and_then (decimal 65535 tokens) (λ len tokens.
-    and_then (word tokens) (λ _ tokens.
+    read_then (line tokens) (λ id_line tokens. read_then (decimal 4294967295 tokens) (λ id tokens.
+    read_then (line tokens) (λ name_line tokens. read_then (word tokens) (λ name tokens.
+    read_then (byte 58 tokens) (λ _ tokens. read_then (decimal 65535 tokens) (λ len tokens.
+    read_then (word tokens) (λ _ tokens.
     Some (statement.Message id id_line name name_line len, tokens))))))))
 
 -- whether these are digits and then perhaps an `M`
@@ -220,16 +220,16 @@ signed (first ∷ behind) = read_as (signed_in first.token) behind
 -- a layout: start, `|`, length, `@`, order and sign
 unfoldable pub layout : List Placed → Read Layout
 layout tokens =
-    and_then (decimal 65535 tokens) (λ start tokens. and_then (byte 124 tokens) (λ _ tokens.
-    and_then (decimal 65535 tokens) (λ len tokens. and_then (byte 64 tokens) (λ _ tokens.
-    and_then (big tokens) (λ big tokens. and_then (signed tokens) (λ signed tokens.
+    read_then (decimal 65535 tokens) (λ start tokens. read_then (byte 124 tokens) (λ _ tokens.
+    read_then (decimal 65535 tokens) (λ len tokens. read_then (byte 64 tokens) (λ _ tokens.
+    read_then (big tokens) (λ big tokens. read_then (signed tokens) (λ signed tokens.
     Some (record { start = start; len = len; big = big; signed = signed }, tokens)))))))
 
 -- two numbers between these bytes
 unfoldable pub pair : ℕ → ℕ → ℕ → List Placed → Read (Unit {0})
 pair first between last tokens =
-    and_then (byte first tokens) (λ _ tokens. and_then (number tokens) (λ _ tokens.
-    and_then (byte between tokens) (λ _ tokens. and_then (number tokens) (λ _ tokens. byte last tokens))))
+    read_then (byte first tokens) (λ _ tokens. read_then (number tokens) (λ _ tokens.
+    read_then (byte between tokens) (λ _ tokens. read_then (number tokens) (λ _ tokens. byte last tokens))))
 
 -- what a receivers' list has before its next part: a word, or a `,` behind a word
 abbrev pub receiver_after : Before → Token → Option Before
@@ -247,17 +247,17 @@ abbrev pub receivers : Before → List Placed → Read (Unit {0})
 receivers last [] = if may_end last then Some (tt, []) else None
 receivers last (first ∷ behind) =
     if begins_statement first.token then (if may_end last then Some (tt, first ∷ behind) else None)
-    else and_then (read_as (receiver_after last first.token) []) (λ next _. receivers next behind)
+    else read_then (read_as (receiver_after last first.token) []) (λ next _. receivers next behind)
 
 -- a signal: name, perhaps how it is multiplexed, `:`, layout, `(` factor `,` offset `)`, `[` least `|`
 -- greatest `]`, unit and receivers
 unfoldable pub signal : List Placed → Read Statement
 signal tokens =
-    and_then (line tokens) (λ line tokens. and_then (word tokens) (λ name tokens.
-    and_then (multiplexing tokens) (λ _ tokens. and_then (byte 58 tokens) (λ _ tokens.
-    and_then (layout tokens) (λ layout tokens. and_then (pair 40 44 41 tokens) (λ _ tokens.
-    and_then (pair 91 124 93 tokens) (λ _ tokens. and_then (string tokens) (λ _ tokens.
-    and_then (receivers before.Nothing tokens) (λ _ tokens.
+    read_then (line tokens) (λ line tokens. read_then (word tokens) (λ name tokens.
+    read_then (multiplexing tokens) (λ _ tokens. read_then (byte 58 tokens) (λ _ tokens.
+    read_then (layout tokens) (λ layout tokens. read_then (pair 40 44 41 tokens) (λ _ tokens.
+    read_then (pair 91 124 93 tokens) (λ _ tokens. read_then (string tokens) (λ _ tokens.
+    read_then (receivers before.Nothing tokens) (λ _ tokens.
     Some (statement.Signal name layout line, tokens))))))))))
 
 -- whether a value type is a float's: 1 and 2, or not: 0 and 3
@@ -276,24 +276,24 @@ float (first ∷ behind) = read_as (float_in first.token) behind
 -- a signal's value type: the message's identifier, the signal's name, perhaps `:`, the type and `;`
 unfoldable pub value_type : List Placed → Read Statement
 value_type tokens =
-    and_then (decimal 4294967295 tokens) (λ id tokens. and_then (word tokens) (λ name tokens.
-    and_then (perhaps 58 tokens) (λ _ tokens. and_then (float tokens) (λ float tokens.
-    and_then (byte 59 tokens) (λ _ tokens.
+    read_then (decimal 4294967295 tokens) (λ id tokens. read_then (word tokens) (λ name tokens.
+    read_then (perhaps 58 tokens) (λ _ tokens. read_then (float tokens) (λ float tokens.
+    read_then (byte 59 tokens) (λ _ tokens.
     Some (if float then statement.Float (record { id = id; name = name }) else statement.Other, tokens))))))
 
 -- nothing is kept of it
 abbrev pub other : Read (Unit {0}) → Read Statement
-other read = and_then read (λ _ tokens. Some (statement.Other, tokens))
+other read = read_then read (λ _ tokens. Some (statement.Other, tokens))
 
 -- what stands behind each keyword; a signal stands only where a message stood before
 unfoldable pub behind_keyword : Bool → Keyword → List Placed → Read Statement
 behind_keyword inside key.Version tokens = other (string tokens)
 behind_keyword inside key.NewSymbols tokens =
-    other (and_then (byte 58 tokens) (λ _ tokens. symbols tokens))
+    other (read_then (byte 58 tokens) (λ _ tokens. symbols tokens))
 behind_keyword inside key.BitTiming tokens =
-    other (and_then (byte 58 tokens) (λ _ tokens. up_to_keyword tokens))
+    other (read_then (byte 58 tokens) (λ _ tokens. up_to_keyword tokens))
 behind_keyword inside key.Nodes tokens =
-    other (and_then (byte 58 tokens) (λ _ tokens. words tokens))
+    other (read_then (byte 58 tokens) (λ _ tokens. words tokens))
 behind_keyword inside key.Message tokens = message tokens
 behind_keyword inside key.Signal tokens = if inside then signal tokens else None
 behind_keyword inside key.ValueType tokens = value_type tokens
@@ -302,4 +302,4 @@ behind_keyword inside key.Other tokens = other (up_to_semicolon tokens)
 -- a statement: a keyword and what stands behind it
 unfoldable pub statement_at : Bool → List Placed → Read Statement
 statement_at inside tokens =
-    and_then (keyword tokens) (λ keyword tokens. behind_keyword inside keyword tokens)
+    read_then (keyword tokens) (λ keyword tokens. behind_keyword inside keyword tokens)

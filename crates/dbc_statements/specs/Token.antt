@@ -110,6 +110,6 @@ abbrev pub tokens_of : List ℕ → List Placed
 tokens_of text = tokens_behind 0 1 text
 
 -- the line in which the first token begins
-abbrev pub line_of : List Placed → Option ℕ
-line_of [] = None
-line_of (placed ∷ more) = Some placed.line
+abbrev pub first_line : List Placed → Option ℕ
+first_line [] = None
+first_line (placed ∷ more) = Some placed.line

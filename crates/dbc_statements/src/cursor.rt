@@ -41,7 +41,7 @@ impl<'a> Cursor<'a> {
 
     /// The line in which the next token begins, or None at the end.
     pub fn line(&self) -> Option<u32>
-        ensures { result ≡ spec.line_of self.now }
+        ensures { result ≡ spec.first_line self.now }
     {
         if self.rest.is_empty() {
             None

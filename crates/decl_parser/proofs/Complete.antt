@@ -22,7 +22,7 @@ use Rattle.capl_tree.specs.declared.declaration.Init.TheVariants.{One, Many}
 use Rattle.capl_tree.specs.declared.declaration.Item.{Item}
 use Rattle.capl_tree.specs.declared.declaration.Item.TheVariants.{Plain, Set}
 use Rattle.capl_tree.specs.Forms as form
-use Rattle.capl_tree.specs.Grammar.{IsValue, IsItem, IsInitialiser, IsDeclared, IsDeclaration}
+use Rattle.capl_tree.specs.Grammar.{IsValue, IsInitialItem, IsInitialiser, IsDeclared, IsDeclaration}
 use Rattle.capl_tree.specs.Spelling as spelled
 use Rattle.capl_tree.specs.Spelling.{kind_word, further, separated}
 use Rattle.capl_tree.specs.Placed.{IsPlaced, IsFieldPlaced, EachBefore, IsItemPlaced, IsInitialiserPlaced, IsSizePlaced, IsFirstPlaced, IsDeclaratorPlaced, IsTypePlaced, IsDeclarationPlaced}
@@ -88,7 +88,7 @@ value_read : (total depth : ℕ) (e : Expr) (rest : List Tok) → IsValue e → 
     → read.value total depth (spelled.expression e rest) ≡ Some (e, rest)
 value_read total depth e rest well placed ends deep = complete total e 2 depth rest well.0 placed well.1 (omega arith) deep
 
-item_read : (total depth : ℕ) (i : Item) (rest : List Tok) → IsItem i → IsItemPlaced total i rest → binding rest ≡ 0 → length (spelled.item i rest) < depth
+item_read : (total depth : ℕ) (i : Item) (rest : List Tok) → IsInitialItem i → IsItemPlaced total i rest → binding rest ≡ 0 → length (spelled.item i rest) < depth
     → read.item total depth (spelled.item i rest) ≡ Some (i, rest)
 unfolding read.item_at read.plain read.set_name read.set after
 item_read total depth (Plain e) rest well placed ends deep =
@@ -105,14 +105,14 @@ further_binding : {A : Type 0} (one : A → List Tok → List Tok) (all : List A
 further_binding one [] rest ends = ends
 further_binding one (first ∷ others) rest ends = refl
 
-each_item : (total depth : ℕ) (all : List Item) (rest : List Tok) → All IsItem all → EachBefore spelled.item (IsItemPlaced total) all rest → binding rest ≡ 0
+each_item : (total depth : ℕ) (all : List Item) (rest : List Tok) → All IsInitialItem all → EachBefore spelled.item (IsItemPlaced total) all rest → binding rest ≡ 0
     → length (separated spelled.item all rest) < depth → EachRead (read.item total depth) spelled.item all rest
 each_item total depth [] rest well placed ends deep = tt
 each_item total depth (first ∷ []) rest well placed ends deep =
-    (item_read total depth first rest (All-head IsItem first [] well) placed.0 ends deep, tt)
+    (item_read total depth first rest (All-head IsInitialItem first [] well) placed.0 ends deep, tt)
 each_item total depth (first ∷ second ∷ others) rest well placed ends deep = (
-  item_read total depth first (further spelled.item (second ∷ others) rest) (All-head IsItem first (second ∷ others) well) placed.0 refl deep,
-  each_item total depth (second ∷ others) rest (All-tail IsItem first (second ∷ others) well) placed.1 ends
+  item_read total depth first (further spelled.item (second ∷ others) rest) (All-head IsInitialItem first (second ∷ others) well) placed.0 refl deep,
+  each_item total depth (second ∷ others) rest (All-tail IsInitialItem first (second ∷ others) well) placed.1 ends
       (omega (arith, item_longer first (further spelled.item (second ∷ others) rest))),
 )
 

@@ -21,7 +21,7 @@ use Rattle.capl_tree.specs.declared.declaration.Init.{Init}
 use Rattle.capl_tree.specs.declared.declaration.Init.TheVariants.{One, Many}
 use Rattle.capl_tree.specs.declared.declaration.Item.{Item}
 use Rattle.capl_tree.specs.declared.declaration.Item.TheVariants.{Plain, Set}
-use Rattle.capl_tree.specs.Grammar.{IsField, IsExpression, IsValue, IsItem, IsInitialiser, IsDeclared, IsDeclaration}
+use Rattle.capl_tree.specs.Grammar.{IsField, IsExpression, IsValue, IsInitialItem, IsInitialiser, IsDeclared, IsDeclaration}
 use Rattle.capl_tree.specs.Spelling as spelled
 use Rattle.capl_tree.specs.Spelling.{kind_word, further, separated}
 use Rattle.capl_tree.specs.Placed.{IsAt, IsPlaced, IsFieldPlaced, EachBefore, IsItemPlaced, IsInitialiserPlaced, IsSizePlaced, IsFirstPlaced, IsDeclaratorPlaced, IsTypePlaced, IsDeclarationPlaced}
@@ -56,7 +56,7 @@ shorter ts e rest is = omega (arith, ap length is, longer e rest)
 -- behind a field: `=` and the value
 set_part : (total depth : ℕ) (whole : List Tok) (f : Field) (ts : List Tok) → whole ≡ spelled.field f ts → length ts ≤ total
     → Part spelled.field IsField (IsFieldPlaced total) whole f ts
-    → (i : Item) (rest : List Tok) → read.set total depth f ts ≡ Some (i, rest) → Part spelled.item IsItem (IsItemPlaced total) whole i rest
+    → (i : Item) (rest : List Tok) → read.set total depth f ts ≡ Some (i, rest) → Part spelled.item IsInitialItem (IsItemPlaced total) whole i rest
 unfolding read.set
 set_part total depth whole f ts is below field i rest e =
     let assign = and_then_some (after sign.Assign ts) (λ _ rest. and_then (read.value total depth rest) (λ e rest. Some (Set f e, rest))) (i, rest) e in
@@ -64,7 +64,7 @@ set_part total depth whole f ts is below field i rest e =
     let at_assign = after_some sign.Assign ts assign.0 assign.1 assign.2 in
     let part = value_part total depth assign.1 value.0 value.1 (omega (arith, ap length at_assign)) value.2 in
     let all : ts ≡ tok.Sign sign.Assign ∷ spelled.expression value.0 value.1 = at_assign ∙ ap (λ (ts : List Tok). tok.Sign sign.Assign ∷ ts) part.written in
-    moved (Part spelled.item IsItem (IsItemPlaced total) whole) (Set f value.0) i value.1 rest value.3
+    moved (Part spelled.item IsInitialItem (IsItemPlaced total) whole) (Set f value.0) i value.1 rest value.3
     (record {
       written = field.written ∙ ap (λ (ts : List Tok). spelled.field f ts) all;
       well = (field.well, part.well);
@@ -72,14 +72,14 @@ set_part total depth whole f ts is below field i rest e =
     })
 
 plain_item : (total : ℕ) (whole : List Tok) (e : Expr) (ts : List Tok) → Part spelled.expression IsValue (IsPlaced total) whole e ts
-    → (i : Item) (rest : List Tok) → given (Plain e) ts ≡ given i rest → Part spelled.item IsItem (IsItemPlaced total) whole i rest
+    → (i : Item) (rest : List Tok) → given (Plain e) ts ≡ given i rest → Part spelled.item IsInitialItem (IsItemPlaced total) whole i rest
 plain_item total whole e ts part i rest f =
-    moved (Part spelled.item IsItem (IsItemPlaced total) whole) (Plain e) i ts rest f
+    moved (Part spelled.item IsInitialItem (IsItemPlaced total) whole) (Plain e) i ts rest f
     (record { written = part.written; well = part.well; placed = part.placed })
 
 -- before `=`: the name of a field
 set_name_part : (total depth : ℕ) (whole : List Tok) (e : Expr) (ts : List Tok) → length ts ≤ total → Part spelled.expression IsValue (IsPlaced total) whole e ts
-    → (i : Item) (rest : List Tok) → read.set_name total depth e ts ≡ Some (i, rest) → Part spelled.item IsItem (IsItemPlaced total) whole i rest
+    → (i : Item) (rest : List Tok) → read.set_name total depth e ts ≡ Some (i, rest) → Part spelled.item IsInitialItem (IsItemPlaced total) whole i rest
 unfolding read.set_name
 set_name_part total depth whole (expr.Name name at) ts below part i rest f =
     set_part total depth whole (Named name at) ts part.written below (record { written = part.written; well = tt; placed = part.placed }) i rest f
@@ -87,12 +87,12 @@ set_name_part total depth whole e ts below part i rest f = plain_item total whol
 
 plain_part : (total depth : ℕ) (whole : List Tok) (e : Expr) (ts : List Tok) → length ts ≤ total → Part spelled.expression IsValue (IsPlaced total) whole e ts
     → (i : Item) (rest : List Tok) (is_set : Bool) → (if is_set then read.set_name total depth e ts else Some (Plain e, ts)) ≡ Some (i, rest)
-    → Part spelled.item IsItem (IsItemPlaced total) whole i rest
+    → Part spelled.item IsInitialItem (IsItemPlaced total) whole i rest
 plain_part total depth whole e ts below part i rest true f = set_name_part total depth whole e ts below part i rest f
 plain_part total depth whole e ts below part i rest false f = plain_item total whole e ts part i rest f
 
 item_part : (total depth : ℕ) (ts : List Tok) (of : Option Kind) → kind_at ts ≡ of → length ts ≤ total → (i : Item) (rest : List Tok)
-    → read.item_at total depth of ts ≡ Some (i, rest) → Part spelled.item IsItem (IsItemPlaced total) ts i rest
+    → read.item_at total depth of ts ≡ Some (i, rest) → Part spelled.item IsInitialItem (IsItemPlaced total) ts i rest
 unfolding read.item_at read.plain
 item_part total depth ts None is below i rest f =
     let value = and_then_some (read.value total depth ts) (λ e rest. read.plain total depth e rest) (i, rest) f in
@@ -116,11 +116,11 @@ each_placed one P Q [] rest each = tt
 each_placed one P Q (first ∷ others) rest each = (each.0.1, each_placed one P Q others rest each.1)
 
 items_part : (total depth : ℕ) (ts : List Tok) (all : List Item) (rest : List Tok) → length ts ≤ total → items (read.item total depth) ts ≡ Some (all, rest)
-    → ReadsItems spelled.item (λ i rest. IsItem i × IsItemPlaced total i rest) ts all rest
+    → ReadsItems spelled.item (λ i rest. IsInitialItem i × IsItemPlaced total i rest) ts all rest
 items_part total depth ts all rest below f =
-    let one : IsSoundFor total (read.item total depth) spelled.item (λ i rest. IsItem i × IsItemPlaced total i rest) =
+    let one : IsSoundFor total (read.item total depth) spelled.item (λ i rest. IsInitialItem i × IsItemPlaced total i rest) =
     λ ts i rest small f. let part = item_part total depth ts (kind_at ts) refl small i rest f in (part.written, (part.well, part.placed)) in
-    items_sound total (read.item total depth) spelled.item (λ i rest. IsItem i × IsItemPlaced total i rest) one item_longer ts all rest below f
+    items_sound total (read.item total depth) spelled.item (λ i rest. IsInitialItem i × IsItemPlaced total i rest) one item_longer ts all rest below f
 
 initialiser_part : (total depth : ℕ) (ts : List Tok) → length ts ≤ total → (i : Init) (rest : List Tok) (braced : Bool) → begins sign.OpenBrace ts ≡ braced
     → (if braced
@@ -134,14 +134,14 @@ initialiser_part total depth ts below i rest true is f =
     let first = begins_next sign.OpenBrace ts is in
     let r = items_part total depth (behind ts) all.0 all.1 (omega (arith, ap length first)) all.2 in
     let at_close = after_some sign.CloseBrace all.1 close.0 close.1 close.2 in
-    let each = subst (λ ts. EachBefore spelled.item (λ i rest. IsItem i × IsItemPlaced total i rest) all.0 ts) at_close r.each in
+    let each = subst (λ ts. EachBefore spelled.item (λ i rest. IsInitialItem i × IsItemPlaced total i rest) all.0 ts) at_close r.each in
     let inside : behind ts ≡ separated spelled.item all.0 (tok.Sign sign.CloseBrace ∷ close.1) = r.spelled ∙ ap (λ (ts : List Tok). separated spelled.item all.0 ts) at_close in
     let whole : ts ≡ spelled.initialiser (Many all.0 at) close.1 = first ∙ ap (λ (ts : List Tok). tok.Sign sign.OpenBrace ∷ ts) inside in
     moved (Part spelled.initialiser IsInitialiser (IsInitialiserPlaced total) ts) (Many all.0 at) i close.1 rest close.3
     (record {
       written = whole;
-      well = (r.some, each_well spelled.item IsItem (IsItemPlaced total) all.0 _ each);
-      placed = (omega (arith, ap length whole), each_placed spelled.item IsItem (IsItemPlaced total) all.0 _ each);
+      well = (r.some, each_well spelled.item IsInitialItem (IsItemPlaced total) all.0 _ each);
+      placed = (omega (arith, ap length whole), each_placed spelled.item IsInitialItem (IsItemPlaced total) all.0 _ each);
     })
 initialiser_part total depth ts below i rest false is f =
     let value = and_then_some (read.value total depth ts) (λ e rest. Some (One e, rest)) (i, rest) f in

@@ -3,8 +3,8 @@
 ghost use Rattle.int_kinds.specs.Kind.{IsNumber};
 
 use int_kinds::{
-    BinOp, Kind, add, and, bits, div, holds, inv, is_number, join, laws, mul, neg, or, rem, residue,
-    shl, shr, sub, truth, wrap, xor,
+    BinOp, Kind, add, and, bits, div, holds, inv, is_number, join, laws, mul, neg, or, rem,
+    residue, shl, shr, sub, truth, wrap, xor,
 };
 
 /// The least and the greatest number that a call takes.

@@ -11,9 +11,9 @@ use Rattle.std.proofs.lemmas.List.Elements.{All-contains, All-nil}
 use Rattle.can_frame.specs.Frame.{FrameFields}
 use Rattle.can_bus.specs.declared.waiting.Waiting.{Waiting}
 use Rattle.can_bus.specs.declared.transmission.Transmission.{Transmission}
-use Rattle.can_bus.specs.Waiting.{Requests, name_of, Waits, IsWinner, members, requests_of, winner}
+use Rattle.can_bus.specs.Waiting.{Requests, request_name, Waits, IsWinner, members, requests_of, winner}
 use Rattle.can_bus.specs.Transmission.{time_on_wire}
-use Rattle.can_bus.specs.Bus.{BusState, new_bus, next_number, last_number, after_request, ended, after_finish, is_free, winner_at, with_transmission, after_arbitration, moment_of, next_moment}
+use Rattle.can_bus.specs.Bus.{BusState, new_bus, next_number, last_number, after_request, ended, after_finish, is_free, winner_at, with_transmission, after_arbitration, moment_by, next_moment}
 use Rattle.can_bus.specs.Ranks.{IsBelowNext, rank_in, with_rank_in, transmission_with_rank_in, CarriesInRange}
 use Rattle.can_bus.proofs.Requests.{Contains-members, Waits-members, members-requests_of, len-requests_of}
 use Rattle.can_bus.proofs.Winner.{winner_law}
@@ -205,7 +205,7 @@ waits_in s rs x h in' =
 pub IsListed-start : (s : BusState) (rs : List Waiting) (now duration : ℕ) (r : Waiting) (h : IsListed s rs) (w : IsWinnerIn s rs r)
     → IsListed (with_transmission s now duration r) (remove rs w.place)
 IsListed-start s rs now duration r h w = record {
-  set = ap (λ m. finmap.remove m (name_of r)) h.set ∙ sym (requests_of-remove rs w.place r h.order w.within w.is);
+  set = ap (λ m. finmap.remove m (request_name r)) h.set ∙ sym (requests_of-remove rs w.place r h.order w.within w.is);
   order = in_order-remove rs w.place r h.order w.within w.is;
   below = All-remove (IsBelowNext s) rs (remove rs w.place) w.place refl h.below;
   wire_below = All-contains (IsBelowNext s) rs r h.below (w.place, w.within, sym w.is);
@@ -221,7 +221,7 @@ arbitration-none s now e = ap (λ o. option_map_or (λ (q : Waiting). with_trans
 
 -- ---- what is due next
 due_by : (wire : Option Transmission) (waiting : Requests) (free : ℕ) → IfSome wire (λ t. t.end ≤ free) → len waiting ≢ 0
-    → (due : ℕ) × (moment_of wire waiting free ≡ Some due) × (due ≤ free)
+    → (due : ℕ) × (moment_by wire waiting free ≡ Some due) × (due ≤ free)
 due_by (Some t) waiting free ends some = (t.end, refl, ends)
 due_by None waiting free ends some =
     let test : eqb (len waiting) 0 ≡ false = grind (arith, nat_tests) in

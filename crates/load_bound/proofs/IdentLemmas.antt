@@ -10,7 +10,7 @@ use Rattle.can_frame.proofs.BitLists.{length-field_bits, number_of-field_bits}
 use Rattle.can_frame.proofs.Fields.{fronts_same, length-arbitration_std, length-arbitration_ext}
 use Rattle.can_bus.specs.Order.{wins, GoesBefore}
 use Rattle.can_bus.specs.declared.waiting.Waiting.{Waiting}
-use Rattle.can_bus.specs.Waiting.{Requests, Waits, name_of}
+use Rattle.can_bus.specs.Waiting.{Requests, Waits, request_name}
 use Rattle.can_bus.proofs.Precedence.{wins-decides}
 use Rattle.can_bus.proofs.Winner.{same_request}
 use Rattle.load_bound.specs.declared.stream.Stream.{Stream}
@@ -81,7 +81,7 @@ module _ (j s : Stream) (x r : Waiting) (ident_r : r.frame.ident ≡ j.ident) (d
   field_x = λ i. arbitration_bits (ident_x i) (data_x i)
 
   -- it is of a stronger stream, or of the same identifier
-  pub goes_before-stronger : IsIdent j.ident → IsIdent s.ident → (name_of x ≡ name_of r) ⊎ GoesBefore r x → (w : Requests) → Waits w r → Waits w x
+  pub goes_before-stronger : IsIdent j.ident → IsIdent s.ident → (request_name x ≡ request_name r) ⊎ GoesBefore r x → (w : Requests) → Waits w r → Waits w x
       → (is_stronger j s ≡ true) ⊎ (j.ident ≡ s.ident)
   goes_before-stronger low high (inl same) w of_r of_x =
       let one : r ≡ x = same_request w r x of_r of_x same in

@@ -13,7 +13,7 @@ use Rattle.text_parts.proofs.HexadecimalLemmas.{IsHexadecimal, hexadecimal_is_nu
 use Rattle.can_frame.specs.Frame.{FrameFields, IsFrame, IsIdent, ident_number, data_len}
 use Rattle.can_frame.specs.declared.Ident.{Ident}
 use Rattle.can_frame.specs.declared.Ident.TheVariants.{Std, Ext}
-use Rattle.log_line.specs.Fields.{is_blank, without_return, fields_of}
+use Rattle.log_line.specs.Fields.{is_blank, without_return, log_fields}
 use Rattle.log_line.specs.Stamp.{IsStamp}
 use Rattle.log_line.specs.FrameText.{digit_count, SpellsIdent, IsPair, IsBetween, SpellsBytes, SpellsCode, SpellsData, SpellsFrame}
 use Rattle.log_line.specs.Reading.{IsInterface, IsPrintable, Reads}
@@ -31,12 +31,12 @@ no_blanks : (bytes : List ℕ) → Shown bytes → All (λ byte. is_blank byte �
 no_blanks bytes shown k d within = let above = shown k d within in grind (arith, nat_tests, above)
 
 -- a shown field before a blank is the first
-pub field_then : (field rest : List ℕ) → 0 < length field → Shown field → fields_of (field ++ 32 ∷ rest) ≡ field ∷ fields_of rest
+pub field_then : (field rest : List ℕ) → 0 < length field → Shown field → log_fields (field ++ 32 ∷ rest) ≡ field ∷ log_fields rest
 field_then [] rest some shown = absurd (omega (arith, some))
 field_then (byte ∷ field) rest some shown = fields_of-first byte field 32 rest (no_blanks (byte ∷ field) shown) refl
 
 -- a shown field alone is the only one
-pub field_alone : (field : List ℕ) → 0 < length field → Shown field → fields_of field ≡ field ∷ []
+pub field_alone : (field : List ℕ) → 0 < length field → Shown field → log_fields field ≡ field ∷ []
 field_alone [] some shown = absurd (omega (arith, some))
 field_alone (byte ∷ field) some shown = fields_of-only byte field (no_blanks (byte ∷ field) shown)
 
@@ -279,7 +279,7 @@ line_stays front field frame spells = no_return front field (frame_some field fr
 
 -- the fields of a written line
 pub fields_written : (seconds micros : ℕ) (interface : List ℕ) (frame : FrameFields) → seconds < 10 ^ 15 → micros < 10 ^ 6 → IsInterface interface → IsLoggable frame
-    → fields_of (without_return (entry_text seconds micros interface frame)) ≡ stamp_field seconds micros ∷ interface ∷ (ident_text frame.ident ++ data_text frame) ∷ []
+    → log_fields (without_return (entry_text seconds micros interface frame)) ≡ stamp_field seconds micros ∷ interface ∷ (ident_text frame.ident ++ data_text frame) ∷ []
 fields_written seconds micros interface frame few below is loggable =
     let field = ident_text frame.ident ++ data_text frame in
     let spells = frame_written frame loggable in
@@ -287,7 +287,7 @@ fields_written seconds micros interface frame few below is loggable =
     let ends : entry_text seconds micros interface frame ≡ before ++ field = append_assoc before (ident_text frame.ident) (data_text frame) in
     let stays : without_return (entry_text seconds micros interface frame) ≡ entry_text seconds micros interface frame =
     ap without_return ends ∙ line_stays before field frame spells ∙ sym ends in
-    ap fields_of (stays ∙ line_parts seconds micros interface frame)
+    ap log_fields (stays ∙ line_parts seconds micros interface frame)
     ∙ field_then (stamp_field seconds micros) (interface ++ 32 ∷ field) (omega arith) (stamp_shown seconds micros few below)
     ∙ ap (λ l. stamp_field seconds micros ∷ l)
     (field_then interface field is.some (interface_shown interface is)

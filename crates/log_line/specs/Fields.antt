@@ -17,5 +17,5 @@ has_bytes [] = false
 has_bytes (byte ∷ bytes) = true
 
 -- the parts between blanks that have a byte
-abbrev pub fields_of : List ℕ → List (List ℕ)
-fields_of text = filter has_bytes (slice_split is_blank text)
+abbrev pub log_fields : List ℕ → List (List ℕ)
+log_fields text = filter has_bytes (slice_split is_blank text)

@@ -1,6 +1,6 @@
 -- How a log line reads (candump -L, and what can-utils and python-can write for frames of other kinds).
 use Rattle.std.specs.Prelude.{◌≡◌, ◌≤◌, ℕ, List, [], ◌∷◌, ◌⊎◌, length, All, codes}
-use Rattle.log_line.specs.Fields.{fields_of, without_return}
+use Rattle.log_line.specs.Fields.{log_fields, without_return}
 use Rattle.log_line.specs.Stamp.{IsStamp}
 use Rattle.log_line.specs.FrameText.{SpellsFrame, IsFlexible, IsAbove, IsLongCode}
 use Rattle.log_line.specs.declared.line.Entry as declared
@@ -55,4 +55,4 @@ FieldsRead fields Empty = fields ≡ []
 
 -- the line, without its LF, reads so
 abbrev pub Reads : List ℕ → Line → Type 0
-Reads line reading = FieldsRead (fields_of (without_return line)) reading
+Reads line reading = FieldsRead (log_fields (without_return line)) reading

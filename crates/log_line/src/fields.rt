@@ -1,7 +1,7 @@
 // The fields of a line.
 
 ghost use Rattle.std.specs.Prelude.{◌≡◌, ◌≢◌, ◌∷◌, ◌++◌, [], not, All, IfSome, IfNone, MatchOption, position};
-ghost use Rattle.log_line.specs.Fields.{is_blank, without_return, fields_of};
+ghost use Rattle.log_line.specs.Fields.{is_blank, without_return, log_fields};
 
 use memchr::{memchr, memchr2};
 
@@ -38,8 +38,8 @@ pub(crate) fn without_return(line: &[u8]) -> &[u8]
 
 /// The first field and what stands behind it, or None where there is no field.
 pub(crate) fn next_field(text: &[u8]) -> Option<(&[u8], &[u8])>
-    ensures { MatchOption result (fields_of text.now ≡ [])
-        (λ parts. fields_of text.now ≡ parts.0.now ∷ fields_of parts.1.now) }
+    ensures { MatchOption result (log_fields text.now ≡ [])
+        (λ parts. log_fields text.now ≡ parts.0.now ∷ log_fields parts.1.now) }
 {
     let text = &text[first_part(text)?..];
     match first_blank(text) {

@@ -3,7 +3,7 @@
 ghost use Rattle.std.specs.Prelude.{◌≡◌, ◌↔◌, IsTrue, IfOk, Err};
 ghost use Rattle.std.specs.Option.{option_map};
 ghost use Rattle.items.specs.Search.{Finds};
-ghost use Rattle.log_line.specs.Fields.{fields_of};
+ghost use Rattle.log_line.specs.Fields.{log_fields};
 ghost use Rattle.log_line.specs.Reading.{IsInterface, IsDirection, Reads};
 ghost use Rattle.log_line.specs.View.{line_of};
 ghost use Rattle.log_line.specs.declared.line.Line.{Line};
@@ -73,7 +73,7 @@ fn is_interface(name: &[u8]) -> bool
 
 /// Whether the fields of the text may stand behind a frame.
 fn is_direction(text: &[u8]) -> bool
-    ensures { IsTrue result ↔ IsDirection (fields_of text.now) }
+    ensures { IsTrue result ↔ IsDirection (log_fields text.now) }
 {
     let Some((field, rest)) = next_field(text) else {
         return true;

@@ -24,7 +24,7 @@ use Rattle.capl_meaning.specs.Message.{Held, array_in, is_number_place, message_
 use Rattle.capl_meaning.specs.Sort.{kind_in, sort_of}
 use Rattle.capl_meaning.specs.Operator.{prefix_value, truth_of}
 use Rattle.capl_meaning.specs.Constant.{branches_kind, elements_of, operands_kind, prefix_kind}
-use Rattle.capl_meaning.specs.Expression.{Memory, Setting, Spot, Nowhere, InBytes, call_value, calling, element_spot, field_spot, gives_or_traps, indexing, operates, part_spot, place_spot, reads, spot_of, step_operator, steps, stores, value_of, value_of_name, values_of}
+use Rattle.capl_meaning.specs.Expression.{Memory, Setting, Spot, Nowhere, InBytes, call_value, calling, element_spot, field_spot, gives_or_traps, indexing, operates, part_spot, place_spot, reads, spot_of, step_operator, step_by_one, stores, value_of, value_of_name, values_of}
 use Rattle.meaning_laws.proofs.Cuts.{EndsWithin, IsCutLast, either_cut, map_cut, test_cut, then_cut}
 
 module _ (n : ℕ) where
@@ -53,7 +53,7 @@ module _ (n : ℕ) where
   stores_cut s spot v = record { cut = λ w le. omega arith }
 
   -- a step by 1
-  steps_cut : (s : Setting) (operator : BinOp) (is_behind : Bool) (k : Kind) (spot : Spot) → IsCutLast n (steps s operator is_behind k spot)
+  steps_cut : (s : Setting) (operator : BinOp) (is_behind : Bool) (k : Kind) (spot : Spot) → IsCutLast n (step_by_one s operator is_behind k spot)
   steps_cut s operator is_behind k spot = record {
     cut = (then_cut n _ _ (reads_cut s spot) (λ old.
         then_cut n _ _ (operates_cut operator (join k Long) old (pos 1)) (λ new.

@@ -25,7 +25,7 @@ use Rattle.capl_meaning.specs.Message.{Held, array_in, is_number_place, message_
 use Rattle.capl_meaning.specs.Sort.{kind_in, sort_of}
 use Rattle.capl_meaning.specs.Operator.{prefix_value, truth_of}
 use Rattle.capl_meaning.specs.Constant.{branches_kind, elements_of, operands_kind, prefix_kind}
-use Rattle.capl_meaning.specs.Expression.{Memory, Setting, Spot, Nowhere, InBytes, call_value, calling, element_spot, field_spot, gives_or_traps, indexing, operates, part_spot, place_spot, reads, spot_of, step_operator, steps, stores, value_of, value_of_name, values_of}
+use Rattle.capl_meaning.specs.Expression.{Memory, Setting, Spot, Nowhere, InBytes, call_value, calling, element_spot, field_spot, gives_or_traps, indexing, operates, part_spot, place_spot, reads, spot_of, step_operator, step_by_one, stores, value_of, value_of_name, values_of}
 use Rattle.meaning_laws.proofs.Parts.{either_adds_none, map_adds_none, test_adds_none, then_adds_none}
 
 -- an index that is checked
@@ -53,7 +53,7 @@ stores_add_none s Nowhere n = record { turns = λ w. omega arith }
 stores_add_none s spot n = record { turns = λ w. omega arith }
 
 -- a step by 1
-steps_add_none : (s : Setting) (operator : BinOp) (is_behind : Bool) (k : Kind) (spot : Spot) → AddsNoTurns (steps s operator is_behind k spot)
+steps_add_none : (s : Setting) (operator : BinOp) (is_behind : Bool) (k : Kind) (spot : Spot) → AddsNoTurns (step_by_one s operator is_behind k spot)
 steps_add_none s operator is_behind k spot = record {
   turns = (then_adds_none _ _ (reads_add_none s spot) (λ old.
       then_adds_none _ _ (operates_adds_none operator (join k Long) old (pos 1)) (λ new.

@@ -19,7 +19,7 @@ use Rattle.capl_meaning.specs.Message.{Held, array_in, is_number_place, message_
 use Rattle.capl_meaning.specs.Sort.{kind_in, sort_of}
 use Rattle.capl_meaning.specs.Operator.{prefix_value, truth_of}
 use Rattle.capl_meaning.specs.Constant.{branches_kind, elements_of, operands_kind, prefix_kind}
-use Rattle.capl_meaning.specs.Expression.{Memory, Setting, Spot, Nowhere, InBytes, InElement, call_value, calling, element_spot, field_spot, indexing, kind_of_elements, operates, part_spot, place_spot, reads, spot_of, step_operator, steps, stores, value_of, values_of}
+use Rattle.capl_meaning.specs.Expression.{Memory, Setting, Spot, Nowhere, InBytes, InElement, call_value, calling, element_spot, field_spot, indexing, kind_of_elements, operates, part_spot, place_spot, reads, spot_of, step_operator, step_by_one, stores, value_of, values_of}
 use Rattle.meaning_laws.proofs.Parts.{same_either, same_map, same_next, same_self, same_test}
 use Rattle.meaning_laws.proofs.Expressions.{element_adds_none, field_adds_none, part_adds_none, place_adds_none, spot_adds_none, value_adds_none, values_add_none}
 
@@ -72,16 +72,16 @@ module _ (n : ℕ) (s : Setting) (call call' : Calls Memory) (calls : (f : ℕ) 
     same_value (tree.Cast kind inner at) = record { same = (same_map n (wrap kind) _ _ (same_value inner)).same }
     same_value (tree.Unary prefix.Up inner at) = record {
       same = (same_next n _ _ _ _ (place_adds_none s inner _ (spot_adds_none s call' calls inner)) (same_place n s inner _ _ (same_spot inner))
-          (λ spot. same_self n (steps s op.Add false (kind_in (sort_of s.scope inner)) spot))).same;
+          (λ spot. same_self n (step_by_one s op.Add false (kind_in (sort_of s.scope inner)) spot))).same;
     }
     same_value (tree.Unary prefix.Down inner at) = record {
       same = (same_next n _ _ _ _ (place_adds_none s inner _ (spot_adds_none s call' calls inner)) (same_place n s inner _ _ (same_spot inner))
-          (λ spot. same_self n (steps s op.Sub false (kind_in (sort_of s.scope inner)) spot))).same;
+          (λ spot. same_self n (step_by_one s op.Sub false (kind_in (sort_of s.scope inner)) spot))).same;
     }
     same_value (tree.Unary operator inner at) = record { same = (same_map n (prefix_value operator (prefix_kind s.scope inner)) _ _ (same_value inner)).same }
     same_value (tree.Post up inner at) = record {
       same = (same_next n _ _ _ _ (place_adds_none s inner _ (spot_adds_none s call' calls inner)) (same_place n s inner _ _ (same_spot inner))
-          (λ spot. same_self n (steps s (step_operator up) true (kind_in (sort_of s.scope inner)) spot))).same;
+          (λ spot. same_self n (step_by_one s (step_operator up) true (kind_in (sort_of s.scope inner)) spot))).same;
     }
     same_value (tree.Binary op.AndAlso left right at) = record {
       same = (same_test n _ _ _ _ (Gives (pos 0)) (Gives (pos 0)) (value_adds_none s call' calls left) (same_value left)

@@ -18,12 +18,12 @@ use Rattle.capl_tree.specs.Forms as tree
 use Rattle.capl_meaning.specs.declared.builtin.Builtin.TheVariants as builtin
 use Rattle.capl_meaning.specs.Variable.{Variable}
 use Rattle.capl_meaning.specs.Names.{Callee, OfLanguage, callee}
-use Rattle.capl_meaning.specs.Format.{text_in}
+use Rattle.capl_meaning.specs.Format.{quoted_text}
 use Rattle.capl_meaning.specs.Message.{Held, HeldVariable, message_in}
 use Rattle.capl_meaning.specs.Sort.{is_number, sort_of}
 use Rattle.capl_meaning.specs.Constant.{prefix_kind}
 use Rattle.capl_meaning.specs.Expression.{Memory, Setting, timer_in}
-use Rattle.capl_meaning.specs.Statement.{alone_of, arms_of, assigns, calls_alone, drops, else_of, fitting_pieces, for_test, group_for, groups_of, labels_of, numbers_of, part_of, returns, sets, sets_timer, stmt_of, stmts_of, with_line, wrapped_to, writes_line}
+use Rattle.capl_meaning.specs.Statement.{alone_of, arms_of, assigns, calls_alone, drops, else_of, fitting_pieces, for_test, group_for, groups_of, group_labels, numbers_of, part_of, returns, sets, sets_timer, stmt_of, stmts_of, with_line, wrapped_to, writes_line}
 use Rattle.capl_meaning.specs.Procedure.{runs}
 use Rattle.meaning_laws.proofs.Parts.{same_either, same_map, same_next, same_self, same_test}
 use Rattle.meaning_laws.proofs.Expressions.{value_adds_none}
@@ -70,7 +70,7 @@ module _ (n : ℕ) (s : Setting) (call call' : Calls Memory) (calls : (f : ℕ) 
       Agree n (calls_alone s call found arguments other) (calls_alone s call' found arguments other')
   same_calls_alone (OfLanguage builtin.Output) (message ∷ []) other other' h = record { same = λ w le. refl }
   same_calls_alone (OfLanguage builtin.Write) (format ∷ arguments) other other' h =
-      record { same = (same_writes (fitting_pieces (map (sort_of s.scope) arguments) (text_in format)) arguments).same }
+      record { same = (same_writes (fitting_pieces (map (sort_of s.scope) arguments) (quoted_text format)) arguments).same }
   same_calls_alone (OfLanguage builtin.SetTimer) (timer ∷ duration ∷ []) other other' h = record {
     same = (same_sets_timer n s (timer_in s.scope timer) false _ _ (value_adds_none s call' calls duration) (same_value n s call call' calls same duration)).same;
   }
@@ -133,7 +133,7 @@ module _ (n : ℕ) (s : Setting) (call call' : Calls Memory) (calls : (f : ℕ) 
       }
       same_stmt (stmt.Switch' on shape groups) = record {
         same = (same_next n _ _ _ _ (value_adds_none s call' calls on) (same_value n s call call' calls same on) (λ v.
-            let group = group_for (wrap (prefix_kind s.scope on) v) (labels_of s.scope (prefix_kind s.scope on) groups) in
+            let group = group_for (wrap (prefix_kind s.scope on) v) (group_labels s.scope (prefix_kind s.scope on) groups) in
             same_next n _ _ _ _ (groups_add_none s call' calls k' groups group) (same_groups groups group) (λ end. same_self n (leaving_switch end)))).same;
       }
       same_stmt (stmt.Break at) = record { same = λ w le. refl }

@@ -61,20 +61,21 @@ id_of (Std id) = id
 id_of (Ext id) = 2 ^ 31 + id
 
 -- the number in a message's cell
-abbrev pub field : List ℤ → ℕ → ℤ
-field message cell = slice_index_or message cell (pos 0)
+abbrev pub field_number : List ℤ → ℕ → ℤ
+field_number message cell = slice_index_or message cell (pos 0)
 
 -- whether a message is remote, by its remote bit
 abbrev pub is_remote : List ℤ → Bool
-is_remote message = not (written_rtr (field message 2) == 0)
+is_remote message = not (written_rtr (field_number message 2) == 0)
 
 -- the frame of a message, with each field brought to its range by its write rule, on channel 1
 abbrev pub frame_of : List ℤ → FrameFields
 frame_of message = record {
-  ident = ident_of (written_id (field message 0));
+  ident = ident_of (written_id (field_number message 0));
   remote = is_remote message;
-  dlc = written_dlc (field message 1);
-  payload = padded (data_len_of (is_remote message) (written_dlc (field message 1))) (payload_of message);
+  dlc = written_dlc (field_number message 1);
+  payload =
+      padded (data_len_of (is_remote message) (written_dlc (field_number message 1))) (payload_of message);
   can = 1;
 }
 

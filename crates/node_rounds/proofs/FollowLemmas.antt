@@ -14,11 +14,11 @@ use Rattle.node_rounds.specs.declared.round.Round.{Round}
 use Rattle.node_rounds.specs.declared.round.Round.TheVariants as round_of
 use Rattle.node_rounds.specs.declared.round.Seen.{Seen}
 use Rattle.std.specs.List.{All}
-use Rattle.node_rounds.specs.Effects.{IsTimerEffect, halt_lines, halts, lines_of, requests_of, stops_of, timers_after}
+use Rattle.node_rounds.specs.Effects.{IsTimerEffect, halt_lines, halts, written_lines, requested_frames, stops_of, timers_after}
 use Rattle.node_rounds.specs.Follows.{DoneAlike, DoingAlike, EndAlike, Follows, IsFor, NodesAlike, RunsFollow}
 use Rattle.node_rounds.specs.Procedures.{procedures_for}
 use Rattle.node_rounds.specs.Reaction.{Done, DoesProcedure, NodeState, Reacts, RunEnd, Runner, due_timer, reaction_of, timers_at_begin, with_procedure, without_procedure}
-use Rattle.node_rounds.specs.Round.{Doing, DoesNext, IsDone, IsPart, PartOf, Rest, Task, at_begin, frame_triggers, key_triggers, next_first, next_last, next_of, next_timer, next_trigger, rest_of, task_of, timer_trigger, triggers}
+use Rattle.node_rounds.specs.Round.{Doing, DoesNext, IsDone, IsPart, PartOf, Rest, Task, at_begin, frame_triggers, key_triggers, next_first, next_last, next_of, timer_or_last, next_trigger, rest_of, task_of, timer_trigger, triggers}
 
 -- ---- the triggers that are left in a round
 
@@ -55,13 +55,13 @@ first_among [] = tt
 first_among (x ∷ xs) = (0, omega arith, refl)
 
 timer_is : (procedures : Occurrence → List ℕ) (due : Option ℕ) (few : Rest) (trigger : Trigger) (rest : Rest) → AreLeftFor procedures few
-    → next_timer few (option_map (timer_trigger procedures) due) ≡ found trigger rest → IsNextFor procedures trigger rest
+    → timer_or_last few (option_map (timer_trigger procedures) due) ≡ found trigger rest → IsNextFor procedures trigger rest
 timer_is procedures None few trigger rest are e = last_is procedures few few.last trigger rest are.0 are.1 e
 timer_is procedures (Some timer) few trigger rest are e =
     next_is procedures (timer_trigger procedures timer) trigger few rest (first_among (procedures (happens.Timer timer))) are e
 
 behind_first : (procedures : Occurrence → List ℕ) (asks : Bool) (due : Option ℕ) (few : Rest) (trigger : Trigger) (rest : Rest) → AreLeftFor procedures few
-    → (if asks then next_timer few (option_map (timer_trigger procedures) due) else next_last few few.last) ≡ found trigger rest → IsNextFor procedures trigger rest
+    → (if asks then timer_or_last few (option_map (timer_trigger procedures) due) else next_last few few.last) ≡ found trigger rest → IsNextFor procedures trigger rest
 behind_first procedures true due few trigger rest are e = timer_is procedures due few trigger rest are e
 behind_first procedures false due few trigger rest are e = last_is procedures few few.last trigger rest are.0 are.1 e
 
@@ -211,8 +211,8 @@ timers_alike now occurrence a b xs ys same equal =
 with_alike : {M N : Type 0} (related : M → N → Type 0) (s : NodeState M) (t : NodeState N) → NodesAlike related s t → (occurrence : Occurrence) (now : ℕ)
     (d : RunEnd M) (e : RunEnd N) → EndAlike related d e → DoneAlike (NodesAlike related) (with_procedure s occurrence now d) (with_procedure t occurrence now e)
 with_alike related s t alike occurrence now d e end = record {
-  lines = ap (λ (xs : List Effect). lines_of xs ++ halt_lines e.outcome) end.effects ∙ ap (λ (o : Outcome). lines_of d.effects ++ halt_lines o) end.outcome;
-  requests = ap requests_of end.effects;
+  lines = ap (λ (xs : List Effect). written_lines xs ++ halt_lines e.outcome) end.effects ∙ ap (λ (o : Outcome). written_lines d.effects ++ halt_lines o) end.outcome;
+  requests = ap requested_frames end.effects;
   stops = ap stops_of end.effects;
   turns = end.turns;
   after = record {

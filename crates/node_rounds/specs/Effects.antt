@@ -9,16 +9,16 @@ use Rattle.run_effects.specs.declared.outcome.TrapKind.TheVariants.{ZeroDivisor,
 use Rattle.timer_queue.specs.Timers.{Timers, IsDuration, after_cancel, after_set}
 
 -- the texts of the lines, in order
-abbrev pub lines_of : List Effect → List (List ℕ)
-lines_of [] = []
-lines_of (Line text ∷ effects) = text ∷ lines_of effects
-lines_of (effect ∷ effects) = lines_of effects
+abbrev pub written_lines : List Effect → List (List ℕ)
+written_lines [] = []
+written_lines (Line text ∷ effects) = text ∷ written_lines effects
+written_lines (effect ∷ effects) = written_lines effects
 
 -- the frames that are requested, in order
-abbrev pub requests_of : List Effect → List FrameFields
-requests_of [] = []
-requests_of (Send frame ∷ effects) = frame ∷ requests_of effects
-requests_of (effect ∷ effects) = requests_of effects
+abbrev pub requested_frames : List Effect → List FrameFields
+requested_frames [] = []
+requested_frames (Send frame ∷ effects) = frame ∷ requested_frames effects
+requested_frames (effect ∷ effects) = requested_frames effects
 
 -- whether the run asked to stop the measurement
 abbrev pub stops_of : List Effect → Bool

@@ -26,9 +26,9 @@ is_stop event.Stop = true
 is_stop _ = false
 
 -- `on timer` of this timer
-abbrev pub is_timer : ℕ → Event → Bool
-is_timer timer (event.Timer own) = own == timer
-is_timer timer _ = false
+abbrev pub is_for_timer : ℕ → Event → Bool
+is_for_timer timer (event.Timer own) = own == timer
+is_for_timer timer _ = false
 
 -- `on key` of this key
 abbrev pub is_key : ℕ → Event → Bool
@@ -45,8 +45,8 @@ abbrev pub holds : ℕ → ℕ → Selector → Bool
 holds rank key selector = (selector.rank == rank) && nat_le selector.low key && nat_le key selector.high
 
 -- `on message` with a selector of this rank that holds this selection key
-abbrev pub is_message : ℕ → ℕ → Event → Bool
-is_message rank key event = list_any (holds rank key) (selectors_of event)
+abbrev pub is_for_message : ℕ → ℕ → Event → Bool
+is_for_message rank key event = list_any (holds rank key) (selectors_of event)
 
 -- the numbers of all procedures of which a test holds, from a number on
 abbrev pub numbers_where : (Event → Bool) → ℕ → List Event → List ℕ
@@ -68,8 +68,8 @@ else_other (Some number) other = Some number
 -- range holds it, else the one for `*`
 abbrev pub message_procedure : List Event → ℕ → Option ℕ
 message_procedure events key =
-    else_other (first_where (is_message 0 key) events)
-    (else_other (first_where (is_message 1 key) events) (first_where (is_message 2 key) events))
+    else_other (first_where (is_for_message 0 key) events)
+    (else_other (first_where (is_for_message 1 key) events) (first_where (is_for_message 2 key) events))
 
 -- the key procedure for a key: that for the key, else the one for `*`
 abbrev pub key_procedure : List Event → ℕ → Option ℕ
@@ -82,5 +82,5 @@ procedures_for events Start = numbers_where is_start 0 events
 procedures_for events Stop = numbers_where is_stop 0 events
 procedures_for events (Frame seen) =
     option_to_list (message_procedure events (selection_key seen.frame.ident))
-procedures_for events (Timer timer) = option_to_list (first_where (is_timer timer) events)
+procedures_for events (Timer timer) = option_to_list (first_where (is_for_timer timer) events)
 procedures_for events (Key key) = option_to_list (key_procedure events key)

@@ -10,7 +10,7 @@ use Rattle.timer_queue.specs.Timers.{Timers, active_timers, after_take, first_du
 use Rattle.node_rounds.specs.declared.occurrence.Occurrence.{Occurrence}
 use Rattle.node_rounds.specs.declared.occurrence.Occurrence.TheVariants.{Stop, Timer}
 use Rattle.node_rounds.specs.declared.occurrence.Trigger.{Trigger}
-use Rattle.node_rounds.specs.Effects.{IsTimerEffect, halt_lines, halts, lines_of, requests_of, stops_of, timers_after}
+use Rattle.node_rounds.specs.Effects.{IsTimerEffect, halt_lines, halts, written_lines, requested_frames, stops_of, timers_after}
 use Rattle.node_rounds.specs.Procedures.{procedures_for}
 
 -- what a node has done in a task: its lines and its requests in order, whether it asked to stop, the turns
@@ -108,8 +108,8 @@ without_procedure {M} s occurrence now = record {
 -- the run, and halts the node; all that the run did before stays.
 abbrev pub with_procedure : {M : Type 0} → NodeState M → Occurrence → ℕ → RunEnd M → Done (NodeState M)
 with_procedure {M} s occurrence now end = record {
-  lines = lines_of end.effects ++ halt_lines end.outcome;
-  requests = requests_of end.effects;
+  lines = written_lines end.effects ++ halt_lines end.outcome;
+  requests = requested_frames end.effects;
   stops = stops_of end.effects;
   turns = end.turns;
   after = record {

@@ -68,13 +68,13 @@ next_last rest [] = None
 next_last rest (trigger ∷ triggers) = Some (trigger, record rest { last = triggers })
 
 -- the due timer, else the next of the last triggers
-abbrev pub next_timer : Rest → Option Trigger → Option (Trigger × Rest)
-next_timer rest None = next_last rest rest.last
-next_timer rest (Some trigger) = Some (trigger, rest)
+abbrev pub timer_or_last : Rest → Option Trigger → Option (Trigger × Rest)
+timer_or_last rest None = next_last rest rest.last
+timer_or_last rest (Some trigger) = Some (trigger, rest)
 
 -- the next of the first triggers, else the due timer where the round asks for it, else the next of the last
 abbrev pub next_first : Rest → Option Trigger → List Trigger → Option (Trigger × Rest)
-next_first rest due [] = if rest.asks_timers then next_timer rest due else next_last rest rest.last
+next_first rest due [] = if rest.asks_timers then timer_or_last rest due else next_last rest rest.last
 next_first rest due (trigger ∷ triggers) = Some (trigger, record rest { first = triggers })
 
 -- the next trigger, and what is left behind it; a halted node has none

@@ -15,7 +15,7 @@ use Rattle.msg_select.specs.declared.selector.MessageSelector.{MessageSelector}
 use Rattle.msg_select.specs.Selection.{Holds, IsChosen}
 use Rattle.msg_select.specs.Selection.{AreApart as AreApartHere}
 use Rattle.msg_select.proofs.ChoiceLemmas.{chosen_in_order, none_in_order, only_choice}
-use Rattle.node_rounds.specs.Procedures.{else_other, first_where, holds, is_message, message_procedure}
+use Rattle.node_rounds.specs.Procedures.{else_other, first_where, holds, is_for_message, message_procedure}
 use Rattle.node_run.specs.Code.{events_of}
 use Rattle.node_run.specs.Inside.Tables.{IsChoice, message_selectors, selector_for}
 
@@ -94,12 +94,12 @@ none_of rank key number (s ∷ selectors) h = first (holds rank key s) refl h (n
         (λ same held. holds_not rank key s here same held.from held.to) (later h)
 
 -- the first procedure with a selector of a rank that holds the key, and its selector
-first_of_rank : (rank key number handler : ℕ) (events : List Event) → position_from (is_message rank key) number events ≡ Some handler → IsOf rank key handler (message_selectors number events)
+first_of_rank : (rank key number handler : ℕ) (events : List Event) → position_from (is_for_message rank key) number events ≡ Some handler → IsOf rank key handler (message_selectors number events)
 first_of_rank rank key number handler [] h = absurd (cc)
-first_of_rank rank key number handler (event ∷ events) h = here (is_message rank key event) refl h (first_of_rank rank key (number + 1) handler events)
+first_of_rank rank key number handler (event ∷ events) h = here (is_for_message rank key event) refl h (first_of_rank rank key (number + 1) handler events)
   where
-    here : (b : Bool) → is_message rank key event ≡ b → cond b (Some number) (position_from (is_message rank key) (number + 1) events) ≡ Some handler
-        → (position_from (is_message rank key) (number + 1) events ≡ Some handler → IsOf rank key handler (message_selectors (number + 1) events))
+    here : (b : Bool) → is_for_message rank key event ≡ b → cond b (Some number) (position_from (is_for_message rank key) (number + 1) events) ≡ Some handler
+        → (position_from (is_for_message rank key) (number + 1) events ≡ Some handler → IsOf rank key handler (message_selectors (number + 1) events))
         → IsOf rank key handler (message_selectors number (event ∷ events))
     here true is h later =
         let same : number ≡ handler = cc in
@@ -109,12 +109,12 @@ first_of_rank rank key number handler (event ∷ events) h = here (is_message ra
         of_right rank key handler (map (selector_for number) (selectors_of event)) (message_selectors (number + 1) events)
         (later h)
 
-none_of_rank : (rank key number : ℕ) (events : List Event) → position_from (is_message rank key) number events ≡ None → NoneOf rank key (message_selectors number events)
+none_of_rank : (rank key number : ℕ) (events : List Event) → position_from (is_for_message rank key) number events ≡ None → NoneOf rank key (message_selectors number events)
 none_of_rank rank key number [] h = All-nil (λ s. s.rank ≡ rank → Holds key s → ⊥)
-none_of_rank rank key number (event ∷ events) h = here (is_message rank key event) refl h (none_of_rank rank key (number + 1) events)
+none_of_rank rank key number (event ∷ events) h = here (is_for_message rank key event) refl h (none_of_rank rank key (number + 1) events)
   where
-    here : (b : Bool) → is_message rank key event ≡ b → cond b (Some number) (position_from (is_message rank key) (number + 1) events) ≡ None
-        → (position_from (is_message rank key) (number + 1) events ≡ None → NoneOf rank key (message_selectors (number + 1) events))
+    here : (b : Bool) → is_for_message rank key event ≡ b → cond b (Some number) (position_from (is_for_message rank key) (number + 1) events) ≡ None
+        → (position_from (is_for_message rank key) (number + 1) events ≡ None → NoneOf rank key (message_selectors (number + 1) events))
         → NoneOf rank key (message_selectors number (event ∷ events))
     here true is h later = absurd (cc)
     here false is h later =
@@ -150,10 +150,10 @@ record IsFirst (rank key : ℕ) (selectors : List MessageSelector) (first : Opti
   pub some : IfSome first (λ handler. IsOf rank key handler selectors)
   pub none : IfNone first (NoneOf rank key selectors)
 
-is_first : (rank key : ℕ) (events : List Event) → IsFirst rank key (message_selectors 0 events) (first_where (is_message rank key) events)
-is_first rank key events = either (first_where (is_message rank key) events) refl
+is_first : (rank key : ℕ) (events : List Event) → IsFirst rank key (message_selectors 0 events) (first_where (is_for_message rank key) events)
+is_first rank key events = either (first_where (is_for_message rank key) events) refl
   where
-    either : (first : Option ℕ) → first_where (is_message rank key) events ≡ first → IsFirst rank key (message_selectors 0 events) first
+    either : (first : Option ℕ) → first_where (is_for_message rank key) events ≡ first → IsFirst rank key (message_selectors 0 events) first
     either None is = record { some = tt; none = none_of_rank rank key 0 events is }
     either (Some handler) is = record { some = first_of_rank rank key 0 handler events is; none = tt }
 

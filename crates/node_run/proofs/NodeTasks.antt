@@ -34,11 +34,11 @@ use Rattle.stack_vm.specs.Quiet.{IsQuietHandler}
 use Rattle.node_rounds.specs.declared.occurrence.Occurrence.{Occurrence}
 use Rattle.node_rounds.specs.declared.occurrence.Trigger.{Trigger}
 use Rattle.std.specs.List.{All}
-use Rattle.node_rounds.specs.Effects.{IsTimerEffect, halt_lines, halts, lines_of}
+use Rattle.node_rounds.specs.Effects.{IsTimerEffect, halt_lines, halts, written_lines}
 use Rattle.node_rounds.specs.Effects.{timers_after as effects_on}
 use Rattle.node_rounds.specs.Entries.{TakesEntries, line_entries}
 use Rattle.node_rounds.specs.Reaction.{Done, DoesProcedure, NodeState, RunEnd, is_closed, timers_at_begin, with_procedure, without_procedure}
-use Rattle.node_rounds.specs.Round.{Doing, DoesNext, Rest, Task, due_trigger, next_first, next_last, next_of, next_timer, next_trigger, task_of}
+use Rattle.node_rounds.specs.Round.{Doing, DoesNext, Rest, Task, due_trigger, next_first, next_last, next_of, timer_or_last, next_trigger, task_of}
 use Rattle.node_rounds.proofs.MovingTimers.{count_at_begin}
 use Rattle.node_run.specs.Code.{CodeMemory, EndsByCode, by_code, cells_with_this, code_reaction}
 use Rattle.node_run.specs.Inside.Agenda.{IsNextTaken, next_in}
@@ -60,7 +60,7 @@ entries_append now node [] ys = refl
 entries_append now node (x ∷ xs) ys = ap (λ (es : List Noted). entry.Line now node x ∷ es) (entries_append now node xs ys)
 
 -- the lines of effects in two parts
-lines_append : (xs ys : List Effect) → lines_of (xs ++ ys) ≡ lines_of xs ++ lines_of ys
+lines_append : (xs ys : List Effect) → written_lines (xs ++ ys) ≡ written_lines xs ++ written_lines ys
 lines_append [] ys = refl
 lines_append (Line text ∷ xs) ys = ap (λ (ls : List (List ℕ)). text ∷ ls) (lines_append xs ys)
 lines_append (Send frame ∷ xs) ys = lines_append xs ys
@@ -69,9 +69,9 @@ lines_append (Set timer micros cyclic ∷ xs) ys = lines_append xs ys
 lines_append (Cancel timer ∷ xs) ys = lines_append xs ys
 
 -- the lines of a run begin with those of its first effects
-lines_begin : (effects first : List Effect) (more : List (List ℕ)) → BeginsWith effects first → BeginsWith (lines_of effects ++ more) (lines_of first)
+lines_begin : (effects first : List Effect) (more : List (List ℕ)) → BeginsWith effects first → BeginsWith (written_lines effects ++ more) (written_lines first)
 lines_begin effects first more begins =
-    (lines_of begins.0 ++ more, ap (λ (ls : List (List ℕ)). ls ++ more) (ap lines_of begins.1 ∙ lines_append first begins.0) ∙ append_assoc (lines_of first) (lines_of begins.0) more)
+    (written_lines begins.0 ++ more, ap (λ (ls : List (List ℕ)). ls ++ more) (ap written_lines begins.1 ∙ lines_append first begins.0) ∙ append_assoc (written_lines first) (written_lines begins.0) more)
 
 -- ---- what is next
 
@@ -127,7 +127,7 @@ procedure_of node trigger rest handler next runs task after n =
 -- the lines of the next task begin with those of effects with which each end of its run begins
 pub lines_begin_task : {B R : Type 0} (node : NodeInRound) (trigger : Trigger) (rest : Rest) (handler : ℕ) (memory : MemoryState) (before : Parts B R) (start : Machine) (effects : List Effect)
     → IsNextRun node trigger rest handler memory before start → AllBeginWith node.doing.node.memory.code (is_closed trigger.occurrence) node.moment start effects
-    → BeginTask node (lines_of effects)
+    → BeginTask node (written_lines effects)
 lines_begin_task node trigger rest handler memory before start effects run first task after n =
     let p = procedure_of node trigger rest handler run.next run.runs task after n in
     let e = subst (λ (t : Timers). EndsByCode node.doing.node.memory handler trigger.occurrence node.moment (active_timers t) p.end) (sym run.fires) p.ends in
@@ -136,13 +136,13 @@ lines_begin_task node trigger rest handler memory before start effects run first
     run.begins e refl refl run.this in
     let begins : BeginsWith e.last.effects effects =
     first p.end.outcome e.last (subst (λ (m : Machine). EndsIn node.doing.node.memory.code (is_closed trigger.occurrence) node.moment m p.end.outcome e.last) same e.ends) in
-    subst (λ ls. BeginsWith ls (lines_of effects)) (sym (ap (λ (t : Task). t.lines) n.is_task ∙ ap (λ (d : Done (NodeState CodeMemory)). d.lines) p.is))
+    subst (λ ls. BeginsWith ls (written_lines effects)) (sym (ap (λ (t : Task). t.lines) n.is_task ∙ ap (λ (d : Done (NodeState CodeMemory)). d.lines) p.is))
     (lines_begin p.end.effects effects (halt_lines p.end.outcome) (subst (λ es. BeginsWith es effects) (sym e.effects) begins))
 
 -- the lines of the next task are those of the end of its run, and then the line that tells a halt
 pub lines_of_task : {B R : Type 0} (node : NodeInRound) (trigger : Trigger) (rest : Rest) (handler : ℕ) (memory : MemoryState) (before : Parts B R) (start : Machine) (outcome : Outcome) (last : Machine)
     → IsNextRun node trigger rest handler memory before start → EndsIn node.doing.node.memory.code (is_closed trigger.occurrence) node.moment start outcome last
-    → BeginTask node (lines_of last.effects ++ halt_lines outcome)
+    → BeginTask node (written_lines last.effects ++ halt_lines outcome)
 lines_of_task node trigger rest handler memory before start outcome last run ends task after n =
     let p = procedure_of node trigger rest handler run.next run.runs task after n in
     let e = subst (λ (t : Timers). EndsByCode node.doing.node.memory handler trigger.occurrence node.moment (active_timers t) p.end) (sym run.fires) p.ends in
@@ -154,8 +154,8 @@ lines_of_task node trigger rest handler memory before start outcome last run end
     let effects : p.end.effects ≡ last.effects = e.effects ∙ ap (λ (m : Machine). m.effects) once.1 in (
       [],
       ap (λ (t : Task). t.lines) n.is_task ∙ ap (λ (d : Done (NodeState CodeMemory)). d.lines) p.is
-          ∙ ap (λ (es : List Effect). lines_of es ++ halt_lines p.end.outcome) effects ∙ ap (λ (o : Outcome). lines_of last.effects ++ halt_lines o) once.0
-          ∙ sym (append-nil (lines_of last.effects ++ halt_lines outcome)),
+          ∙ ap (λ (es : List Effect). written_lines es ++ halt_lines p.end.outcome) effects ∙ ap (λ (o : Outcome). written_lines last.effects ++ halt_lines o) once.0
+          ∙ sym (append-nil (written_lines last.effects ++ halt_lines outcome)),
     )
 
 -- the next task halts the node where the end of its run does
@@ -173,7 +173,7 @@ halted_by_task node trigger rest handler memory before start outcome last run en
     ap (λ (s : NodeState CodeMemory). s.is_halted) (n.stands ∙ ap (λ (d : Done (NodeState CodeMemory)). d.after) p.is) ∙ ap halts once.0
 
 -- the lines of effects and then one line more are those of the effects and this line
-line_next : (node : NodeInRound) (effects : List Effect) (text : List ℕ) → BeginTask node (lines_of (effects ++ Line text ∷ [])) → BeginTask node (lines_of effects ++ text ∷ [])
+line_next : (node : NodeInRound) (effects : List Effect) (text : List ℕ) → BeginTask node (written_lines (effects ++ Line text ∷ [])) → BeginTask node (written_lines effects ++ text ∷ [])
 line_next node effects text begins = subst (λ (ls : List (List ℕ)). BeginTask node ls) (lines_append effects (Line text ∷ [])) begins
 
 -- what begins with effects and one more begins with the effects
@@ -307,8 +307,8 @@ module _ {B R : Type 0} (after_request : B → ℕ → FrameFields → B) (meani
       next = next_with halted halt;
       same_moment = refl;
       same_row = refl;
-      lines = subst (λ es. TakesEntries meaning into es into_after) (sym (entries_append node.moment number (lines_of run.last.effects) (halt_lines outcome)))
-          (takes_more meaning into (line_entries node.moment number (lines_of run.last.effects)) (line_entries node.moment number (halt_lines outcome)) between into_after run.come_to.lines lines);
+      lines = subst (λ es. TakesEntries meaning into es into_after) (sym (entries_append node.moment number (written_lines run.last.effects) (halt_lines outcome)))
+          (takes_more meaning into (line_entries node.moment number (written_lines run.last.effects)) (line_entries node.moment number (halt_lines outcome)) between into_after run.come_to.lines lines);
       requests = run.come_to.requests;
       stops = run.come_to.stops;
       metered = metered_with;
@@ -327,7 +327,7 @@ module _ {B R : Type 0} (after_request : B → ℕ → FrameFields → B) (meani
     pub refused_halt : (into_after : R) (text : List ℕ) → halt_lines outcome ≡ text ∷ [] → RefusesEntry meaning between (entry.Line node.moment number text) into_after
         → IsTaskRefused meaning number node into into_after meter meter_after
     refused_halt into_after text told refused = record {
-      lines = lines_of run.last.effects;
+      lines = written_lines run.last.effects;
       between = between;
       first_lines = lines_begin_task node trigger rest handler memory (parts number node.moment false bus into timers) run.start run.last.effects next_run
           (λ other last ends.
@@ -338,7 +338,7 @@ module _ {B R : Type 0} (after_request : B → ℕ → FrameFields → B) (meani
       refusal = inr (
         text,
         refused,
-        subst (λ (ls : List (List ℕ)). BeginTask node (lines_of run.last.effects ++ ls)) told
+        subst (λ (ls : List (List ℕ)). BeginTask node (written_lines run.last.effects ++ ls)) told
             (lines_of_task node trigger rest handler memory (parts number node.moment false bus into timers) run.start outcome run.last next_run
             (subst (λ b. EndsIn node.doing.node.memory.code b node.moment run.start outcome run.last) runs.closing run.ends)),
       );
@@ -375,15 +375,15 @@ refused_run {B} {R} after_request meaning number node bus into meter meter_after
         → RefusesHandler after_request meaning node.doing.node.memory.code closed handler node.doing.node.memory.turns memory (parts number node.moment false bus into timers) after
         → meter_after ≡ meter → IsTaskRefused meaning number node into after.into meter meter_after
     refused_own took runs run same = record {
-      lines = lines_of run.at.effects;
+      lines = written_lines run.at.effects;
       between = run.between.into;
       first_lines = begins run.at.effects (λ outcome last ends. without_next last.effects run.at.effects run.effect (next outcome last ends));
       taken = run.come_to.lines;
-      refusal = elim run.refusal as (λ _. RefusesNext meaning number node (lines_of run.at.effects) run.between.into after.into) [ inl same ↦ inl same | inr refused ↦ refused_next run.effect next refused ];
+      refusal = elim run.refusal as (λ _. RefusesNext meaning number node (written_lines run.at.effects) run.between.into after.into) [ inl same ↦ inl same | inr refused ↦ refused_next run.effect next refused ];
       metered = inl same;
     }
       where
-        begins : (effects : List Effect) → AllBeginWith node.doing.node.memory.code (is_closed trigger.occurrence) node.moment run.start effects → BeginTask node (lines_of effects)
+        begins : (effects : List Effect) → AllBeginWith node.doing.node.memory.code (is_closed trigger.occurrence) node.moment run.start effects → BeginTask node (written_lines effects)
         begins effects =
             lines_begin_task node trigger rest handler memory (parts number node.moment false bus into timers) run.start effects
             (record { next = took.next; runs = runs.runs; begins = run.begins; this = runs.this; fires = took.fires })
@@ -393,7 +393,7 @@ refused_run {B} {R} after_request meaning number node bus into meter meter_after
             run.next_effect outcome last (subst (λ b. EndsIn node.doing.node.memory.code b node.moment run.start outcome last) (sym runs.closing) ends)
 
         refused_next : (effect : Effect) → AllBeginWith node.doing.node.memory.code (is_closed trigger.occurrence) node.moment run.start (run.at.effects ++ effect ∷ [])
-            → PartsRefuse meaning run.between effect after → RefusesNext meaning number node (lines_of run.at.effects) run.between.into after.into
+            → PartsRefuse meaning run.between effect after → RefusesNext meaning number node (written_lines run.at.effects) run.between.into after.into
         refused_next (Line text) next refused = inr (
           text,
           subst (λ m. RefusesEntry meaning run.between.into (entry.Line m number text) after.into) run.come_to.moment
@@ -478,7 +478,7 @@ left_last : (rest : Rest) (last : List Trigger) → (length last == 0) ≡ false
 left_last rest [] some = absurd (cc)
 left_last rest (trigger ∷ triggers) some = refl
 
-left_timer : (rest : Rest) (due : Option Trigger) → (length rest.last == 0) ≡ false → IsSome (next_timer rest due)
+left_timer : (rest : Rest) (due : Option Trigger) → (length rest.last == 0) ≡ false → IsSome (timer_or_last rest due)
 left_timer rest None some = left_last rest rest.last some
 left_timer rest (Some trigger) some = refl
 

@@ -11,7 +11,7 @@ use Rattle.node_rounds.specs.declared.occurrence.Trigger.{Trigger}
 use Rattle.node_rounds.specs.declared.round.Round.{Round}
 use Rattle.node_rounds.specs.declared.round.Round.TheVariants.{PreStart, Start, Moment, Stop}
 use Rattle.node_rounds.specs.declared.round.Seen.{Seen}
-use Rattle.node_rounds.specs.Procedures.{else_other, first_where, is_any_key, is_key, is_message, is_pre_start, is_start, is_stop, is_timer, numbers_where, procedures_for}
+use Rattle.node_rounds.specs.Procedures.{else_other, first_where, is_any_key, is_key, is_for_message, is_pre_start, is_start, is_stop, is_for_timer, numbers_where, procedures_for}
 use Rattle.node_rounds.specs.Round.{Rest, at_begin, frame_triggers, key_triggers, rest_of, triggers}
 use Rattle.node_run.specs.Code.{code_reaction, events_of}
 use Rattle.node_run.specs.Node.{NodeInRound}
@@ -62,9 +62,9 @@ procedures_exist events happens.Start = numbers_exist is_start 0 (length events)
 procedures_exist events happens.Stop = numbers_exist is_stop 0 (length events) events (omega arith)
 procedures_exist events (happens.Frame seen) =
     let key = selection_key seen.frame.ident in
-    listed (length events) _ (else_exists (length events) _ _ (first_where_exists (is_message 0 key) events)
-    (else_exists (length events) _ _ (first_where_exists (is_message 1 key) events) (first_where_exists (is_message 2 key) events)))
-procedures_exist events (happens.Timer timer) = listed (length events) _ (first_where_exists (is_timer timer) events)
+    listed (length events) _ (else_exists (length events) _ _ (first_where_exists (is_for_message 0 key) events)
+    (else_exists (length events) _ _ (first_where_exists (is_for_message 1 key) events) (first_where_exists (is_for_message 2 key) events)))
+procedures_exist events (happens.Timer timer) = listed (length events) _ (first_where_exists (is_for_timer timer) events)
 procedures_exist events (happens.Key key) =
     listed (length events) _ (else_exists (length events) _ _ (first_where_exists (is_key key) events) (first_where_exists is_any_key events))
 

@@ -11,7 +11,7 @@ use Rattle.run_effects.specs.declared.event.Event.TheVariants as event
 use Rattle.run_effects.specs.Event.{timer_of}
 use Rattle.bytecode.specs.declared.code.Handler.{Handler}
 use Rattle.bytecode.specs.Tables.{all_timers}
-use Rattle.node_rounds.specs.Procedures.{else_other, first_where, is_timer}
+use Rattle.node_rounds.specs.Procedures.{else_other, first_where, is_for_timer}
 use Rattle.node_run.specs.declared.tables.Subject.{Subject}
 use Rattle.node_run.specs.declared.tables.Subject.TheVariants.{Timers, Keys}
 use Rattle.node_run.specs.Code.{events_of}
@@ -75,7 +75,7 @@ next_with_place subject handlers i number place d own after within is entered st
           ∙ sym (ap (λ o. else_other o more) (stays other))
     ]
 
-is_timer_of : (happens : Event) (timer : ℕ) → is_timer timer happens ≡ option_map_or (λ own. eqb own timer) (timer_of happens) false
+is_timer_of : (happens : Event) (timer : ℕ) → is_for_timer timer happens ≡ option_map_or (λ own. eqb own timer) (timer_of happens) false
 is_timer_of event.PreStart timer = refl
 is_timer_of event.Start timer = refl
 is_timer_of event.Stop timer = refl
@@ -84,11 +84,11 @@ is_timer_of (event.Timer own) timer = refl
 is_timer_of (event.Key None) timer = refl
 is_timer_of (event.Key (Some key)) timer = refl
 
-none_from : (handlers : List Handler) (count timer number : ℕ) → All (λ t. t < count) (all_timers handlers) → count ≤ timer → position_from (is_timer timer) number (events_of handlers) ≡ None
+none_from : (handlers : List Handler) (count timer number : ℕ) → All (λ t. t < count) (all_timers handlers) → count ≤ timer → position_from (is_for_timer timer) number (events_of handlers) ≡ None
 none_from [] count timer number exist behind = refl
 none_from (handler ∷ handlers) count timer number exist behind =
     let here = other_timer (timer_of handler.event) (all_timers handlers) exist in
-    ap (λ b. cond b (Some number) (position_from (is_timer timer) (number + 1) (events_of handlers))) (is_timer_of handler.event timer ∙ here.0)
+    ap (λ b. cond b (Some number) (position_from (is_for_timer timer) (number + 1) (events_of handlers))) (is_timer_of handler.event timer ∙ here.0)
     ∙ none_from handlers count timer (number + 1) here.1 behind
   where
     other_timer : (own : Option ℕ) (timers : List ℕ) → All (λ t. t < count) (cons_option own timers)
@@ -99,5 +99,5 @@ none_from (handler ∷ handlers) count timer number exist behind =
         (eqb_other t timer (λ same. omega (arith, same, below, behind)), All-tail (λ t. t < count) t timers all)
 
 -- no timer procedure is for a timer behind all of them
-pub none_behind : (handlers : List Handler) (count timer : ℕ) → All (λ t. t < count) (all_timers handlers) → count ≤ timer → first_where (is_timer timer) (events_of handlers) ≡ None
+pub none_behind : (handlers : List Handler) (count timer : ℕ) → All (λ t. t < count) (all_timers handlers) → count ≤ timer → first_where (is_for_timer timer) (events_of handlers) ≡ None
 none_behind handlers count timer exist behind = none_from handlers count timer 0 exist behind

@@ -9,10 +9,10 @@ use Rattle.can_frame.specs.Frame.{IsFrame, IsIdent, data_len_of}
 use Rattle.can_frame.proofs.Payload.{data_len_of-le, length-padded, padded_bytes, padded_past}
 use Rattle.int_kinds.specs.declared.kinds.Kind.TheVariants.{Byte, Dword}
 use Rattle.int_kinds.specs.Arithmetic.{residue}
-use Rattle.message_cells.specs.Message.{field, frame_of, ident_of, is_remote, message_at, message_of, payload_of, written_dlc}
+use Rattle.message_cells.specs.Message.{field_number, frame_of, ident_of, is_remote, message_at, message_of, payload_of, written_dlc}
 use Rattle.bytecode.proofs.MessageCells.{residue-lt}
 use Rattle.run_effects.specs.Effect.{Effect, Line, Send, Stop, Set, Cancel}
-use Rattle.node_rounds.specs.Effects.{requests_of}
+use Rattle.node_rounds.specs.Effects.{requested_frames}
 
 -- ---- the frame of a message
 
@@ -38,14 +38,14 @@ bytes_small (n ∷ cells) (suc k) = bytes_small cells k
 -- the frame of any 14 cells is a classic CAN frame: each field is brought to its range
 pub IsFrame-frame_of : (message : List ℤ) → length message ≡ 14 → IsFrame (frame_of message)
 IsFrame-frame_of message long =
-    let dlc : ℕ = written_dlc (field message 1) in
+    let dlc : ℕ = written_dlc (field_number message 1) in
     let n : ℕ = data_len_of (is_remote message) dlc in
     let few : dlc ≤ 8 = omega arith in
     let fits : n ≤ 8 = omega (arith, data_len_of-le (is_remote message) dlc, few) in
     let behind : length (drop 6 message) ≡ 8 = omega (arith, length-drop 6 message, long) in
     let eight : length (payload_of message) ≡ 8 = length-map (drop 6 message) (residue Byte) ∙ behind in
     record {
-      ident_in_range = written_fits (residue Dword (field message 0)) (nat_le (2 ^ 31) (residue Dword (field message 0)));
+      ident_in_range = written_fits (residue Dword (field_number message 0)) (nat_le (2 ^ 31) (residue Dword (field_number message 0)));
       dlc_in_range = few;
       can_from_one = omega arith;
       can_to_two = omega arith;
@@ -79,11 +79,11 @@ SendsFrame (Send frame) = IsFrame frame
 SendsFrame effect = ⊤
 
 -- the frames that such effects request are classic CAN frames
-pub requests_are_frames : (effects : List Effect) → All SendsFrame effects → All IsFrame (requests_of effects)
+pub requests_are_frames : (effects : List Effect) → All SendsFrame effects → All IsFrame (requested_frames effects)
 requests_are_frames [] are = All-nil IsFrame
 requests_are_frames (Line text ∷ effects) are = requests_are_frames effects (All-tail SendsFrame (Line text) effects are)
 requests_are_frames (Send frame ∷ effects) are =
-    All-cons IsFrame frame (requests_of effects) (All-head SendsFrame (Send frame) effects are)
+    All-cons IsFrame frame (requested_frames effects) (All-head SendsFrame (Send frame) effects are)
     (requests_are_frames effects (All-tail SendsFrame (Send frame) effects are))
 requests_are_frames (Stop ∷ effects) are = requests_are_frames effects (All-tail SendsFrame Stop effects are)
 requests_are_frames (Set timer micros cyclic ∷ effects) are =

@@ -4,7 +4,7 @@ ghost use Rattle.std.specs.Prelude.{◌≡◌, ◌<◌, ◌^◌, IfOk, length};
 ghost use Rattle.can_frame.specs.Arbitration.{selection_key};
 ghost use Rattle.bytecode.specs.Verified.{IsVerified};
 ghost use Rattle.node_run.specs.Code.{events_of};
-ghost use Rattle.node_rounds.specs.Procedures.{first_where, is_timer, key_procedure, message_procedure};
+ghost use Rattle.node_rounds.specs.Procedures.{first_where, is_for_timer, key_procedure, message_procedure};
 
 use crate::tables::{Subject, messages_of, table_of};
 use crate::wanted::{Wanted, first_handler};
@@ -78,7 +78,7 @@ impl Procedures {
 
     /// The number of the handler for a timer.
     pub(crate) fn for_timer(&self, timer: u32) -> Option<u32>
-        ensures { result ≡ first_where (is_timer timer) (events_of self.now.handlers) }
+        ensures { result ≡ first_where (is_for_timer timer) (events_of self.now.handlers) }
     {
         *self.timers.get(timer as usize)?
     }

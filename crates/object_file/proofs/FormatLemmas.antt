@@ -5,7 +5,7 @@ use Rattle.std.specs.Option.{is_none, option_and_then}
 use Rattle.std.proofs.lemmas.Bool.{eq-eqb, eqb-true}
 use Rattle.write_format.specs.declared.argument.ArgKind.{ArgKind}
 use Rattle.write_format.specs.declared.piece.Piece.{Piece}
-use Rattle.write_format.specs.Format.{FormatText, IsFormatOf, elements_of}
+use Rattle.write_format.specs.Format.{FormatText, IsFormatOf, format_elements}
 use Rattle.write_format.specs.Reading.{AreSpelled, HasCodesFor, IsFirstUnfit, codes_of, first_unfit, pieces_of}
 use Rattle.object_file.specs.Inside.Tables.{format_by, format_of}
 
@@ -19,10 +19,10 @@ Spelled = (text : List ℕ) (pieces : List Piece) → pieces_of text ≡ Some pi
 -- what is made of pieces that fit or not
 by_tests : (text : List ℕ) (arguments : List ArgKind) (pieces : List Piece) (a b : Bool)
     → (length (codes_of pieces) == length arguments) ≡ a → is_none (first_unfit (codes_of pieces) arguments) ≡ b
-    → format_by text arguments pieces ≡ (if a && b then Some (record { text = text; arguments = arguments; elements = elements_of pieces arguments }) else None)
+    → format_by text arguments pieces ≡ (if a && b then Some (record { text = text; arguments = arguments; elements = format_elements pieces arguments }) else None)
 by_tests text arguments pieces a b one other =
-    ap (λ x. if x && is_none (first_unfit (codes_of pieces) arguments) then Some (record { text = text; arguments = arguments; elements = elements_of pieces arguments }) else None) one
-    ∙ ap (λ y. if a && y then Some (record { text = text; arguments = arguments; elements = elements_of pieces arguments }) else None) other
+    ap (λ x. if x && is_none (first_unfit (codes_of pieces) arguments) then Some (record { text = text; arguments = arguments; elements = format_elements pieces arguments }) else None) one
+    ∙ ap (λ y. if a && y then Some (record { text = text; arguments = arguments; elements = format_elements pieces arguments }) else None) other
 
 -- the count is not that of the arguments
 by_count : (text : List ℕ) (arguments : List ArgKind) (pieces : List Piece) → (length (codes_of pieces) ≡ length arguments → ⊥)

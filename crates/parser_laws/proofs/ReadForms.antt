@@ -17,7 +17,7 @@ use Rattle.capl_tree.specs.declared.statement.Arm.{Arm}
 use Rattle.capl_tree.specs.declared.statement.Group.{Group}
 use Rattle.capl_tree.specs.declared.statement.Label.{Label}
 use Rattle.capl_tree.specs.Forms as form
-use Rattle.capl_tree.specs.Grammar.{IsExpression, IsPart, IsLabel, AreLabels, takes_else, last_takes_else, IsStatement, AreStatements, AreArms, IsElse, IsNoIf, AreGroups, HasStatement, IsBodyPart, IsDeclaration}
+use Rattle.capl_tree.specs.Grammar.{IsExpression, IsOptional, IsLabel, AreLabels, takes_else, last_takes_else, IsStatement, AreStatements, AreArms, IsElse, IsNoIf, AreGroups, HasStatement, IsBodyPart, IsDeclaration}
 use Rattle.capl_tree.specs.Spelling.{expression, declaration}
 use Rattle.capl_tree.specs.Placed.{IsAt, IsPlaced, IsDeclarationPlaced}
 use Rattle.capl_tree.specs.FileSpelling as spell
@@ -135,7 +135,7 @@ module _ (parts : Parts) (known : AreComplete parts) where
   enclosed_read e ts well placed = rw (known.value e sign.CloseParen ts refl well placed) refl
 
   -- an expression that may be missing
-  pub part_read : (value : Option Expr) (end : Sign) (ts : List Tok) → closes end ≡ true → IsPart value
+  pub part_read : (value : Option Expr) (end : Sign) (ts : List Tok) → closes end ≡ true → IsOptional value
       → IsPartPlaced parts.total value (tok.Sign end ∷ ts) → part_before parts end (spell.part value (tok.Sign end ∷ ts)) ≡ Some (value, ts)
   unfolding part_before after
   part_read None end ts is well placed = rw (next_sign end ts is) refl
@@ -286,7 +286,7 @@ module _ (parts : Parts) (known : AreComplete parts) where
   unfolding statement_by repeat do_loop after after_word
   do_read body test inner ts well placed read = rw (read, enclosed_read test (tok.Sign sign.Semi ∷ ts) well placed) refl
 
-  pub for_read : (init test step : Option Expr) (body : Stmt) (inner : List Tok → Read Stmt) (ts : List Tok) → IsPart init → IsPart test → IsPart step
+  pub for_read : (init test step : Option Expr) (body : Stmt) (inner : List Tok → Read Stmt) (ts : List Tok) → IsOptional init → IsOptional test → IsOptional step
       → IsPartPlaced parts.total init (tok.Sign sign.Semi ∷ spell.part test (tok.Sign sign.Semi ∷ spell.part step (tok.Sign sign.CloseParen ∷ spell.statement body ts)))
       → IsPartPlaced parts.total test (tok.Sign sign.Semi ∷ spell.part step (tok.Sign sign.CloseParen ∷ spell.statement body ts))
       → IsPartPlaced parts.total step (tok.Sign sign.CloseParen ∷ spell.statement body ts)
@@ -331,7 +331,7 @@ module _ (parts : Parts) (known : AreComplete parts) where
   unfolding statement_by repeat jump after
   continue_read at inner ts placed = let is : at ≡ parts.total - length (spell.statement (stmt.Continue at) ts) = omega (arith, placed) in rw is refl
 
-  pub return_read : (value : Option Expr) (at : ℕ) (inner : List Tok → Read Stmt) (ts : List Tok) → IsPart value → IsStatementPlaced parts.total (stmt.Return value at) ts
+  pub return_read : (value : Option Expr) (at : ℕ) (inner : List Tok → Read Stmt) (ts : List Tok) → IsOptional value → IsStatementPlaced parts.total (stmt.Return value at) ts
       → statement_by parts inner (spell.statement (stmt.Return value at) ts) ≡ Some (stmt.Return value at, ts)
   unfolding statement_by repeat jump
   return_read value at inner ts well placed =

@@ -18,7 +18,7 @@ use Rattle.capl_tree.specs.declared.statement.Arm.{Arm}
 use Rattle.capl_tree.specs.declared.statement.Group.{Group}
 use Rattle.capl_tree.specs.declared.statement.Label.{Label}
 use Rattle.capl_tree.specs.Forms as form
-use Rattle.capl_tree.specs.Grammar.{assignment_level, choice_level, IsExpression, IsValue, IsDeclaration, IsPart, IsLabel, AreLabels, takes_else, IsStatement, AreArms, IsNoIf, IsBodyPart}
+use Rattle.capl_tree.specs.Grammar.{assignment_level, choice_level, IsExpression, IsValue, IsDeclaration, IsOptional, IsLabel, AreLabels, takes_else, IsStatement, AreArms, IsNoIf, IsBodyPart}
 use Rattle.capl_tree.specs.Spelling.{expression, declaration}
 use Rattle.capl_tree.specs.Placed.{IsAt, IsPlaced, IsDeclarationPlaced}
 use Rattle.capl_tree.specs.FileSpelling as spell
@@ -59,7 +59,7 @@ not_true : (b : Bool) → (b ≡ true → ⊥) → b ≡ false
 not_true true fails = absurd (fails refl)
 not_true false fails = refl
 
-one_some : (value : Expr) → IsExpression value → IsPart (Some value)
+one_some : (value : Expr) → IsExpression value → IsOptional (Some value)
 one_some value well x e = let same : value ≡ x = cc in subst IsExpression same well
 
 one_value : (value : Expr) → IsValue value → (x : Expr) → (let y : Option Expr = Some value in y) ≡ Some x → IsValue x
@@ -136,11 +136,11 @@ module _ (parts : Parts) (known : AreSound parts) where
       }))))
 
   -- an expression that may be missing, and a sign
-  part_sound : (end : Sign) → IsSound parts.total (part_before parts end) (λ value rest. spell.part value (tok.Sign end ∷ rest)) IsPart
+  part_sound : (end : Sign) → IsSound parts.total (part_before parts end) (λ value rest. spell.part value (tok.Sign end ∷ rest)) IsOptional
       (λ value rest. IsPartPlaced parts.total value (tok.Sign end ∷ rest))
   unfolding part_before
   part_sound end ts part rest fits e =
-      let R = IsFound (λ value rest. spell.part value (tok.Sign end ∷ rest)) IsPart (λ value rest. IsPartPlaced parts.total value (tok.Sign end ∷ rest)) ts in
+      let R = IsFound (λ value rest. spell.part value (tok.Sign end ∷ rest)) IsOptional (λ value rest. IsPartPlaced parts.total value (tok.Sign end ∷ rest)) ts in
       by_test (begins end ts) (Some (None, behind ts))
       (and_then (parts.value assignment_level ts) (λ value ts. and_then (after end ts) (λ _ ts. Some (Some value, ts)))) (part, rest) (R part rest) e
       (λ is e.

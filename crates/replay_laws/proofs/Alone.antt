@@ -11,7 +11,7 @@ use Rattle.can_frame.specs.Frame.{FrameFields}
 use Rattle.can_bus.specs.declared.transmission.Transmission.{Transmission}
 use Rattle.can_bus.specs.declared.waiting.Waiting.{Waiting}
 use Rattle.can_bus.specs.Order.{goes_before}
-use Rattle.can_bus.specs.Waiting.{Requests, name_cmp, name_of, requests_of, members, winner}
+use Rattle.can_bus.specs.Waiting.{Requests, name_cmp, request_name, requests_of, members, winner}
 use Rattle.can_bus.specs.Bus.{BusState, next_number, last_number, rank, with_rank, with_ranks, with_request, after_request, after_arbitration}
 use Rattle.can_bus.proofs.Arbitration.{after_arbitration-nothing, after_arbitration-winner}
 use Rattle.can_bus.proofs.Precedence.{goes_before-self}
@@ -32,7 +32,7 @@ nothing_begins bit wire free next now = after_arbitration-nothing (idle_bus bit 
 
 -- ---- the one request
 abbrev only : Waiting → Requests
-only r = insert empty (name_of r) r.frame
+only r = insert empty (request_name r) r.frame
 
 members-only : (r : Waiting) → members (only r) ≡ r ∷ []
 members-only r = members-requests_of (r ∷ []) refl
@@ -49,12 +49,12 @@ gone : (b : Bool) (f : FrameFields) → cond b None (cond b (Some f) None) ≡ N
 gone true f = refl
 gone false f = refl
 
-removed-only : (r : Waiting) → remove (only r) (name_of r) ≡ empty
+removed-only : (r : Waiting) → remove (only r) (request_name r) ≡ empty
 removed-only r =
     same_map name_cmp_total name_cmp-IsAntisymmetric _ _
-    (λ q. get-remove name_cmp_total (only r) (name_of r) q
-    ∙ ap (λ o. cond (eq_by_cmp name_cmp q (name_of r)) None o) (get-insert name_cmp_total empty (name_of r) r.frame q ∙ ap (λ o. cond (eq_by_cmp name_cmp q (name_of r)) (Some r.frame) o) (get-empty {X = FrameFields} name_cmp q))
-    ∙ gone (eq_by_cmp name_cmp q (name_of r)) r.frame
+    (λ q. get-remove name_cmp_total (only r) (request_name r) q
+    ∙ ap (λ o. cond (eq_by_cmp name_cmp q (request_name r)) None o) (get-insert name_cmp_total empty (request_name r) r.frame q ∙ ap (λ o. cond (eq_by_cmp name_cmp q (request_name r)) (Some r.frame) o) (get-empty {X = FrameFields} name_cmp q))
+    ∙ gone (eq_by_cmp name_cmp q (request_name r)) r.frame
     ∙ sym (get-empty {X = FrameFields} name_cmp q))
 
 -- a request on the wire from a moment

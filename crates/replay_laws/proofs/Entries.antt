@@ -7,13 +7,13 @@ use Rattle.std.proofs.lemmas.List.Elements.{All-nil, All-cons, All-head, All-tai
 use Rattle.can_bus.specs.declared.bus.Ended.{Ended}
 use Rattle.log_line.specs.Written.{IsLoggable, log_line}
 use Rattle.log_line.specs.declared.line.Entry.{Entry}
-use Rattle.replay_node.specs.Replay.{per_second, requests_of, stamp_of, start_of}
+use Rattle.replay_node.specs.Replay.{per_second, requests_from, stamp_of, start_of}
 use Rattle.replay_node.specs.Spaced.{IsSpaced, IsSpacedLog, lines_written}
 use Rattle.replay_node.specs.declared.replay.Request.{Request}
 use Rattle.run_records.specs.declared.record.Noted.{Noted}
 use Rattle.node_rounds.specs.Entries.{line_entries}
 use Rattle.node_rounds.specs.Round.{Task}
-use Rattle.run_meaning.specs.Order.{in_order, picks_after}
+use Rattle.run_meaning.specs.Order.{tasks_in_order, picks_after}
 use Rattle.run_meaning.specs.Run.{Passed}
 use Rattle.run_meaning.specs.Steps.{ended_steps, entries, round_steps, step_entries, steps, task_done, task_steps}
 use Rattle.replay_laws.specs.Log.{line_of, log_of}
@@ -51,7 +51,7 @@ module _ (interface : ℕ → List ℕ) (epoch : ℕ) where
       let first = ended_steps passed.moment passed.ended in
       let rest = task_steps passed.moment passed.tasks picks in
       ap (log_of interface epoch) (flat_map-append step_entries first rest) ∙ log-append (entries first) (entries rest)
-      ∙ ap (λ l. log_of interface epoch (entries first) ++ l) (of_tasks passed.moment (in_order passed.tasks picks)) ∙ append-nil (log_of interface epoch (entries first)) ∙ of_ended passed.moment passed.ended
+      ∙ ap (λ l. log_of interface epoch (entries first) ++ l) (of_tasks passed.moment (tasks_in_order passed.tasks picks)) ∙ append-nil (log_of interface epoch (entries first)) ∙ of_ended passed.moment passed.ended
 
   -- the log of the steps of rounds
   pub log_of_rounds : (rounds : List Passed) (picks : List ℕ) → log_of interface epoch (entries (steps rounds picks)) ≡ lines_written (map entry_of (frames_in rounds))
@@ -111,7 +111,7 @@ micros_are epoch seconds micros below low = omega arith
 
 module _ (bit epoch until : ℕ) where
   -- the requests of entries are those of their frames
-  pub requests_are : (before : ℕ) (es : List Entry) → requests_of bit epoch before es ≡ replayed bit before (map (frame_of epoch) es)
+  pub requests_are : (before : ℕ) (es : List Entry) → requests_from bit epoch before es ≡ replayed bit before (map (frame_of epoch) es)
   requests_are before [] = refl
   requests_are before (e ∷ es) =
       let at = max before (start_of bit epoch e) in ap (λ (rs : List Request). record { at = at; frame = e.frame } ∷ rs) (requests_are at es)

@@ -14,7 +14,7 @@ use Rattle.node_rounds.specs.Reaction.{Reacts}
 use Rattle.node_rounds.specs.Round.{Task}
 use Rattle.run_meaning.specs.Bus.{after_all_tasks, after_tasks}
 use Rattle.run_meaning.specs.Moments.{requests_at, requests_after}
-use Rattle.run_meaning.specs.Run.{IsBegun, IsInstant, IsSecond, Passed, RunState, ask_stop, finished, quiet_round}
+use Rattle.run_meaning.specs.Run.{HasBegun, IsInstant, IsSecond, Passed, RunState, ask_stop, finished, quiet_round}
 use Rattle.replay_laws.proofs.Instants.{Logged, Ask, with_asks, after_instant, logged_at}
 use Rattle.replay_laws.proofs.Replaying.{asks_of}
 use Rattle.replay_laws.proofs.Spacing.{Timing, carried, timing-with_asks}
@@ -136,7 +136,7 @@ pub record IsFirst {S : Type 0} (before : RunState S BusState) (rounds : List Pa
   pub stops : after.stops ≡ (before.stops || ask_stop pre_start) || ask_stop start
 
 -- the beginning of a run is that
-pub first_instant : {S : Type 0} (r : Reacts S) (before : RunState S BusState) (rounds : List Passed) (after : RunState S BusState) → before.moment ≡ 0 → IsBegun r one_channel before rounds after
+pub first_instant : {S : Type 0} (r : Reacts S) (before : RunState S BusState) (rounds : List Passed) (after : RunState S BusState) → before.moment ≡ 0 → HasBegun r one_channel before rounds after
     → IsFirst before rounds after
 first_instant {S} r before rounds after zero is =
     let s = before.bus in

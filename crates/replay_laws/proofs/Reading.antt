@@ -7,7 +7,7 @@ use Rattle.std.proofs.lemmas.Bool.Decides.{nat_tests}
 use Rattle.std.proofs.lemmas.Slice.Eq.{bytes_eq-Decides}
 use Rattle.std.proofs.lemmas.List.Elements.{All-nil, All-cons, All-head, All-tail, All-append, All-weaker}
 use Rattle.text_parts.specs.Digits.{zero_filled}
-use Rattle.text_parts.specs.Line.{lines_of}
+use Rattle.text_parts.specs.Line.{text_lines}
 use Rattle.text_parts.specs.Number.{IsDigit, IsHexDigit}
 use Rattle.text_parts.proofs.NumeralLemmas.{numeral_is}
 use Rattle.can_frame.specs.Frame.{FrameFields}
@@ -79,10 +79,10 @@ not_feed : (byte : ℕ) → 32 ≤ byte → (byte == 10) ≡ false
 not_feed byte above = grind (arith, nat_tests, above)
 
 -- the first line ends at its line feed
-first_line : (line rest : List ℕ) → Shown line → lines_of (line ++ 10 ∷ rest) ≡ line ∷ lines_of rest
+first_line : (line rest : List ℕ) → Shown line → text_lines (line ++ 10 ∷ rest) ≡ line ∷ text_lines rest
 first_line [] rest shown = refl
 first_line (byte ∷ line) rest shown =
-    ap (λ b. cond b ([] ∷ lines_of (line ++ 10 ∷ rest)) (onto_first byte (lines_of (line ++ 10 ∷ rest)))) (not_feed byte (All-head (λ b. 32 ≤ b) byte line shown))
+    ap (λ b. cond b ([] ∷ text_lines (line ++ 10 ∷ rest)) (onto_first byte (text_lines (line ++ 10 ∷ rest)))) (not_feed byte (All-head (λ b. 32 ≤ b) byte line shown))
     ∙ ap (onto_first byte) (first_line line rest (All-tail (λ b. 32 ≤ b) byte line shown))
 
 -- the text of an entry, without its line end
@@ -93,11 +93,11 @@ text_of e = entry_text e.seconds e.micros e.interface e.frame
 abbrev pub CanRead : declared.Entry → Type 0
 CanRead e = (e.seconds < 10 ^ 15) × (e.micros < 10 ^ 6) × IsInterface e.interface × IsLoggable e.frame
 
-lines_are : (es : List declared.Entry) → All CanRead es → lines_of (lines_written es) ≡ map text_of es
+lines_are : (es : List declared.Entry) → All CanRead es → text_lines (lines_written es) ≡ map text_of es
 lines_are [] all = refl
 lines_are (e ∷ es) all =
     let can = All-head CanRead e es all in
-    ap lines_of (append_assoc (text_of e) (10 ∷ []) (lines_written es)) ∙ first_line (text_of e) (lines_written es) (text_shown e.seconds e.micros e.interface e.frame can.0 can.1 can.2 can.3)
+    ap text_lines (append_assoc (text_of e) (10 ∷ []) (lines_written es)) ∙ first_line (text_of e) (lines_written es) (text_shown e.seconds e.micros e.interface e.frame can.0 can.1 can.2 can.3)
     ∙ ap (λ l. text_of e ∷ l) (lines_are es (All-tail CanRead e es all))
 
 -- an entry of a well spaced log is so, where the epoch and the end moment are in range

@@ -10,7 +10,7 @@ use Rattle.replay_node.specs.declared.replay.Request.{Request}
 use Rattle.node_rounds.specs.Reaction.{Reacts}
 use Rattle.node_rounds.specs.Round.{Task}
 use Rattle.run_meaning.specs.Moments.{least, next_key, next_request, next_timer, requests_at, requests_after}
-use Rattle.run_meaning.specs.Run.{AreInstants, EndsAt, IsRun, Passed, RunState, ask_stop, new_run, next_moment, quiet_round}
+use Rattle.run_meaning.specs.Run.{AreInstants, EndsAt, IsRun, Passed, RunState, ask_stop, new_run, next_instant, quiet_round}
 use Rattle.replay_laws.specs.Tasks.{AllTasks, AsksNothing}
 use Rattle.replay_laws.proofs.Instants.{Logged, Instant, logged_at, logged}
 use Rattle.replay_laws.proofs.Replaying.{AreReplays, asks_of}
@@ -49,7 +49,7 @@ both_of_least P rises (Some m) None h = (h, tt)
 both_of_least P rises (Some m) (Some n) h = (rises (min m n) m (omega arith) h, rises (min m n) n (omega arith) h)
 
 -- so of what is next of all, at the bus and of the replay
-both_next : {S : Type 0} (r : Reacts S) (s : RunState S BusState) (P : ℕ → Type 0) → ((m n : ℕ) → m ≤ n → P m → P n) → IfSome (next_moment r one_channel s) P
+both_next : {S : Type 0} (r : Reacts S) (s : RunState S BusState) (P : ℕ → Type 0) → ((m n : ℕ) → m ≤ n → P m → P n) → IfSome (next_instant r one_channel s) P
     → IfSome (bus_of.next_moment s.bus) P × IfSome (next_request s.requests) P
 both_next r s P rises h =
     let timers = next_timer r s.nodes in
@@ -60,15 +60,15 @@ both_next r s P rises h =
     (one.0, (both_of_least P rises keys requests two.1).1)
 
 -- at a moment that is the next one
-next_at : {S : Type 0} (r : Reacts S) (s : RunState S BusState) (now : ℕ) → next_moment r one_channel s ≡ Some now
+next_at : {S : Type 0} (r : Reacts S) (s : RunState S BusState) (now : ℕ) → next_instant r one_channel s ≡ Some now
     → IfSome (bus_of.next_moment s.bus) (λ due. now ≤ due) × IfSome (next_request s.requests) (λ due. now ≤ due)
 next_at r s now is = both_next r s (λ due. now ≤ due) (λ m n rises low. omega (arith, rises, low)) (subst (λ o. IfSome o (λ due. now ≤ due)) (sym is) (let low : now ≤ now = omega arith in low))
 
 -- at the end of a run
-next_late : {S : Type 0} (r : Reacts S) (s : RunState S BusState) (until end : ℕ) → s.stops ≡ false → EndsAt s.stops s.moment (next_moment r one_channel s) until end
+next_late : {S : Type 0} (r : Reacts S) (s : RunState S BusState) (until end : ℕ) → s.stops ≡ false → EndsAt s.stops s.moment (next_instant r one_channel s) until end
     → IfSome (bus_of.next_moment s.bus) (λ due. until < due) × IfSome (next_request s.requests) (λ due. until < due)
 next_late r s until end goes ends =
-    let late : EndsAt false s.moment (next_moment r one_channel s) until end = subst (λ b. EndsAt b s.moment (next_moment r one_channel s) until end) goes ends in
+    let late : EndsAt false s.moment (next_instant r one_channel s) until end = subst (λ b. EndsAt b s.moment (next_instant r one_channel s) until end) goes ends in
     both_next r s (λ due. until < due) (λ m n rises low. omega (arith, rises, low)) late.0
 
 -- ---- runs
@@ -80,11 +80,11 @@ pub record IsReplayed (last : ℕ) (s : BusState) (requests : List Request) (fra
   pub are : logged s instants ≡ frames
 
 instants_replayed : {S : Type 0} (r : Reacts S) (until end : ℕ) (before : RunState S BusState) (rounds : List (List Passed)) (after : RunState S BusState) → AreInstants r one_channel until before rounds after
-    → AllTasks AsksNothing (rounds_of rounds) → before.stops ≡ false → EndsAt after.stops after.moment (next_moment r one_channel after) until end
+    → AllTasks AsksNothing (rounds_of rounds) → before.stops ≡ false → EndsAt after.stops after.moment (next_instant r one_channel after) until end
     → IsReplayed until before.bus before.requests (frames_in (rounds_of rounds))
 instants_replayed {S} r until end before [] after is tasks goes ends = record {
   instants = [];
-  replays = next_late r before until end goes (subst (λ (s : RunState S BusState). EndsAt s.stops s.moment (next_moment r one_channel s) until end) is ends);
+  replays = next_late r before until end goes (subst (λ (s : RunState S BusState). EndsAt s.stops s.moment (next_instant r one_channel s) until end) is ends);
   are = refl;
 }
 instants_replayed {S} r until end before (p ∷ ps) after is tasks goes ends =

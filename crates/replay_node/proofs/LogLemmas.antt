@@ -4,7 +4,7 @@ use Rattle.std.specs.Prelude.{◌==◌}
 use Rattle.std.specs.Bool.{OnFalse}
 use Rattle.std.specs.List.{onto_first}
 use Rattle.std.proofs.lemmas.List.{get_or-append_right}
-use Rattle.text_parts.specs.Line.{lines_of, line_end}
+use Rattle.text_parts.specs.Line.{text_lines, line_end}
 use Rattle.log_line.specs.Reading.{Reads}
 use Rattle.log_line.specs.declared.line.Line.{Line}
 use Rattle.log_line.specs.declared.line.Line.TheVariants.{Skip}
@@ -36,22 +36,22 @@ onto_some byte [] none = cc
 onto_some byte (line ∷ lines) none = cc
 
 -- a text has a line, by whether its first byte ends one
-some_by : (byte : ℕ) (text : List ℕ) (t : Bool) → (byte == 10) ≡ t → lines_of (byte ∷ text) ≡ [] → ⊥
+some_by : (byte : ℕ) (text : List ℕ) (t : Bool) → (byte == 10) ≡ t → text_lines (byte ∷ text) ≡ [] → ⊥
 some_by byte text true is none = let e = rw is at none in cc
-some_by byte text false is none = onto_some byte (lines_of text) (rw is at none)
+some_by byte text false is none = onto_some byte (text_lines text) (rw is at none)
 
 -- a text with a byte has a line
-some_line : (text : List ℕ) → 0 < length text → lines_of text ≢ []
+some_line : (text : List ℕ) → 0 < length text → text_lines text ≢ []
 some_line [] some none = omega (arith, some)
 some_line (byte ∷ text) some none = some_by byte text (byte == 10) refl none
 
 -- a text without lines is empty
-no_text : (text : List ℕ) → lines_of text ≡ [] → text ≡ []
+no_text : (text : List ℕ) → text_lines text ≡ [] → text ≡ []
 no_text [] none = refl
 no_text (byte ∷ text) none = absurd (some_by byte text (byte == 10) refl none)
 
 -- a first line that goes on
-one_onto : (byte : ℕ) (text : List ℕ) (lines : List (List ℕ)) → lines_of text ≡ lines → onto_first byte lines ≡ (byte ∷ text) ∷ [] → (text ≡ []) ⊎ (lines_of text ≡ text ∷ [])
+one_onto : (byte : ℕ) (text : List ℕ) (lines : List (List ℕ)) → text_lines text ≡ lines → onto_first byte lines ≡ (byte ∷ text) ∷ [] → (text ≡ []) ⊎ (text_lines text ≡ text ∷ [])
 one_onto byte text [] is whole = inl (no_text text is)
 one_onto byte text (line ∷ lines) is whole =
     let first : line ≡ text = cc in
@@ -59,18 +59,18 @@ one_onto byte text (line ∷ lines) is whole =
     inr (is ∙ ap (λ l. l ∷ lines) first ∙ ap (λ ls. text ∷ ls) others)
 
 -- a text that is its only line is not ended, by its rest
-only_by : (byte : ℕ) (text : List ℕ) → (byte == 10) ≡ false → (lines_of text ≡ text ∷ [] → is_ended text ≡ false) → (text ≡ []) ⊎ (lines_of text ≡ text ∷ []) → is_ended (byte ∷ text) ≡ false
+only_by : (byte : ℕ) (text : List ℕ) → (byte == 10) ≡ false → (text_lines text ≡ text ∷ [] → is_ended text ≡ false) → (text ≡ []) ⊎ (text_lines text ≡ text ∷ []) → is_ended (byte ∷ text) ≡ false
 only_by byte text is again (inl none) = subst (λ t. is_ended (byte ∷ t) ≡ false) (sym none) is
 only_by byte [] is again (inr one) = is
 only_by byte (c ∷ text) is again (inr one) = ended_behind (byte ∷ []) (c ∷ text) (omega arith) ∙ again one
 
 -- by whether its first byte is a line feed
-only_test : (byte : ℕ) (text : List ℕ) (t : Bool) → (byte == 10) ≡ t → (lines_of text ≡ text ∷ [] → is_ended text ≡ false) → lines_of (byte ∷ text) ≡ (byte ∷ text) ∷ [] → is_ended (byte ∷ text) ≡ false
+only_test : (byte : ℕ) (text : List ℕ) (t : Bool) → (byte == 10) ≡ t → (text_lines text ≡ text ∷ [] → is_ended text ≡ false) → text_lines (byte ∷ text) ≡ (byte ∷ text) ∷ [] → is_ended (byte ∷ text) ≡ false
 only_test byte text true is again one = absurd (let e = rw is at one in cc)
-only_test byte text false is again one = only_by byte text is again (one_onto byte text (lines_of text) refl (rw is at one))
+only_test byte text false is again one = only_by byte text is again (one_onto byte text (text_lines text) refl (rw is at one))
 
 -- a text that is its only line is not ended
-only_line : (text : List ℕ) → lines_of text ≡ text ∷ [] → is_ended text ≡ false
+only_line : (text : List ℕ) → text_lines text ≡ text ∷ [] → is_ended text ≡ false
 only_line [] one = cc
 only_line (byte ∷ text) one = only_test byte text (byte == 10) refl (only_line text) one
 
@@ -79,7 +79,7 @@ pub record HasRead (log rest : List ℕ) (number : ℕ) (readings : List Line) :
   pub front : List ℕ
   pub lines : List (List ℕ)
   pub text : log ≡ front ++ rest
-  pub split : lines_of log ≡ lines ++ lines_of rest
+  pub split : text_lines log ≡ lines ++ text_lines rest
   pub read : AllRead lines readings
   pub count : number ≡ length lines
   pub room : number + length rest ≤ length log
@@ -90,13 +90,13 @@ read_nothing log = record { front = []; lines = []; text = refl; split = refl; r
 
 -- the first line of what is left
 pub record IsFirst (rest line : List ℕ) (ended : Bool) (after : List ℕ) : Type 0 where
-  pub lines : lines_of rest ≡ line ∷ lines_of after
+  pub lines : text_lines rest ≡ line ∷ text_lines after
   pub whole : rest ≡ line ++ line_end ended ++ after
   pub last : OnFalse ended (after ≡ [])
   pub shorter : length after < length rest
 
 -- the lines of the log around it
-lines_around : (log rest line after : List ℕ) (lines : List (List ℕ)) → lines_of log ≡ lines ++ lines_of rest → lines_of rest ≡ line ∷ lines_of after → lines_of log ≡ lines ++ line ∷ lines_of after
+lines_around : (log rest line after : List ℕ) (lines : List (List ℕ)) → text_lines log ≡ lines ++ text_lines rest → text_lines rest ≡ line ∷ text_lines after → text_lines log ≡ lines ++ line ∷ text_lines after
 lines_around log rest line after lines split first = split ∙ ap (λ l. lines ++ l) first
 
 -- one more line that reads
@@ -111,7 +111,7 @@ read_more log rest line after ended number readings reading has first reads =
       lines = has.lines ++ line ∷ [];
       text = has.text ∙ ap (λ l. has.front ++ l) first.whole ∙ sym (append_assoc has.front (line ++ line_end ended) after)
           ∙ ap (λ l. l ++ after) (sym (append_assoc has.front line (line_end ended)));
-      split = lines_around log rest line after has.lines has.split first.lines ∙ sym (append_assoc has.lines (line ∷ []) (lines_of after));
+      split = lines_around log rest line after has.lines has.split first.lines ∙ sym (append_assoc has.lines (line ∷ []) (text_lines after));
       read = all_read_more has.lines readings line reading has.read reads;
       count = let more = length-append has.lines (line ∷ []) in omega (arith, more, count_is);
       room = omega (arith, short, room);
@@ -125,7 +125,7 @@ ended_bad log rest line after number readings has first none =
     record {
       lines = has.lines;
       line = line;
-      behind = lines_of after;
+      behind = text_lines after;
       are = lines_around log rest line after has.lines has.split first.lines;
       number_is = omega (arith, count_is);
       read = (readings, has.read);
@@ -148,11 +148,11 @@ no_end log rest line after number readings has first none =
     let short = first.shorter in
     let no_more = first.last in
     let whole : rest ≡ line = first.whole ∙ ap (λ l. (line ++ []) ++ l) no_more ∙ append-nil (line ++ []) ∙ append-nil line in
-    let one : lines_of rest ≡ rest ∷ [] = first.lines ∙ ap (λ l. line ∷ lines_of l) no_more ∙ ap (λ l. l ∷ []) (sym whole) in
+    let one : text_lines rest ≡ rest ∷ [] = first.lines ∙ ap (λ l. line ∷ text_lines l) no_more ∙ ap (λ l. l ∷ []) (sym whole) in
     record {
       lines = has.lines;
       last = line;
-      are = lines_around log rest line after has.lines has.split first.lines ∙ ap (λ l. has.lines ++ line ∷ lines_of l) no_more;
+      are = lines_around log rest line after has.lines has.split first.lines ∙ ap (λ l. has.lines ++ line ∷ text_lines l) no_more;
       read = has.read;
       no_reading = none;
       not_ended = ap is_ended has.text ∙ ended_behind has.front rest (omega (arith, short)) ∙ only_line rest one;
@@ -167,5 +167,5 @@ unread_end log rest line after false number readings has first is none = inr (re
 -- all lines are read
 pub read_all : (log rest : List ℕ) (number : ℕ) (readings : List Line) → HasRead log rest number readings → rest ≡ [] → LogReads log readings
 read_all log rest number readings has none =
-    let same : lines_of log ≡ has.lines = has.split ∙ ap (λ l. has.lines ++ lines_of l) none ∙ append-nil has.lines in
+    let same : text_lines log ≡ has.lines = has.split ∙ ap (λ l. has.lines ++ text_lines l) none ∙ append-nil has.lines in
     inl (subst (λ l. AllRead l readings) (sym same) has.read)

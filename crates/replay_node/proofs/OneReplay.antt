@@ -1,12 +1,12 @@
 -- A log has one replay, or one bad line.
 use Rattle.std.proofs.Common.{◌≡◌, ℕ, ◌+◌, inl, inr, List, [], ◌∷◌, ◌++◌, length, refl, sym, ap, subst, ◌∙◌}
-use Rattle.text_parts.specs.Line.{lines_of}
+use Rattle.text_parts.specs.Line.{text_lines}
 use Rattle.log_line.specs.Reading.{Reads}
 use Rattle.log_line.specs.declared.line.Line.{Line}
 use Rattle.log_line.specs.declared.line.Line.TheVariants.{Skip}
 use Rattle.scenario.specs.declared.scenario.Epoch.{Epoch}
 use Rattle.replay_node.specs.Log.{AllRead, EndsUnread, HasNoReading, IsBadLine, LogReads}
-use Rattle.replay_node.specs.Replay.{IsReplay, IsReplayOf, entries_on, requests_of}
+use Rattle.replay_node.specs.Replay.{IsReplay, IsReplayOf, entries_on, requests_from}
 use Rattle.replay_node.specs.declared.replay.Replay.{Replay}
 
 -- a line has one reading
@@ -66,11 +66,11 @@ ends_once log before others one is also =
     lines_read_once one also.lines before others (subst (λ l. AllRead l before) apart.before is.read) also.read
 
 -- a log that is read has no unread end
-read_or_unread : (log : List ℕ) (readings before : List Line) → AllRead (lines_of log) readings → EndsUnread log before → ⊥
+read_or_unread : (log : List ℕ) (readings before : List Line) → AllRead (text_lines log) readings → EndsUnread log before → ⊥
 read_or_unread log readings before read ends = unread_among ends.lines ends.last [] readings ends.no_reading (subst (λ l. AllRead l readings) ends.are read)
 
 reads_once : OneReading → (log : List ℕ) (readings others : List Line) → LogReads log readings → LogReads log others → readings ≡ others
-reads_once one log readings others (inl is) (inl also) = lines_read_once one (lines_of log) readings others is also
+reads_once one log readings others (inl is) (inl also) = lines_read_once one (text_lines log) readings others is also
 reads_once one log readings others (inl is) (inr (before, ends, end)) = absurd (read_or_unread log readings before is ends)
 reads_once one log readings others (inr (before, ends, end)) (inl also) = absurd (read_or_unread log others before also ends)
 reads_once one log readings others (inr (before, ends, end)) (inr (more, ends_too, end_too)) = end ∙ ap (λ l. l ++ Skip ∷ []) (ends_once log before more one ends ends_too) ∙ sym end_too
@@ -79,7 +79,7 @@ replay_of_once : (interface : List ℕ) (bit : ℕ) (epoch : Epoch) (readings : 
 replay_of_once interface bit epoch readings replay other is also =
     let epochs : replay.epoch ≡ other.epoch = is.epoch_is ∙ sym also.epoch_is in
     let passed : replay.skipped ≡ other.skipped = is.skipped_is ∙ sym also.skipped_is in
-    let lists : replay.list ≡ other.list = is.list_is ∙ ap (λ e. requests_of bit e 0 (entries_on interface readings)) epochs ∙ sym also.list_is in
+    let lists : replay.list ≡ other.list = is.list_is ∙ ap (λ e. requests_from bit e 0 (entries_on interface readings)) epochs ∙ sym also.list_is in
     (λ i. record { epoch = epochs i; skipped = passed i; list = lists i })
 
 -- a log has one replay

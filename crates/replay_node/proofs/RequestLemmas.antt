@@ -6,7 +6,7 @@ use Rattle.std.specs.Str.{bytes_eq}
 use Rattle.std.proofs.lemmas.List.Elements.{All-nil, All-cons, All-head, All-tail, All-append}
 use Rattle.std.proofs.lemmas.Grind.{flat_map-append}
 use Rattle.std.proofs.lemmas.List.Sorted.{IsNonDecreasingBy-short, IsNonDecreasingBy-insert}
-use Rattle.text_parts.specs.Line.{lines_of}
+use Rattle.text_parts.specs.Line.{text_lines}
 use Rattle.log_line.specs.Reading.{Reads}
 use Rattle.log_line.specs.Written.{IsLoggable}
 use Rattle.log_line.specs.declared.line.Entry as declared
@@ -16,25 +16,25 @@ use Rattle.scenario.specs.Within.{IsEpochWithin}
 use Rattle.scenario.specs.declared.scenario.Epoch.{Epoch}
 use Rattle.scenario.specs.declared.scenario.Epoch.TheVariants.{At, First}
 use Rattle.replay_node.specs.Log.{AllRead, LogReads}
-use Rattle.replay_node.specs.Replay.{IsReplay, entries_on, entry_on, epoch_of, requests_of, start_of}
+use Rattle.replay_node.specs.Replay.{IsReplay, entries_on, entry_on, epoch_seconds, requests_from, start_of}
 use Rattle.replay_node.specs.declared.replay.Replay.{Replay}
 use Rattle.replay_node.specs.declared.replay.Request.{Request}
 
 -- ---- moments
 
 -- no request asks before the one in front
-not_before : (bit epoch before : ℕ) (entries : List declared.Entry) (k : ℕ) (d : Request) → k < length (requests_of bit epoch before entries) → before ≤ (get_or (requests_of bit epoch before entries) k d).at
+not_before : (bit epoch before : ℕ) (entries : List declared.Entry) (k : ℕ) (d : Request) → k < length (requests_from bit epoch before entries) → before ≤ (get_or (requests_from bit epoch before entries) k d).at
 not_before bit epoch before [] k d within = absurd (omega (arith, within))
 not_before bit epoch before (entry ∷ entries) zero d within = omega arith
 not_before bit epoch before (entry ∷ entries) (suc k) d within =
     let later = not_before bit epoch (max before (start_of bit epoch entry)) entries k d (omega (arith, within)) in
     omega (arith, later)
 
-moments_rise : (bit epoch before : ℕ) (entries : List declared.Entry) → IsNonDecreasingBy (λ (r : Request). r.at) (requests_of bit epoch before entries)
+moments_rise : (bit epoch before : ℕ) (entries : List declared.Entry) → IsNonDecreasingBy (λ (r : Request). r.at) (requests_from bit epoch before entries)
 moments_rise bit epoch before [] = IsNonDecreasingBy-short (λ (r : Request). r.at) [] (omega arith)
 moments_rise bit epoch before (entry ∷ entries) =
     let at : ℕ = max before (start_of bit epoch entry) in
-    let rest : List Request = requests_of bit epoch at entries in
+    let rest : List Request = requests_from bit epoch at entries in
     IsNonDecreasingBy-insert (λ (r : Request). r.at) rest 0 (record { at = at; frame = entry.frame }) (moments_rise bit epoch at entries) (omega arith)
     (λ k d none. absurd (omega (arith, none))) (λ k d some within. not_before bit epoch at entries k d within)
 
@@ -77,7 +77,7 @@ with_end : (interface : List ℕ) (readings : List Line) → All HasLoggable (en
 with_end interface readings all = subst (All HasLoggable) (sym (flat_map-append (entry_on interface) readings (Skip ∷ []) ∙ append-nil (entries_on interface readings))) all
 
 log_loggable : ReadLoggable → (log interface : List ℕ) (readings : List Line) → LogReads log readings → All HasLoggable (entries_on interface readings)
-log_loggable can log interface readings (inl read) = lines_loggable can interface (lines_of log) readings read
+log_loggable can log interface readings (inl read) = lines_loggable can interface (text_lines log) readings read
 log_loggable can log interface readings (inr (before, ends, end)) =
     subst (λ (r : List Line). All HasLoggable (entries_on interface r)) (sym end) (with_end interface before (lines_loggable can interface ends.lines before ends.read))
 
@@ -85,10 +85,10 @@ log_loggable can log interface readings (inr (before, ends, end)) =
 abbrev AsksLoggable : Request → Type 0
 AsksLoggable request = IsLoggable request.frame
 
-requests_loggable : (bit epoch before : ℕ) (entries : List declared.Entry) → All HasLoggable entries → All AsksLoggable (requests_of bit epoch before entries)
+requests_loggable : (bit epoch before : ℕ) (entries : List declared.Entry) → All HasLoggable entries → All AsksLoggable (requests_from bit epoch before entries)
 requests_loggable bit epoch before [] all = All-nil AsksLoggable
 requests_loggable bit epoch before (entry ∷ entries) all =
-    All-cons AsksLoggable (record { at = max before (start_of bit epoch entry); frame = entry.frame }) (requests_of bit epoch (max before (start_of bit epoch entry)) entries)
+    All-cons AsksLoggable (record { at = max before (start_of bit epoch entry); frame = entry.frame }) (requests_from bit epoch (max before (start_of bit epoch entry)) entries)
     (All-head HasLoggable entry entries all) (requests_loggable bit epoch (max before (start_of bit epoch entry)) entries (All-tail HasLoggable entry entries all))
 
 -- the frames of a replay can be written
@@ -98,7 +98,7 @@ frames_loggable can log interface bit epoch replay (readings, reads, is) =
 
 -- ---- the epoch
 
-epoch_below : (epoch : Epoch) (entries : List declared.Entry) → IsEpochWithin epoch → epoch_of epoch entries < 2 ^ 32
+epoch_below : (epoch : Epoch) (entries : List declared.Entry) → IsEpochWithin epoch → epoch_seconds epoch entries < 2 ^ 32
 epoch_below (At seconds) entries within = omega (arith, within)
 epoch_below First [] within = omega arith
 epoch_below First (entry ∷ entries) within = omega arith

@@ -1,6 +1,6 @@
 -- What a log reads as, line by line.
 use Rattle.std.specs.Prelude.{◌≡◌, ◌+◌, ◌-◌, ◌==◌, ℕ, Bool, true, false, List, [], ◌∷◌, ◌++◌, ◌⊎◌, length, slice_index}
-use Rattle.text_parts.specs.Line.{lines_of}
+use Rattle.text_parts.specs.Line.{text_lines}
 use Rattle.log_line.specs.Reading.{Reads}
 use Rattle.log_line.specs.declared.line.Line.{Line}
 use Rattle.log_line.specs.declared.line.Line.TheVariants.{Skip}
@@ -24,7 +24,7 @@ AllRead (line ∷ lines) (reading ∷ readings) = Reads line reading × AllRead 
 pub record EndsUnread (log : List ℕ) (before : List Line) : Type 0 where
   pub lines : List (List ℕ)
   pub last : List ℕ
-  pub are : lines_of log ≡ lines ++ last ∷ []
+  pub are : text_lines log ≡ lines ++ last ∷ []
   pub read : AllRead lines before
   pub no_reading : HasNoReading last
   pub not_ended : is_ended log ≡ false
@@ -32,7 +32,7 @@ pub record EndsUnread (log : List ℕ) (before : List Line) : Type 0 where
 -- the log reads so: each of its lines, or each but an unread end, which is passed over
 abbrev pub LogReads : List ℕ → List Line → Type 0
 LogReads log readings =
-    AllRead (lines_of log) readings
+    AllRead (text_lines log) readings
     ⊎ ((before : List Line) × EndsUnread log before × (readings ≡ before ++ Skip ∷ []))
 
 -- the line with this number, counted from 1, is the first that has no reading and is not an unread end
@@ -40,7 +40,7 @@ pub record IsBadLine (log : List ℕ) (number : ℕ) : Type 0 where
   pub lines : List (List ℕ)
   pub line : List ℕ
   pub behind : List (List ℕ)
-  pub are : lines_of log ≡ lines ++ line ∷ behind
+  pub are : text_lines log ≡ lines ++ line ∷ behind
   pub number_is : number ≡ length lines + 1
   pub read : (readings : List Line) × AllRead lines readings
   pub no_reading : HasNoReading line

@@ -37,10 +37,10 @@ abbrev pub second_before : ℕ → ℕ
 second_before seconds = min (seconds - 1) (2 ^ 32 - 1)
 
 -- the epoch in seconds; the first is a second before the first entry, and 0 without one
-abbrev pub epoch_of : Epoch → List declared.Entry → ℕ
-epoch_of (At seconds) entries = seconds
-epoch_of First [] = 0
-epoch_of First (entry ∷ entries) = second_before entry.seconds
+abbrev pub epoch_seconds : Epoch → List declared.Entry → ℕ
+epoch_seconds (At seconds) entries = seconds
+epoch_seconds First [] = 0
+epoch_seconds First (entry ∷ entries) = second_before entry.seconds
 
 -- microseconds in a second
 abbrev pub per_second : ℕ
@@ -58,18 +58,18 @@ start_of bit epoch entry =
 
 -- the requests of the entries, where the one before asked at this moment: each asks at its start, and not
 -- before the one before
-abbrev pub requests_of : ℕ → ℕ → ℕ → List declared.Entry → List Request
-requests_of bit epoch before [] = []
-requests_of bit epoch before (entry ∷ entries) =
+abbrev pub requests_from : ℕ → ℕ → ℕ → List declared.Entry → List Request
+requests_from bit epoch before [] = []
+requests_from bit epoch before (entry ∷ entries) =
     record { at = max before (start_of bit epoch entry); frame = entry.frame }
-    ∷ requests_of bit epoch (max before (start_of bit epoch entry)) entries
+    ∷ requests_from bit epoch (max before (start_of bit epoch entry)) entries
 
 -- the replay of lines that read so
 pub record IsReplayOf (interface : List ℕ) (bit : ℕ) (epoch : Epoch) (readings : List Line) (replay : Replay)
     : Type 0 where
-  pub epoch_is : replay.epoch ≡ epoch_of epoch (entries_on interface readings)
+  pub epoch_is : replay.epoch ≡ epoch_seconds epoch (entries_on interface readings)
   pub skipped_is : replay.skipped ≡ skipped_on interface readings
-  pub list_is : replay.list ≡ requests_of bit replay.epoch 0 (entries_on interface readings)
+  pub list_is : replay.list ≡ requests_from bit replay.epoch 0 (entries_on interface readings)
 
 -- the replay of a log on an interface
 abbrev pub IsReplay : List ℕ → List ℕ → ℕ → Epoch → Replay → Type 0

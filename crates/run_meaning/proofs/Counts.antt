@@ -8,8 +8,8 @@ use Rattle.std.proofs.lemmas.Bool.Decides.{eqb_tells}
 use Rattle.std.proofs.lemmas.List.Sums.{sum_by-append, sum_by-cons}
 use Rattle.stack_vm.specs.declared.meter.MeterRow.{MeterRow}
 use Rattle.node_rounds.specs.Round.{Task}
-use Rattle.run_meaning.specs.Counts.{adds_to, row_then, turns_of}
-use Rattle.run_meaning.specs.Order.{first_tasks, in_order, next_pick, nodes_with_tasks, picked, picks_after, task_count, tasks_of}
+use Rattle.run_meaning.specs.Counts.{adds_to, row_then, step_turns}
+use Rattle.run_meaning.specs.Order.{first_tasks, tasks_in_order, next_pick, nodes_with_tasks, picked, picks_after, task_count, tasks_of}
 use Rattle.run_meaning.specs.Run.{Passed}
 use Rattle.run_meaning.specs.Steps.{Step, ended_steps, round_steps, steps, task_done, task_steps}
 use Rattle.run_meaning.proofs.OrderLemmas.{count_cons, count_put, order_put, own_put, put_task}
@@ -75,7 +75,7 @@ module _
     (P : List (List Task) → List (ℕ × Task) → Type 0) (none : (tasks : List (List Task)) → task_count tasks ≡ 0 → P tasks [])
     (more : (number : ℕ) (task : Task) (rest : List (List Task)) (list : List (ℕ × Task)) → number < length rest → P rest list → P (put_task number task rest) ((number, task) ∷ list))
   where
-    by_count : (count : ℕ) (tasks : List (List Task)) (picks : List ℕ) → task_count tasks ≡ count → P tasks (in_order tasks picks)
+    by_count : (count : ℕ) (tasks : List (List Task)) (picks : List ℕ) → task_count tasks ≡ count → P tasks (tasks_in_order tasks picks)
     by_count zero tasks picks is = subst (λ n. P tasks (first_tasks n tasks picks)) (sym is) (none tasks is)
     by_count (suc count) tasks picks is =
         let node : ℕ = picked (nodes_with_tasks 0 tasks) (next_pick picks) in
@@ -84,12 +84,12 @@ module _
         let all : List (List Task) = put_task node has.task rest in
         let long : task_count all ≡ suc (task_count rest) = count_put node has.task rest has.within in
         let same : task_count tasks ≡ task_count all = ap task_count has.are in
-        let comes : in_order all picks ≡ (node, has.task) ∷ in_order rest (drop 1 picks) =
+        let comes : tasks_in_order all picks ≡ (node, has.task) ∷ tasks_in_order rest (drop 1 picks) =
         order_put node has.task rest picks has.within (ap (λ (ts : List (List Task)). picked (nodes_with_tasks 0 ts) (next_pick picks)) (sym has.are)) in
         let known = by_count count rest (drop 1 picks) (omega (arith, is, long, same)) in
-        subst (λ (ts : List (List Task)). P ts (in_order ts picks)) (sym has.are) (subst (P all) (sym comes) (more node has.task rest (in_order rest (drop 1 picks)) has.within known))
+        subst (λ (ts : List (List Task)). P ts (tasks_in_order ts picks)) (sym has.are) (subst (P all) (sym comes) (more node has.task rest (tasks_in_order rest (drop 1 picks)) has.within known))
 
-    pub by_order : (tasks : List (List Task)) (picks : List ℕ) → P tasks (in_order tasks picks)
+    pub by_order : (tasks : List (List Task)) (picks : List ℕ) → P tasks (tasks_in_order tasks picks)
     by_order tasks picks = by_count (task_count tasks) tasks picks refl
 
 -- ---- each node's own tasks
@@ -124,7 +124,7 @@ own_more number task rest list within known node =
     ]
 
 -- picks leave the tasks of each node in their order
-pub order_parts : (tasks : List (List Task)) (picks : List ℕ) (node : ℕ) → map (λ one. one.1) (filter (λ one. one.0 == node) (in_order tasks picks)) ≡ tasks_of tasks node
+pub order_parts : (tasks : List (List Task)) (picks : List ℕ) (node : ℕ) → map (λ one. one.1) (filter (λ one. one.0 == node) (tasks_in_order tasks picks)) ≡ tasks_of tasks node
 order_parts tasks picks =
     by_order (λ (ts : List (List Task)) (list : List (ℕ × Task)). (node : ℕ) → own_of list node ≡ tasks_of ts node) (λ ts is node. none_of ts node is) own_more tasks picks
 
@@ -166,7 +166,7 @@ total_put f first (suc number) task (own ∷ others) within =
     let b : f (first + 1 + number, task) ≡ f (first + suc number, task) = ap (λ n. f (n, task)) (omega arith) in omega (arith, more, b)
 
 -- the sum over the tasks in the order of picks
-order_sum : (f : ℕ × Task → ℕ) (tasks : List (List Task)) (picks : List ℕ) → sum_by f (in_order tasks picks) ≡ total f 0 tasks
+order_sum : (f : ℕ × Task → ℕ) (tasks : List (List Task)) (picks : List ℕ) → sum_by f (tasks_in_order tasks picks) ≡ total f 0 tasks
 order_sum f = by_order (λ (ts : List (List Task)) (list : List (ℕ × Task)). sum_by f list ≡ total f 0 ts) (total_none f 0)
     (λ number task rest list within known.
     let a = sum_by-cons f (number, task) list in
@@ -191,7 +191,7 @@ steps_sum f (passed ∷ rounds) picks others =
     in_round : (ps : List ℕ) → sum_by f (round_steps passed ps) ≡ sum_by f (ended_steps passed.moment passed.ended) + total own 0 passed.tasks
     in_round ps =
         let a = sum_by-append f (ended_steps passed.moment passed.ended) (task_steps passed.moment passed.tasks ps) in
-        let b = sum_mapped f (λ (one : ℕ × Task). task_done passed.moment one.0 one.1) (in_order passed.tasks ps) in
+        let b = sum_mapped f (λ (one : ℕ × Task). task_done passed.moment one.0 one.1) (tasks_in_order passed.tasks ps) in
         let c = order_sum own passed.tasks ps in omega (arith, a, b, c)
 
 -- nor does a row
@@ -200,9 +200,9 @@ pub rows_stay : (first_rows : List ℕ) (rounds : List Passed) (picks others : L
 rows_stay first_rows rounds picks others number =
     let test : Step → Bool = adds_to first_rows number in
     let row : ℕ → ℕ → MeterRow = λ runs turns. record { runs = min runs (2 ^ 64 - 1); turns = min turns (2 ^ 64 - 1) } in
-    let turns : List ℕ → ℕ = λ ps. sum_by turns_of (filter test (steps rounds ps)) in
+    let turns : List ℕ → ℕ = λ ps. sum_by step_turns (filter test (steps rounds ps)) in
     let runs_same : count_by test (steps rounds picks) ≡ count_by test (steps rounds others) = steps_sum (λ step. cond (test step) 1 0) rounds picks others in
     let turns_same : turns picks ≡ turns others =
-    sum_kept turns_of test (steps rounds picks) ∙ steps_sum (λ step. cond (test step) (turns_of step) 0) rounds picks others
-    ∙ sym (sum_kept turns_of test (steps rounds others)) in
+    sum_kept step_turns test (steps rounds picks) ∙ steps_sum (λ step. cond (test step) (step_turns step) 0) rounds picks others
+    ∙ sym (sum_kept step_turns test (steps rounds others)) in
     ap (λ n. row n (turns picks)) runs_same ∙ ap (row (count_by test (steps rounds others))) turns_same

@@ -12,7 +12,7 @@ use Rattle.node_rounds.specs.declared.round.Round.{Round}
 use Rattle.node_rounds.specs.declared.round.Round.TheVariants as rounds
 use Rattle.node_rounds.specs.declared.round.Seen.{Seen}
 use Rattle.node_rounds.specs.Follows.{IsFor}
-use Rattle.node_rounds.specs.Round.{Rest, frame_triggers, key_triggers, next_first, next_last, next_timer, next_trigger, rest_of, timer_trigger, triggers}
+use Rattle.node_rounds.specs.Round.{Rest, frame_triggers, key_triggers, next_first, next_last, timer_or_last, next_trigger, rest_of, timer_trigger, triggers}
 use Rattle.node_rounds.proofs.FollowLemmas.{round_is}
 use Rattle.run_meaning.specs.Live.{AreDue, CanBeSeen, IsDue}
 use Rattle.run_meaning.specs.Run.{seen_by}
@@ -46,11 +46,11 @@ module _ (P : Trigger → Type 0) (trigger : Trigger) (rest : Rest) where
   last_holds few [] first all e = absurd (let f : None ≡ found trigger rest = e in cc)
   last_holds few (one ∷ last) first all e = next_holds one (record few { last = last }) all.0 (first, all.1) e
 
-  timer_holds : (due : Option Trigger) (few : Rest) → IfSome due P → HoldAll P few → next_timer few due ≡ found trigger rest → P trigger × HoldAll P rest
+  timer_holds : (due : Option Trigger) (few : Rest) → IfSome due P → HoldAll P few → timer_or_last few due ≡ found trigger rest → P trigger × HoldAll P rest
   timer_holds None few holds all e = last_holds few few.last all.0 all.1 e
   timer_holds (Some one) few holds all e = next_holds one few holds all e
 
-  behind_holds : (asks : Bool) (due : Option Trigger) (few : Rest) → IfSome due P → HoldAll P few → (if asks then next_timer few due else next_last few few.last) ≡ found trigger rest
+  behind_holds : (asks : Bool) (due : Option Trigger) (few : Rest) → IfSome due P → HoldAll P few → (if asks then timer_or_last few due else next_last few few.last) ≡ found trigger rest
       → P trigger × HoldAll P rest
   behind_holds true due few holds all e = timer_holds due few holds all e
   behind_holds false due few holds all e = last_holds few few.last all.0 all.1 e

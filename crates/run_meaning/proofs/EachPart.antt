@@ -19,7 +19,7 @@ use Rattle.node_rounds.specs.declared.round.Seen.{Seen}
 use Rattle.node_rounds.specs.Effects.{IsTimerEffect}
 use Rattle.node_rounds.specs.Procedures.{procedures_for}
 use Rattle.node_rounds.specs.Reaction.{AreSetLater, Done, DoesProcedure, NodeState, NoneOverdue, Runner, due_timer, reaction_of, timers_at_begin, without_procedure}
-use Rattle.node_rounds.specs.Round.{Doing, DoesNext, IsDone, IsPart, PartOf, Rest, Task, at_begin, next_first, next_last, next_of, next_timer, next_trigger, rest_of, task_of, timer_trigger}
+use Rattle.node_rounds.specs.Round.{Doing, DoesNext, IsDone, IsPart, PartOf, Rest, Task, at_begin, next_first, next_last, next_of, timer_or_last, next_trigger, rest_of, task_of, timer_trigger}
 use Rattle.node_rounds.proofs.MovingTimers.{count_at_begin, reaction_moves_timers}
 use Rattle.run_meaning.specs.Live.{AreDue, CanBeSeen, IsLater, IsLive, IsReady}
 use Rattle.run_meaning.specs.Run.{AreParts, seen_by}
@@ -82,7 +82,7 @@ last_fewer now timers trigger few rest (one ∷ last) is e =
     inl (subst (λ r. left r < left few) same (omega (arith, long)))
 
 timer_fewer : (procedures : Occurrence → List ℕ) (now : ℕ) (timers : Timers) (trigger : Trigger) (few rest : Rest) (o : Option Setting) → first_due timers.settings now ≡ o
-    → next_timer few (option_map (timer_trigger procedures) (option_map (λ (x : Setting). x.timer) o)) ≡ found trigger rest → IsFewer now timers trigger few rest
+    → timer_or_last few (option_map (timer_trigger procedures) (option_map (λ (x : Setting). x.timer) o)) ≡ found trigger rest → IsFewer now timers trigger few rest
 timer_fewer procedures now timers trigger few rest None is e = last_fewer now timers trigger few rest few.last refl e
 timer_fewer procedures now timers trigger few rest (Some fired) is e =
     let same = found_same (timer_trigger procedures fired.timer) trigger few rest e in
@@ -92,7 +92,7 @@ first_fewer : (procedures : Occurrence → List ℕ) (now : ℕ) (timers : Timer
     → next_first few (option_map (timer_trigger procedures) (due_timer timers now)) first ≡ found trigger rest → IsFewer now timers trigger few rest
 first_fewer procedures now timers trigger few rest [] is e = go few.asks_timers e
   where
-    go : (b : Bool) → (if b then next_timer few (option_map (timer_trigger procedures) (due_timer timers now)) else next_last few few.last) ≡ found trigger rest → IsFewer now timers trigger few rest
+    go : (b : Bool) → (if b then timer_or_last few (option_map (timer_trigger procedures) (due_timer timers now)) else next_last few few.last) ≡ found trigger rest → IsFewer now timers trigger few rest
     go true e = timer_fewer procedures now timers trigger few rest (first_due timers.settings now) refl e
     go false e = last_fewer now timers trigger few rest few.last refl e
 first_fewer procedures now timers trigger few rest (one ∷ first) is e =
@@ -110,14 +110,14 @@ asks_last : (few rest : Rest) (trigger : Trigger) (last : List Trigger) → next
 asks_last few rest trigger [] e = absurd (let f : None ≡ found trigger rest = e in cc)
 asks_last few rest trigger (one ∷ last) e = ap (λ (r : Rest). r.asks_timers) (sym (found_same one trigger (record few { last = last }) rest e).1)
 
-asks_timer : (few rest : Rest) (trigger : Trigger) (due : Option Trigger) → next_timer few due ≡ found trigger rest → rest.asks_timers ≡ few.asks_timers
+asks_timer : (few rest : Rest) (trigger : Trigger) (due : Option Trigger) → timer_or_last few due ≡ found trigger rest → rest.asks_timers ≡ few.asks_timers
 asks_timer few rest trigger None e = asks_last few rest trigger few.last e
 asks_timer few rest trigger (Some one) e = ap (λ (r : Rest). r.asks_timers) (sym (found_same one trigger few rest e).1)
 
 asks_first : (few rest : Rest) (trigger : Trigger) (due : Option Trigger) (first : List Trigger) → next_first few due first ≡ found trigger rest → rest.asks_timers ≡ few.asks_timers
 asks_first few rest trigger due [] e = go few.asks_timers e
   where
-    go : (b : Bool) → (if b then next_timer few due else next_last few few.last) ≡ found trigger rest → rest.asks_timers ≡ few.asks_timers
+    go : (b : Bool) → (if b then timer_or_last few due else next_last few few.last) ≡ found trigger rest → rest.asks_timers ≡ few.asks_timers
     go true e = asks_timer few rest trigger due e
     go false e = asks_last few rest trigger few.last e
 asks_first few rest trigger due (one ∷ first) e = ap (λ (r : Rest). r.asks_timers) (sym (found_same one trigger (record few { first = first }) rest e).1)

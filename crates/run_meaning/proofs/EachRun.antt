@@ -24,7 +24,7 @@ use Rattle.node_rounds.specs.Round.{Task}
 use Rattle.run_meaning.specs.Bus.{after_all_tasks, after_tasks}
 use Rattle.run_meaning.specs.Live.{CanBeSeen, IsLater, IsLive, IsReady, Stands}
 use Rattle.run_meaning.specs.Moments.{keys_after, keys_at, least, next_key, next_request, next_timer, requests_after, requests_at}
-use Rattle.run_meaning.specs.Run.{AreRounds, EndsAt, GoesOn, IsBegun, IsEnded, IsInstant, IsRound, IsRun, IsSecond, Passed, RunState, after_round, finished, new_run, next_moment, quiet_round, settled}
+use Rattle.run_meaning.specs.Run.{AreRounds, EndsAt, RunsOn, HasBegun, IsEnded, IsInstant, IsRound, IsRun, IsSecond, Passed, RunState, after_round, finished, new_run, next_instant, quiet_round, settled}
 use Rattle.run_meaning.proofs.EachPart.{parts_ready, parts_there}
 use Rattle.run_meaning.proofs.Occurring.{CarriesSeen, KeysCan, ReplayCan, all_tasks_seen, arbitrate_seen, ended_seen, finish_seen, keys_after_can, keys_at_can, requests_after_can, requests_at_can, requests_seen}
 
@@ -246,7 +246,7 @@ module _ {M B : Type 0} (runner : Runner M) (sound : NodeState M → Type 0) (ca
   -- ---- the next moment
 
   -- what is next in a run that stands so is later
-  pub next_later : (s : RunState (NodeState M) B) → Stands sound can bus s → IfSome (next_moment (reaction_of runner) bus s) (λ m. s.moment < m)
+  pub next_later : (s : RunState (NodeState M) B) → Stands sound can bus s → IfSome (next_instant (reaction_of runner) bus s) (λ m. s.moment < m)
   next_later s stands =
       let r = reaction_of runner in
       least_later s.moment (bus.next_moment s.bus) (least (next_timer r s.nodes) (least (next_key s.keys) (next_request s.requests))) stands.bus_later
@@ -254,7 +254,7 @@ module _ {M B : Type 0} (runner : Runner M) (sound : NodeState M → Type 0) (ca
       (least_later s.moment (next_key s.keys) (next_request s.requests) stands.keys_later stands.requests_later))
 
   -- what is not before a moment
-  next_bound : (s : RunState (NodeState M) B) (now : ℕ) → IfSome (next_moment (reaction_of runner) bus s) (λ m. now ≤ m)
+  next_bound : (s : RunState (NodeState M) B) (now : ℕ) → IfSome (next_instant (reaction_of runner) bus s) (λ m. now ≤ m)
       → IfSome (bus.next_moment s.bus) (λ m. now ≤ m) × IfSome (next_timer (reaction_of runner) s.nodes) (λ m. now ≤ m)
   next_bound s now h =
       let r = reaction_of runner in
@@ -262,18 +262,18 @@ module _ {M B : Type 0} (runner : Runner M) (sound : NodeState M → Type 0) (ca
       let two = least_bound now (next_timer r s.nodes) (least (next_key s.keys) (next_request s.requests)) one.1 in (one.0, two.0)
 
   -- the bus has nothing to do before the next moment of a run, and no timer is due before it
-  next_is : (s : RunState (NodeState M) B) (now : ℕ) → next_moment (reaction_of runner) bus s ≡ Some now
+  next_is : (s : RunState (NodeState M) B) (now : ℕ) → next_instant (reaction_of runner) bus s ≡ Some now
       → IfSome (bus.next_moment s.bus) (λ m. now ≤ m) × IfSome (next_timer (reaction_of runner) s.nodes) (λ m. now ≤ m)
   next_is s now is = next_bound s now (subst (λ o. IfSome o (λ m. now ≤ m)) (sym is) (omega arith))
 
   -- at the next moment of a run that stands so the nodes are ready, and it is later
-  pub ready_at : (s : RunState (NodeState M) B) (now : ℕ) → Stands sound can bus s → next_moment (reaction_of runner) bus s ≡ Some now
+  pub ready_at : (s : RunState (NodeState M) B) (now : ℕ) → Stands sound can bus s → next_instant (reaction_of runner) bus s ≡ Some now
       → AllByRecursion (IsReady sound now) s.nodes × (s.moment < now)
   ready_at s now stands is =
       (ready_until runner sound s.moment now s.nodes stands.ready (next_is s now is).1, subst (λ o. IfSome o (λ m. s.moment < m)) is (next_later s stands))
 
   -- at the moment at which a run ends the nodes are ready
-  pub ready_at_end : (until end : ℕ) (s : RunState (NodeState M) B) → Stands sound can bus s → EndsAt s.stops s.moment (next_moment (reaction_of runner) bus s) until end
+  pub ready_at_end : (until end : ℕ) (s : RunState (NodeState M) B) → Stands sound can bus s → EndsAt s.stops s.moment (next_instant (reaction_of runner) bus s) until end
       → AllByRecursion (IsReady sound end) s.nodes
   ready_at_end until end s stands ends = go s.stops ends
     where
@@ -281,13 +281,13 @@ module _ {M B : Type 0} (runner : Runner M) (sound : NodeState M → Type 0) (ca
       weaker None h = tt
       weaker (Some m) h = omega (arith, h)
 
-      go : (b : Bool) → EndsAt b s.moment (next_moment (reaction_of runner) bus s) until end → AllByRecursion (IsReady sound end) s.nodes
+      go : (b : Bool) → EndsAt b s.moment (next_instant (reaction_of runner) bus s) until end → AllByRecursion (IsReady sound end) s.nodes
       go true is = subst (λ m. AllByRecursion (IsReady sound m) s.nodes) (sym is) stands.ready
       go false late = subst (λ m. AllByRecursion (IsReady sound m) s.nodes) (sym late.1)
-          (ready_until runner sound s.moment until s.nodes stands.ready (next_bound s until (weaker (next_moment (reaction_of runner) bus s) late.0)).1)
+          (ready_until runner sound s.moment until s.nodes stands.ready (next_bound s until (weaker (next_instant (reaction_of runner) bus s) late.0)).1)
 
   -- the end of a run that stands so, where it ends at a moment
-  pub stop_there : (until end : ℕ) (s : RunState (NodeState M) B) → Stands sound can bus s → EndsAt s.stops s.moment (next_moment (reaction_of runner) bus s) until end
+  pub stop_there : (until end : ℕ) (s : RunState (NodeState M) B) → Stands sound can bus s → EndsAt s.stops s.moment (next_instant (reaction_of runner) bus s) until end
       → (passed : List Passed) × (after : RunState (NodeState M) B) × IsEnded (reaction_of runner) bus until s passed after
   stop_there until end s stands ends =
       let none_can = All-nil (λ key. can (happens.Key key)) in
@@ -301,7 +301,7 @@ module _ {M B : Type 0} (runner : Runner M) (sound : NodeState M → Type 0) (ca
 
   -- nodes that are ready at 0 have the instant of the beginning
   pub begun_there : (nodes : List (NodeState M)) (b : B) (keys : List KeyItem) (requests : List Request) → KeysCan can keys → AllByRecursion (IsReady sound 0) nodes
-      → (passed : List Passed) × (after : RunState (NodeState M) B) × IsBegun (reaction_of runner) bus (new_run nodes b keys requests) passed after
+      → (passed : List Passed) × (after : RunState (NodeState M) B) × HasBegun (reaction_of runner) bus (new_run nodes b keys requests) passed after
   begun_there nodes b keys requests keys_can ready =
       let before : RunState (NodeState M) B = new_run nodes b keys requests in
       let none_can = All-nil (λ key. can (happens.Key key)) in
@@ -314,7 +314,7 @@ module _ {M B : Type 0} (runner : Runner M) (sound : NodeState M → Type 0) (ca
       )
 
   -- a run that stands so has an instant, where there is a next moment in time and no node asked to stop
-  pub instant_there : (until now : ℕ) (s : RunState (NodeState M) B) → Stands sound can bus s → s.stops ≡ false → next_moment (reaction_of runner) bus s ≡ Some now → now ≤ until
+  pub instant_there : (until now : ℕ) (s : RunState (NodeState M) B) → Stands sound can bus s → s.stops ≡ false → next_instant (reaction_of runner) bus s ≡ Some now → now ≤ until
       → (passed : List Passed) × (after : RunState (NodeState M) B) × IsInstant (reaction_of runner) bus until s passed after
   instant_there until now s stands alive is in_time =
       let there = rounds_there now s stands.frames stands.keys_can (ready_at s now stands is).0 in (
@@ -325,12 +325,12 @@ module _ {M B : Type 0} (runner : Runner M) (sound : NodeState M → Type 0) (ca
 
   -- what is left of a run that ends here is the round of the stop
   pub stop_first : (until : ℕ) (s : RunState (NodeState M) B) (passed : List Passed) (after : RunState (NodeState M) B) → IsEnded (reaction_of runner) bus until s passed after
-      → GoesOn (reaction_of runner) bus until s passed after
+      → RunsOn (reaction_of runner) bus until s passed after
   stop_first until s passed after stop = record { instants = []; last = s; stop = passed; goes = refl; ending = stop; are = refl }
 
   -- what is left of a run after an instant is left behind this instant before it
   pub instant_first : (until : ℕ) (s : RunState (NodeState M) B) (passed : List Passed) (between : RunState (NodeState M) B) (more : List Passed) (after : RunState (NodeState M) B)
-      → IsInstant (reaction_of runner) bus until s passed between → GoesOn (reaction_of runner) bus until between more after → GoesOn (reaction_of runner) bus until s (passed ++ more) after
+      → IsInstant (reaction_of runner) bus until s passed between → RunsOn (reaction_of runner) bus until between more after → RunsOn (reaction_of runner) bus until s (passed ++ more) after
   instant_first until s passed between more after one rest = record {
     instants = passed ∷ rest.instants;
     last = rest.last;
@@ -371,7 +371,7 @@ module _
     -- how a run stands after its beginning
     pub begun_stands : (nodes : List (NodeState M)) (b : B) (keys : List KeyItem) (requests : List Request) (passed : List Passed) (after : RunState (NodeState M) B)
         → AllByRecursion (IsReady sound 0) nodes → AllByRecursion (IsLater 0) nodes → bus.sound b → bus.next_moment b ≡ None → KeysCan can keys → ReplayCan can requests
-        → CarriesSeen can bus b → IsBegun (reaction_of runner) bus (new_run nodes b keys requests) passed after → Stands sound can bus after × (after.moment ≡ 0)
+        → CarriesSeen can bus b → HasBegun (reaction_of runner) bus (new_run nodes b keys requests) passed after → Stands sound can bus after × (after.moment ≡ 0)
     begun_stands nodes b keys requests passed after ready later sound_b empty keys_can requests_can frames is =
         let r = reaction_of runner in
         let before : RunState (NodeState M) B = new_run nodes b keys requests in
@@ -425,23 +425,23 @@ module _
 
     -- the rest of a run that stands so
     abbrev RestThere : ℕ → RunState (NodeState M) B → Type 0
-    RestThere until s = (passed : List Passed) × (after : RunState (NodeState M) B) × GoesOn (reaction_of runner) bus until s passed after
+    RestThere until s = (passed : List Passed) × (after : RunState (NodeState M) B) × RunsOn (reaction_of runner) bus until s passed after
 
     -- a run that ends at a moment has no further instant
-    over_there : (until end : ℕ) (s : RunState (NodeState M) B) → Stands sound can bus s → EndsAt s.stops s.moment (next_moment (reaction_of runner) bus s) until end → RestThere until s
+    over_there : (until end : ℕ) (s : RunState (NodeState M) B) → Stands sound can bus s → EndsAt s.stops s.moment (next_instant (reaction_of runner) bus s) until end → RestThere until s
     over_there until end s stands ends =
         let stop = stop_there runner sound can live bus come until end s stands ends in (stop.0, stop.1, stop_first runner sound can live bus come until s stop.0 stop.1 stop.2)
 
     -- where it goes on by the next moment, if it goes on
     by_next : (until : ℕ) (s : RunState (NodeState M) B) → Stands sound can bus s → s.stops ≡ false
         → ((between : RunState (NodeState M) B) → Stands sound can bus between → s.moment < between.moment → between.moment ≤ until → RestThere until between) → (o : Option ℕ)
-        → next_moment (reaction_of runner) bus s ≡ o → RestThere until s
+        → next_instant (reaction_of runner) bus s ≡ o → RestThere until s
     by_next until s stands alive more o is = go o is
       where
-        late : IfSome (next_moment (reaction_of runner) bus s) (λ m. until < m) → RestThere until s
-        late h = over_there until until s stands (subst (λ b. EndsAt b s.moment (next_moment (reaction_of runner) bus s) until until) (sym alive) (h, refl))
+        late : IfSome (next_instant (reaction_of runner) bus s) (λ m. until < m) → RestThere until s
+        late h = over_there until until s stands (subst (λ b. EndsAt b s.moment (next_instant (reaction_of runner) bus s) until until) (sym alive) (h, refl))
 
-        go : (o : Option ℕ) → next_moment (reaction_of runner) bus s ≡ o → RestThere until s
+        go : (o : Option ℕ) → next_instant (reaction_of runner) bus s ≡ o → RestThere until s
         go None is = late (subst (λ o. IfSome o (λ m. until < m)) (sym is) tt)
         go (Some now) is = elim (cases_lt until now) [
           | inl after ↦ late (subst (λ o. IfSome o (λ m. until < m)) (sym is) after)
@@ -456,8 +456,8 @@ module _
         → ((between : RunState (NodeState M) B) → Stands sound can bus between → s.moment < between.moment → between.moment ≤ until → RestThere until between) → (b : Bool) → s.stops ≡ b
         → RestThere until s
     by_stop until s stands more true is =
-        over_there until s.moment s stands (subst (λ b. EndsAt b s.moment (next_moment (reaction_of runner) bus s) until s.moment) (sym is) refl)
-    by_stop until s stands more false is = by_next until s stands is more (next_moment (reaction_of runner) bus s) refl
+        over_there until s.moment s stands (subst (λ b. EndsAt b s.moment (next_instant (reaction_of runner) bus s) until s.moment) (sym is) refl)
+    by_stop until s stands more false is = by_next until s stands is more (next_instant (reaction_of runner) bus s) refl
 
     rest_there : (fuel until : ℕ) (s : RunState (NodeState M) B) → Stands sound can bus s → until ≤ s.moment + fuel → RestThere until s
     rest_there zero until s stands few = by_stop until s stands (λ between known later in_time. absurd (omega (arith, later, in_time, few))) s.stops refl
@@ -466,7 +466,7 @@ module _
 
     -- a run that stands so goes on to an end
     pub goes_on_there : (until : ℕ) (s : RunState (NodeState M) B) → Stands sound can bus s
-        → (passed : List Passed) × (after : RunState (NodeState M) B) × GoesOn (reaction_of runner) bus until s passed after
+        → (passed : List Passed) × (after : RunState (NodeState M) B) × RunsOn (reaction_of runner) bus until s passed after
     goes_on_there until s stands = rest_there until until s stands (omega arith)
 
     -- nodes that do each task have a run from a new bus

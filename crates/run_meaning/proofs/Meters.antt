@@ -7,7 +7,7 @@ use Rattle.can_bus.specs.declared.bus.Ended.{Ended}
 use Rattle.stack_vm.specs.declared.meter.MeterRow.{MeterRow}
 use Rattle.stack_vm.specs.Meter.{AddsRun, row_after}
 use Rattle.node_rounds.specs.Round.{Task}
-use Rattle.run_meaning.specs.Counts.{AddsSteps, adds_to, row_with, turns_of}
+use Rattle.run_meaning.specs.Counts.{AddsSteps, adds_to, row_with, step_turns}
 use Rattle.run_meaning.specs.Done.{AddsAtMost}
 use Rattle.run_meaning.specs.Steps.{Step, frame_ended, task_done}
 
@@ -15,7 +15,7 @@ use Rattle.run_meaning.specs.Steps.{Step, frame_ended, task_done}
 pub row_with_append : (first_rows : List ℕ) (number : ℕ) (row : MeterRow) (xs ys : List Step)
     → row_with first_rows number row (xs ++ ys) ≡ row_with first_rows number (row_with first_rows number row xs) ys
 row_with_append first_rows number row [] ys = refl
-row_with_append first_rows number row (x ∷ xs) ys = row_with_append first_rows number (cond (adds_to first_rows number x) (row_after (turns_of x) row) row) xs ys
+row_with_append first_rows number row (x ∷ xs) ys = row_with_append first_rows number (cond (adds_to first_rows number x) (row_after (step_turns x) row) row) xs ys
 
 -- no step adds nothing
 pub adds_none : (first_rows : List ℕ) (meter : List MeterRow) → AddsSteps first_rows [] meter meter
@@ -74,8 +74,8 @@ pub runs_rise : (first_rows : List ℕ) (number : ℕ) (row : MeterRow) (steps :
     → (row.runs ≤ (row_with first_rows number row steps).runs) × ((row_with first_rows number row steps).runs ≤ 2 ^ 64 - 1)
 runs_rise first_rows number row [] in_range = (omega arith, in_range)
 runs_rise first_rows number row (step ∷ steps) in_range =
-    let one = rises_by (adds_to first_rows number step) (turns_of step) row in_range in
-    let more = runs_rise first_rows number (cond (adds_to first_rows number step) (row_after (turns_of step) row) row) steps one.1 in
+    let one = rises_by (adds_to first_rows number step) (step_turns step) row in_range in
+    let more = runs_rise first_rows number (cond (adds_to first_rows number step) (row_after (step_turns step) row) row) steps one.1 in
     (omega (arith, one.0, more.0), more.1)
 
 -- what steps add is at most what more steps add

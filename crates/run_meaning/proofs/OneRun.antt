@@ -7,7 +7,7 @@ use Rattle.node_rounds.specs.declared.round.Round.TheVariants as round_of
 use Rattle.node_rounds.specs.Reaction.{Reacts}
 use Rattle.node_rounds.specs.Round.{Task}
 use Rattle.run_meaning.specs.Moments.{keys_at}
-use Rattle.run_meaning.specs.Run.{AreInstants, AreParts, AreRounds, EndsAt, GoesOn, IsBegun, IsEnded, IsInstant, IsRound, IsRun, IsSecond, Passed, RunState, finished, next_moment, quiet_round, settled}
+use Rattle.run_meaning.specs.Run.{AreInstants, AreParts, AreRounds, EndsAt, RunsOn, HasBegun, IsEnded, IsInstant, IsRound, IsRun, IsSecond, Passed, RunState, finished, next_instant, quiet_round, settled}
 use Rattle.run_meaning.proofs.Once.{IsOnce, parts_once, round_once, some_same}
 
 -- ---- instants
@@ -41,7 +41,7 @@ instant_once {S} {B} r once bus until before ps qs after end x y =
 
 -- a run may end as it stands here
 abbrev pub IsLast : {S B : Type 0} → Reacts S → BusMeaning B → ℕ → RunState S B → Type 0
-IsLast {S} {B} r bus until s = (end : ℕ) × EndsAt s.stops s.moment (next_moment r bus s) until end
+IsLast {S} {B} r bus until s = (end : ℕ) × EndsAt s.stops s.moment (next_instant r bus s) until end
 
 late : (stops : Bool) (next : Option ℕ) (present until moment end : ℕ) → stops ≡ false → next ≡ Some moment → moment ≤ until → EndsAt stops present next until end → ⊥
 late true next present until moment end goes is in_time ends = let e : true ≡ false = goes in cc
@@ -51,7 +51,7 @@ late false (Some other) present until moment end goes is in_time ends =
 
 -- no instant follows where a run may end
 pub no_more : {S B : Type 0} (r : Reacts S) (bus : BusMeaning B) (until : ℕ) (s after : RunState S B) (rounds : List Passed) → IsLast r bus until s → IsInstant r bus until s rounds after → ⊥
-no_more r bus until s after rounds last more = late s.stops (next_moment r bus s) s.moment until more.moment last.0 more.not_stopped more.is_next more.in_time last.1
+no_more r bus until s after rounds last more = late s.stops (next_instant r bus s) s.moment until more.moment last.0 more.not_stopped more.is_next more.in_time last.1
 
 -- the instants of a run up to its end go in one way
 pub instants_once : {S B : Type 0} (r : Reacts S) → IsOnce r → (bus : BusMeaning B) (until : ℕ) (before : RunState S B) (ps qs : List (List Passed)) (after end : RunState S B)
@@ -68,7 +68,7 @@ instants_once {S} {B} r once bus until before (p ∷ ps) (q ∷ qs) after end a 
 
 -- moment 0 goes in one way
 pub begun_once : {S B : Type 0} (r : Reacts S) → IsOnce r → (bus : BusMeaning B) (before : RunState S B) (ps qs : List Passed) (after end : RunState S B)
-    → IsBegun r bus before ps after → IsBegun r bus before qs end → (ps ≡ qs) × (after ≡ end)
+    → HasBegun r bus before ps after → HasBegun r bus before qs end → (ps ≡ qs) × (after ≡ end)
 begun_once {S} {B} r once bus before ps qs after end x y =
     let one = round_once r once bus round_of.PreStart None [] before x.before_start y.before_start x.between y.between x.pre_starts y.pre_starts in
     let two = round_once r once bus round_of.Start None (keys_at 0 before.keys) y.between x.start y.start x.end y.end
@@ -86,7 +86,7 @@ ends_at_once false present next until end other a b = a.1 ∙ sym b.1
 pub ended_once : {S B : Type 0} (r : Reacts S) → IsOnce r → (bus : BusMeaning B) (until : ℕ) (before : RunState S B) (ps qs : List Passed) (after end : RunState S B)
     → IsEnded r bus until before ps after → IsEnded r bus until before qs end → (ps ≡ qs) × (after ≡ end)
 ended_once {S} {B} r once bus until before ps qs after end x y =
-    let at : x.moment ≡ y.moment = ends_at_once before.stops before.moment (next_moment r bus before) until x.moment y.moment x.ends y.ends in
+    let at : x.moment ≡ y.moment = ends_at_once before.stops before.moment (next_instant r bus before) until x.moment y.moment x.ends y.ends in
     let one = parts_once r once round_of.Stop y.moment None [] 0 before.nodes x.tasks y.tasks x.nodes y.nodes
     (subst (λ (n : ℕ). AreParts r round_of.Stop n None [] 0 before.nodes x.tasks x.nodes) at x.parts) y.parts in
     let by : ℕ → List (List Task) → List Passed = λ n tasks. quiet_round n tasks ∷ [] in
@@ -97,7 +97,7 @@ ended_once {S} {B} r once bus until before ps qs after end x y =
 
 -- what is left of a run after an instant goes in one way
 pub goes_on_once : {S B : Type 0} (r : Reacts S) → IsOnce r → (bus : BusMeaning B) (until : ℕ) (before : RunState S B) (ps qs : List Passed) (after end : RunState S B)
-    → GoesOn r bus until before ps after → GoesOn r bus until before qs end → (ps ≡ qs) × (after ≡ end)
+    → RunsOn r bus until before ps after → RunsOn r bus until before qs end → (ps ≡ qs) × (after ≡ end)
 goes_on_once {S} {B} r once bus until before ps qs after end x y =
     let one = instants_once r once bus until before x.instants y.instants x.last y.last x.goes y.goes (x.ending.moment, x.ending.ends) (y.ending.moment, y.ending.ends) in
     let two = ended_once r once bus until y.last x.stop y.stop after end (subst (λ (s : RunState S B). IsEnded r bus until s x.stop after) one.1 x.ending) y.ending in
@@ -109,6 +109,6 @@ pub run_once : {S B : Type 0} (r : Reacts S) → IsOnce r → (bus : BusMeaning 
     → IsRun r bus until before rounds after → IsRun r bus until before others end → (rounds ≡ others) × (after ≡ end)
 run_once {S} {B} r once bus until before after end rounds others x y =
     let one = begun_once r once bus before x.first y.first x.begun y.begun x.begins y.begins in
-    let two = goes_on_once r once bus until y.begun x.more y.more after end (subst (λ (s : RunState S B). GoesOn r bus until s x.more after) one.1 x.goes_on) y.goes_on in
+    let two = goes_on_once r once bus until y.begun x.more y.more after end (subst (λ (s : RunState S B). RunsOn r bus until s x.more after) one.1 x.goes_on) y.goes_on in
     let by : List Passed → List Passed → List Passed = λ first more. first ++ more in
     (x.are ∙ ap (λ first. by first x.more) one.0 ∙ ap (by y.first) two.0 ∙ sym y.are, two.1)

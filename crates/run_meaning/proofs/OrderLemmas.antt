@@ -10,7 +10,7 @@ use Rattle.can_bus.specs.Meaning.{BusMeaning}
 use Rattle.node_rounds.specs.Entries.{after_requests}
 use Rattle.node_rounds.specs.Round.{Task}
 use Rattle.run_meaning.specs.Bus.{after_all_tasks, after_tasks}
-use Rattle.run_meaning.specs.Order.{first_tasks, in_order, next_pick, nodes_with_tasks, picked, picks_after, task_count, tasks_of}
+use Rattle.run_meaning.specs.Order.{first_tasks, tasks_in_order, next_pick, nodes_with_tasks, picked, picks_after, task_count, tasks_of}
 use Rattle.run_meaning.specs.Run.{ask_stop}
 use Rattle.run_meaning.specs.Steps.{task_done, task_steps}
 
@@ -45,7 +45,7 @@ set_put (suc number) task (own ∷ others) within = ap (λ (ts : List (List Task
 
 -- where the next pick names its node, it comes first
 pub order_put : (number : ℕ) (task : Task) (tasks : List (List Task)) (picks : List ℕ) → number < length tasks
-    → picked (nodes_with_tasks 0 (put_task number task tasks)) (next_pick picks) ≡ number → in_order (put_task number task tasks) picks ≡ (number, task) ∷ in_order tasks (drop 1 picks)
+    → picked (nodes_with_tasks 0 (put_task number task tasks)) (next_pick picks) ≡ number → tasks_in_order (put_task number task tasks) picks ≡ (number, task) ∷ tasks_in_order tasks (drop 1 picks)
 order_put number task tasks picks within is =
     let all : List (List Task) = put_task number task tasks in
     let step : (n : ℕ) → (node : ℕ) → node ≡ number
@@ -54,7 +54,7 @@ order_put number task tasks picks within is =
     subst (λ m. (map (λ (t : Task). (m, t)) (take 1 (tasks_of all m)) ++ first_tasks n (slice_set all m (drop 1 (tasks_of all m))) (drop 1 picks)) ≡ (number, task) ∷ first_tasks n tasks (drop 1 picks)) (sym same)
     (subst (λ (own : List Task). (map (λ (t : Task). (number, t)) (take 1 own) ++ first_tasks n (slice_set all number (drop 1 own)) (drop 1 picks)) ≡ (number, task) ∷ first_tasks n tasks (drop 1 picks)) (sym (own_put number task tasks within))
     (ap (λ (ts : List (List Task)). (number, task) ∷ first_tasks n ts (drop 1 picks)) (set_put number task tasks within))) in
-    subst (λ n. first_tasks n all picks ≡ (number, task) ∷ in_order tasks (drop 1 picks)) (sym (count_put number task tasks within))
+    subst (λ n. first_tasks n all picks ≡ (number, task) ∷ tasks_in_order tasks (drop 1 picks)) (sym (count_put number task tasks within))
     (step (task_count tasks) (picked (nodes_with_tasks 0 all) (next_pick picks)) is)
 
 -- and so do the steps

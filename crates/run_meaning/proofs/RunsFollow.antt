@@ -13,7 +13,7 @@ use Rattle.node_rounds.specs.Reaction.{Reacts, next_due}
 use Rattle.node_rounds.specs.Round.{Task}
 use Rattle.node_rounds.proofs.FollowLemmas.{parts_follow}
 use Rattle.run_meaning.specs.Moments.{keys_at, least, next_key, next_request, next_timer, requests_at}
-use Rattle.run_meaning.specs.Run.{AreInstants, AreParts, AreRounds, EndsAt, GoesOn, IsBegun, IsEnded, IsInstant, IsRound, IsRun, IsSecond, Passed, RunState, finished, next_moment, seen_by, settled, with_nodes}
+use Rattle.run_meaning.specs.Run.{AreInstants, AreParts, AreRounds, EndsAt, RunsOn, HasBegun, IsEnded, IsInstant, IsRound, IsRun, IsSecond, Passed, RunState, finished, next_instant, seen_by, settled, with_nodes}
 
 -- ---- moments
 
@@ -30,7 +30,7 @@ timers_follow {r} {q} follows (s ∷ ss) (t ∷ ts) alike =
     ap (λ (o : Option ℕ). least o (next_timer q ts)) (due_follows follows s t alike.0) ∙ ap (least (next_due r s)) (timers_follow follows ss ts alike.1)
 
 moment_follows : {S T B : Type 0} {related : S → T → Type 0} {r : Reacts S} {q : Reacts T} → Follows related r q → (bus : BusMeaning B) (s : RunState S B) (ts : List T) → AllZip related s.nodes ts
-    → next_moment q bus (with_nodes s ts) ≡ next_moment r bus s
+    → next_instant q bus (with_nodes s ts) ≡ next_instant r bus s
 moment_follows follows bus s ts alike =
     ap (λ (o : Option ℕ). least (bus.next_moment s.bus) (least o (least (next_key s.keys) (next_request s.requests)))) (timers_follow follows s.nodes ts alike)
 
@@ -121,8 +121,8 @@ instants_follow follows bus until s (rounds ∷ instants) after ts alike are =
 -- ---- runs
 
 begun_follows : {S T B : Type 0} {related : S → T → Type 0} {r : Reacts S} {q : Reacts T} → Follows related r q → (bus : BusMeaning B) (s : RunState S B) (ts : List T) (rounds : List Passed)
-    (after : RunState S B) → AllZip related s.nodes ts → IsBegun r bus s rounds after
-    → (ends : List T) × IsBegun q bus (with_nodes s ts) rounds (with_nodes after ends) × AllZip related after.nodes ends
+    (after : RunState S B) → AllZip related s.nodes ts → HasBegun r bus s rounds after
+    → (ends : List T) × HasBegun q bus (with_nodes s ts) rounds (with_nodes after ends) × AllZip related after.nodes ends
 begun_follows {S} {B} {related} follows bus s ts rounds after alike begun =
     let first = round_follows follows bus round_of.PreStart None [] s ts begun.before_start begun.between alike begun.pre_starts in
     let second = round_follows follows bus round_of.Start None (keys_at 0 s.keys) begun.between first.0 begun.start begun.end first.2 begun.starts in (
@@ -160,8 +160,8 @@ ended_follows {S} {B} {related} follows bus until s ts rounds after alike ended 
     )
 
 goes_on_follows : {S T B : Type 0} {related : S → T → Type 0} {r : Reacts S} {q : Reacts T} → Follows related r q → (bus : BusMeaning B) (until : ℕ) (s : RunState S B) (ts : List T)
-    (rounds : List Passed) (after : RunState S B) → AllZip related s.nodes ts → GoesOn r bus until s rounds after
-    → (ends : List T) × GoesOn q bus until (with_nodes s ts) rounds (with_nodes after ends) × AllZip related after.nodes ends
+    (rounds : List Passed) (after : RunState S B) → AllZip related s.nodes ts → RunsOn r bus until s rounds after
+    → (ends : List T) × RunsOn q bus until (with_nodes s ts) rounds (with_nodes after ends) × AllZip related after.nodes ends
 goes_on_follows follows bus until s ts rounds after alike on =
     let more = instants_follow follows bus until s on.instants on.last ts alike on.goes in
     let end = ended_follows follows bus until on.last more.0 on.stop after more.2 on.ending in

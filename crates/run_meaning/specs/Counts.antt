@@ -19,24 +19,24 @@ abbrev pub adds_to : List ℕ → ℕ → Step → Bool
 adds_to first_rows number step = option_map_or (λ row. row == number) (row_of first_rows step) false
 
 -- the turns that a step took
-abbrev pub turns_of : Step → ℕ
-turns_of (frame_ended now ended) = 0
-turns_of (task_done now node task) = task.turns
+abbrev pub step_turns : Step → ℕ
+step_turns (frame_ended now ended) = 0
+step_turns (task_done now node task) = task.turns
 
 -- the row of a number after steps: how many of them added to it, and the sum of the turns that these took. A
 -- number above 2^64 - 1 stands as 2^64 - 1
 abbrev pub row_then : List ℕ → List Step → ℕ → MeterRow
 row_then first_rows steps number = record {
   runs = min (count_by (adds_to first_rows number) steps) (2 ^ 64 - 1);
-  turns = min (sum_by turns_of (filter (adds_to first_rows number) steps)) (2 ^ 64 - 1);
+  turns = min (sum_by step_turns (filter (adds_to first_rows number) steps)) (2 ^ 64 - 1);
 }
 
 -- a row after steps: each step that adds to it adds a run and its turns
 abbrev pub row_with : List ℕ → ℕ → MeterRow → List Step → MeterRow
 row_with first_rows number row [] = row
 row_with first_rows number row (step ∷ steps) =
-    row_with first_rows number (if adds_to first_rows number step then row_after (turns_of step) row else row)
-    steps
+    row_with first_rows number
+    (if adds_to first_rows number step then row_after (step_turns step) row else row) steps
 
 -- the runs of steps were added to the rows of a meter
 pub record AddsSteps (first_rows : List ℕ) (steps : List Step) (before after : List MeterRow) : Type 0 where

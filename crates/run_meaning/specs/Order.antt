@@ -37,8 +37,8 @@ first_tasks (suc count) tasks picks =
     ++ first_tasks count (slice_set tasks node (drop 1 (tasks_of tasks node))) (drop 1 picks)
 
 -- all tasks of a round in order, each with the number of its node
-abbrev pub in_order : List (List Task) → List ℕ → List (ℕ × Task)
-in_order tasks picks = first_tasks (task_count tasks) tasks picks
+abbrev pub tasks_in_order : List (List Task) → List ℕ → List (ℕ × Task)
+tasks_in_order tasks picks = first_tasks (task_count tasks) tasks picks
 
 -- the picks that are left after a round, each task of which used one
 abbrev pub picks_after : List (List Task) → List ℕ → List ℕ

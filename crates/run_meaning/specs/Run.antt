@@ -120,8 +120,8 @@ pub record AreRounds {S B : Type 0} (r : Reacts S) (bus : BusMeaning B) (now : �
   pub are : rounds ≡ record { moment = now; ended = bus.ended before.bus now; tasks = tasks } ∷ more
 
 -- the next moment of a run
-abbrev pub next_moment : {S B : Type 0} → Reacts S → BusMeaning B → RunState S B → Option ℕ
-next_moment {S} {B} r bus s = next_of_all r bus s.nodes s.bus s.keys s.requests
+abbrev pub next_instant : {S B : Type 0} → Reacts S → BusMeaning B → RunState S B → Option ℕ
+next_instant {S} {B} r bus s = next_of_all r bus s.nodes s.bus s.keys s.requests
 
 -- One instant, at the next moment, where no node asked to stop and it is in time: its rounds, and what comes
 -- after them.
@@ -130,7 +130,7 @@ pub record IsInstant {S B : Type 0} (r : Reacts S) (bus : BusMeaning B) (until :
   pub moment : ℕ
   pub end : RunState S B
   pub not_stopped : before.stops ≡ false
-  pub is_next : next_moment r bus before ≡ Some moment
+  pub is_next : next_instant r bus before ≡ Some moment
   pub in_time : moment ≤ until
   pub are_rounds : AreRounds r bus moment before rounds end
   pub stands : after ≡ settled bus end
@@ -156,7 +156,7 @@ quiet_round now tasks = record { moment = now; ended = None; tasks = tasks }
 
 -- The instant at moment 0 of a new run: the round before the start, the round of the start with the keys of
 -- the moment, and what comes after them.
-pub record IsBegun {S B : Type 0} (r : Reacts S) (bus : BusMeaning B) (before : RunState S B)
+pub record HasBegun {S B : Type 0} (r : Reacts S) (bus : BusMeaning B) (before : RunState S B)
     (rounds : List Passed) (after : RunState S B) : Type 0 where
   pub is_new : before ≡ new_run before.nodes before.bus before.keys before.requests
   pub before_start : List (List Task)
@@ -182,13 +182,13 @@ pub record IsEnded {S B : Type 0} (r : Reacts S) (bus : BusMeaning B) (until : �
   pub moment : ℕ
   pub tasks : List (List Task)
   pub nodes : List S
-  pub ends : EndsAt before.stops before.moment (next_moment r bus before) until moment
+  pub ends : EndsAt before.stops before.moment (next_instant r bus before) until moment
   pub parts : AreParts r round.Stop moment None [] 0 before.nodes tasks nodes
   pub stands : after ≡ record before { moment = moment; nodes = nodes }
   pub are : rounds ≡ quiet_round moment tasks ∷ []
 
 -- What is left of a run after an instant: further instants, and the end.
-pub record GoesOn {S B : Type 0} (r : Reacts S) (bus : BusMeaning B) (until : ℕ) (before : RunState S B)
+pub record RunsOn {S B : Type 0} (r : Reacts S) (bus : BusMeaning B) (until : ℕ) (before : RunState S B)
     (rounds : List Passed) (after : RunState S B) : Type 0 where
   pub instants : List (List Passed)
   pub last : RunState S B
@@ -204,6 +204,6 @@ pub record IsRun {S B : Type 0} (r : Reacts S) (bus : BusMeaning B) (until : ℕ
   pub first : List Passed
   pub begun : RunState S B
   pub more : List Passed
-  pub begins : IsBegun r bus before first begun
-  pub goes_on : GoesOn r bus until begun more after
+  pub begins : HasBegun r bus before first begun
+  pub goes_on : RunsOn r bus until begun more after
   pub are : rounds ≡ first ++ more

@@ -6,7 +6,7 @@ use Rattle.run_records.specs.declared.record.Noted.{Noted}
 use Rattle.run_records.specs.declared.record.Noted.TheVariants as entry
 use Rattle.node_rounds.specs.Entries.{line_entries}
 use Rattle.node_rounds.specs.Round.{Task}
-use Rattle.run_meaning.specs.Order.{in_order, picks_after}
+use Rattle.run_meaning.specs.Order.{tasks_in_order, picks_after}
 use Rattle.run_meaning.specs.Run.{Passed}
 
 -- one step, at a moment: a frame ended, or the node of a number did a task
@@ -21,7 +21,7 @@ ended_steps now (Some ended) = frame_ended now ended ∷ []
 
 -- the steps of the tasks of a round at a moment, in order
 abbrev pub task_steps : ℕ → List (List Task) → List ℕ → List Step
-task_steps now tasks picks = map (λ one. task_done now one.0 one.1) (in_order tasks picks)
+task_steps now tasks picks = map (λ one. task_done now one.0 one.1) (tasks_in_order tasks picks)
 
 -- the steps of a round: the frame that ended, and then the tasks
 abbrev pub round_steps : Passed → List ℕ → List Step

@@ -10,7 +10,7 @@ use Rattle.std.proofs.lemmas.List.{append-nil, take_more, take_all}
 use Rattle.scenario.specs.declared.item.Item.{Item}
 use Rattle.scenario.specs.declared.item.Item.TheVariants as item
 use Rattle.scenario.specs.declared.scenario.Scenario.{Scenario}
-use Rattle.scenario.specs.Item.{is_passed_over, is_blank, fields_of, item_of, items_in, items_of}
+use Rattle.scenario.specs.Item.{is_passed_over, is_gap, fields_of, item_of, items_in, items_of}
 use Rattle.scenario.specs.Rule.{broken_rules, least_of, nodes_of, rule_of_line, rule_at, AreRightBefore, IsFirstBroken, HasNoItem, HasNoNode}
 use Rattle.scenario.specs.Scenario.{IsScenario}
 use Rattle.scenario.specs.Inside.Draft.{Said, said_by, is_scenario, rule_of_next, with_item, with_line, IsScenarioOf}
@@ -186,7 +186,7 @@ same_choice false x = refl
 
 -- a line of one byte is no `scenario` item
 one_byte : (byte : ℕ) → is_scenario (item_of (fields_of (byte ∷ []))) ≡ false
-one_byte byte = by (is_blank byte)
+one_byte byte = by (is_gap byte)
   where
     by : (b : Bool) → is_scenario (item_of (if b || b then [] else filter (λ field. not (length field == 0)) (if b then [] ∷ [] ∷ [] else (byte ∷ []) ∷ []))) ≡ false
     by true = refl

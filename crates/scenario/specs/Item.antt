@@ -12,14 +12,14 @@ is_passed_over [] = true
 is_passed_over (byte ∷ bytes) = byte == 35
 
 -- whether the byte is a space or a tab
-abbrev pub is_blank : ℕ → Bool
-is_blank byte = byte == 32 || byte == 9
+abbrev pub is_gap : ℕ → Bool
+is_gap byte = byte == 32 || byte == 9
 
 -- the fields of a line, between its blanks; a line that begins or ends with a blank has none
 abbrev pub fields_of : List ℕ → List (List ℕ)
 fields_of line =
-    if is_blank (slice_index line 0) || is_blank (slice_index line (length line - 1)) then []
-    else filter (λ field. not (length field == 0)) (slice_split is_blank line)
+    if is_gap (slice_index line 0) || is_gap (slice_index line (length line - 1)) then []
+    else filter (λ field. not (length field == 0)) (slice_split is_gap line)
 
 -- the item of a word and one value
 abbrev pub item_of_one : List ℕ → List ℕ → Item

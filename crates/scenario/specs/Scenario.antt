@@ -92,6 +92,6 @@ pub record IsScenario (text : List ℕ) (scenario : Scenario) : Type 0 where
   pub said : IsSaidBy (items_of (lines text)) scenario
 
 -- the refusal shows the line and the rule of group S that the text breaks
-abbrev pub IsRefusal : List ℕ → ScenarioRefusal → Type 0
-IsRefusal text (refusal.Broken line rule) = (rule.group ≡ 83) × IsBroken (lines text) line rule.number
-IsRefusal text refusal.NoMemory = Unit {0}
+abbrev pub IsScenarioRefusal : List ℕ → ScenarioRefusal → Type 0
+IsScenarioRefusal text (refusal.Broken line rule) = (rule.group ≡ 83) × IsBroken (lines text) line rule.number
+IsScenarioRefusal text refusal.NoMemory = Unit {0}

@@ -2,7 +2,7 @@
 
 ghost use Rattle.std.specs.Prelude.{◌≡◌, ◌==◌, not, filter, length, map, IfOk};
 ghost use Rattle.std.specs.List.{slice_split};
-ghost use Rattle.scenario.specs.Item.{is_blank, fields_of};
+ghost use Rattle.scenario.specs.Item.{is_gap, fields_of};
 
 use std::alloc::Global;
 use texts::NoMemory;
@@ -21,12 +21,12 @@ pub(crate) fn fields_of(alloc: Global, line: &[u8]) -> Result<Vec<&[u8]>, NoMemo
 /// The pieces between blanks that are not empty.
 fn split_at_blanks(alloc: Global, line: &[u8]) -> Result<Vec<&[u8]>, NoMemory>
     ensures { IfOk result (λ fields. map (λ field. field.now) fields.items
-        ≡ filter (λ field. not (length field == 0)) (slice_split is_blank line.now)) }
+        ≡ filter (λ field. not (length field == 0)) (slice_split is_gap line.now)) }
 {
     let fields = line
         .split(
             |byte: &u8| -> bool
-                ensures { result ≡ is_blank byte.now }
+                ensures { result ≡ is_gap byte.now }
             { *byte == b' ' || *byte == b'\t' },
         )
         .filter(|field| !field.is_empty())

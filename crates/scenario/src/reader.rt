@@ -1,7 +1,7 @@
 // The scenario of a text.
 
 ghost use Rattle.std.specs.Prelude.{◌≡◌, ◌<◌, ◌^◌, length, IfOk, IfErr};
-ghost use Rattle.scenario.specs.Scenario.{IsScenario, IsRefusal};
+ghost use Rattle.scenario.specs.Scenario.{IsScenario, IsScenarioRefusal};
 ghost use Rattle.scenario.specs.Within.{IsWithin};
 ghost use Rattle.scenario.specs.Inside.Draft.{rule_behind, rule_of_next, with_item, with_line};
 ghost use Rattle.scenario.specs.Item.{fields_of, item_of};
@@ -26,7 +26,7 @@ pub fn read(alloc: Global, bytes: &[u8]) -> Result<Scenario, ScenarioRefusal>
     requires { length bytes.now < 2 ^ 32 }
     ensures found { IfOk result (IsScenario bytes.now) }
     ensures within { IfOk result IsWithin }
-    ensures refused { IfErr result (IsRefusal bytes.now) }
+    ensures refused { IfErr result (IsScenarioRefusal bytes.now) }
 {
     let mut draft = Draft::new(alloc);
     let mut rest = bytes;

@@ -7,12 +7,12 @@ use Rattle.std.proofs.lemmas.List.Sums.{sum_by-cons}
 use Rattle.sim_outside.specs.Folder.{beside}
 use Rattle.texts.specs.declared.blame.Blame.{Blame}
 use Rattle.texts.specs.declared.blame.Rule.{Rule}
-use Rattle.scenario.specs.Scenario.{IsScenario, IsRefusal}
+use Rattle.scenario.specs.Scenario.{IsScenario, IsScenarioRefusal}
 use Rattle.scenario.specs.declared.refusal.ScenarioRefusal.TheVariants.{Broken}
 use Rattle.scenario.specs.declared.scenario.NodeItem.{NodeItem}
 use Rattle.scenario.specs.declared.scenario.Scenario.{Scenario}
 use Rattle.dbc_reader.specs.Database.{IsDatabase}
-use Rattle.dbc_reader.specs.Database.{IsRefusal as IsWrongDatabase}
+use Rattle.dbc_reader.specs.Database.{IsDatabaseRefusal as IsWrongDatabase}
 use Rattle.dbc_reader.specs.declared.message.DbcMessage.{DbcMessage}
 use Rattle.dbc_reader.specs.declared.refusal.DbcRefusal.TheVariants as refusal
 use Rattle.capl_include.specs.Blame.{file_blame, too_long_rule}
@@ -53,7 +53,7 @@ held_or_blamed contents limit name = held_by contents limit name (contents name)
 -- ---- the scenario
 
 scenario_by : (contents : Contents) (name text : List ℕ) → Holds contents scenario_limit name text
-    → ((scenario : Scenario) × IsScenario text scenario) ⊎ ((line : ℕ) × (rule : Rule) × IsRefusal text (Broken line rule))
+    → ((scenario : Scenario) × IsScenario text scenario) ⊎ ((line : ℕ) × (rule : Rule) × IsScenarioRefusal text (Broken line rule))
     → ((scenario : Scenario) × ScenarioAt contents name scenario) ⊎ ((blame : Blame) × IsScenarioBlame contents name blame)
 scenario_by contents name text held (inl (scenario, is)) = inl (scenario, record { text = text; held = held; is = is })
 scenario_by contents name text held (inr (line, rule, is)) = inr (line_blame name line rule, inr (text, held, (line, rule, is, refl)))

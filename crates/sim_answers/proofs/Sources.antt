@@ -5,6 +5,7 @@ use Rattle.std.specs.List.{AllZip}
 use Rattle.std.proofs.lemmas.Bool.{cases_lt}
 use Rattle.std.proofs.lemmas.List.Elements.{All-nil, All-cons, All-head, All-tail}
 use Rattle.texts.specs.declared.blame.Blame.{Blame}
+use Rattle.texts.specs.Rule.{source_rule}
 use Rattle.dbc_reader.specs.declared.message.DbcMessage.{DbcMessage}
 use Rattle.capl_nesting.specs.Tokens.{toks}
 use Rattle.capl_tree.specs.Nesting.{nesting}
@@ -14,7 +15,7 @@ use Rattle.capl_tree.specs.declared.file.FileTree.{FileTree}
 use Rattle.capl_tree.specs.declared.file.Program.{Program}
 use Rattle.capl_parser.specs.Refusal.{nesting_limit}
 use Rattle.viable_prefixes.specs.Prefix.{IsFirstWrong}
-use Rattle.capl_include.specs.Blame.{file_blame, place_blame, source_rule}
+use Rattle.capl_include.specs.Blame.{file_blame, place_blame}
 use Rattle.capl_include.specs.Expansion.{Contents, Outcome, Went, Stopped, IsExpansion}
 use Rattle.capl_include.specs.declared.expanded.SourceFile.{SourceFile}
 use Rattle.capl_meaning.specs.Offences.{IsFirst, offences_of}

@@ -18,7 +18,7 @@ use Rattle.run_meaning.specs.Done.{AreCut, AreDone}
 use Rattle.run_meaning.specs.Live.{IsReady, Stands}
 use Rattle.run_meaning.specs.Moments.{keys_at}
 use Rattle.run_meaning.specs.Order.{picks_after}
-use Rattle.run_meaning.specs.Run.{AreRounds, IsBegun, IsInstant, IsRound, Passed, RunState, new_run, next_moment, quiet_round, settled}
+use Rattle.run_meaning.specs.Run.{AreRounds, HasBegun, IsInstant, IsRound, Passed, RunState, new_run, next_instant, quiet_round, settled}
 use Rattle.run_meaning.specs.Steps.{Step, steps, task_steps}
 use Rattle.run_meaning.proofs.DoneLemmas.{cut_at_none, cut_before, cut_more, done_more}
 use Rattle.run_meaning.proofs.EachRun.{begun_stands, begun_there, instant_stands, ready_at, round_ready, round_there}
@@ -97,13 +97,13 @@ keeps_same before between after keeps nodes until =
 module _ {B : Type 0} (bus : BusMeaning B) where
   -- the rounds at the next moment, and what comes after them, are an instant
   pub instant_by : (before : CoreState B) (now : ℕ) (passed : List Passed) (end : RunState (NodeState CodeMemory) B) → before.stops ≡ false
-      → next_moment code_reaction bus (run_of before) ≡ Some now → now ≤ before.until → AreRounds code_reaction bus now (run_of before) passed end
+      → next_instant code_reaction bus (run_of before) ≡ Some now → now ≤ before.until → AreRounds code_reaction bus now (run_of before) passed end
       → IsInstant code_reaction bus before.until (run_of before) passed (settled bus end)
   instant_by before now passed end alive next in_time are =
       record { moment = now; end = end; not_stopped = alive; is_next = next; in_time = in_time; are_rounds = are; stands = refl }
 
   module _ {R : Type 0} (meaning : RecordMeaning R) (before : CoreState B) (now : ℕ) (into : R) (meter : List MeterRow) (is_going : before.phase ≡ Going) (alive : before.stops ≡ false)
-      (next : next_moment code_reaction bus (run_of before) ≡ Some now) (in_time : now ≤ before.until) where
+      (next : next_instant code_reaction bus (run_of before) ≡ Some now) (in_time : now ≤ before.until) where
     -- its rounds were cut
     pub instant_cut : (into_after : R) (meter_after : List MeterRow) → AreRoundsCut meaning (AreRounds code_reaction bus now (run_of before)) (over before) into into_after meter meter_after
         → IsInstantCut bus meaning before into into_after meter meter_after
@@ -146,7 +146,7 @@ module _ {B : Type 0} (bus : BusMeaning B) where
 
 module _ {B : Type 0} (bus : BusMeaning B) (come : FramesCome bus) where
   -- a simulation is at rest at the next moment of its run
-  pub next_rest : (core : CoreState B) (now : ℕ) → IsCore bus core → core.phase ≡ Going → next_moment code_reaction bus (run_of core) ≡ Some now → IsAtRest bus now (over core)
+  pub next_rest : (core : CoreState B) (now : ℕ) → IsCore bus core → core.phase ≡ Going → next_instant code_reaction bus (run_of core) ≡ Some now → IsAtRest bus now (over core)
   next_rest core now is is_going next =
       let stands = is.stands is_going in
       record {
@@ -194,7 +194,7 @@ module _ {B : Type 0} (bus : BusMeaning B) (come : FramesCome bus) (core : CoreS
     -- two rounds, and what comes after them, are its beginning
     pub begun_by : (before_start : List (List Task)) (between : RunState (NodeState CodeMemory) B) (start : List (List Task)) (end : RunState (NodeState CodeMemory) B)
         → IsRound code_reaction bus round.PreStart None [] (run_of core) before_start between → IsRound code_reaction bus round.Start None (keys_at 0 core.keys) between start end
-        → IsBegun code_reaction bus (run_of core) (quiet_round 0 before_start ∷ quiet_round 0 start ∷ []) (settled bus end)
+        → HasBegun code_reaction bus (run_of core) (quiet_round 0 before_start ∷ quiet_round 0 start ∷ []) (settled bus end)
     begun_by before_start between start end first second = record {
       is_new = fresh_is_new bus core fresh;
       before_start = before_start;
@@ -208,18 +208,18 @@ module _ {B : Type 0} (bus : BusMeaning B) (come : FramesCome bus) (core : CoreS
     }
 
     -- it has a beginning
-    pub begins : (passed : List Passed) × (after : RunState (NodeState CodeMemory) B) × IsBegun code_reaction bus (run_of core) passed after
+    pub begins : (passed : List Passed) × (after : RunState (NodeState CodeMemory) B) × HasBegun code_reaction bus (run_of core) passed after
     begins =
-        subst (λ s. (passed : List Passed) × (after : RunState (NodeState CodeMemory) B) × IsBegun code_reaction bus s passed after) (sym (fresh_is_new bus core fresh))
+        subst (λ s. (passed : List Passed) × (after : RunState (NodeState CodeMemory) B) × HasBegun code_reaction bus s passed after) (sym (fresh_is_new bus core fresh))
         (begun_there by_code IsSound CanOccur code_lives bus come (states_of core.nodes) core.bus core.keys core.requests fresh.keys_can fresh.ready)
 
     -- and so it stands after it
     pub fresh_stands : SoundStays bus → DueLater bus → DueLaterFromNothing bus → (passed : List Passed) (after : RunState (NodeState CodeMemory) B)
-        → IsBegun code_reaction bus (run_of core) passed after → Stands IsSound CanOccur bus after × (after.moment ≡ 0)
+        → HasBegun code_reaction bus (run_of core) passed after → Stands IsSound CanOccur bus after × (after.moment ≡ 0)
     fresh_stands stays goes_on from_nothing passed after is =
         begun_stands by_code IsSound CanOccur code_lives bus come stays goes_on from_nothing (states_of core.nodes) core.bus core.keys core.requests passed after
         fresh.ready fresh.later fresh.sound_bus fresh.new_bus fresh.keys_can fresh.requests_can fresh.frames
-        (subst (λ s. IsBegun code_reaction bus s passed after) (fresh_is_new bus core fresh) is)
+        (subst (λ s. HasBegun code_reaction bus s passed after) (fresh_is_new bus core fresh) is)
 
     -- the keys of its first moment can be pressed
     pub first_keys_can : All (λ key. CanOccur (happens.Key key)) (keys_at 0 core.keys)
@@ -277,7 +277,7 @@ module _ {B : Type 0} (bus : BusMeaning B) (come : FramesCome bus) (core : CoreS
           both_done : AreDone meaning (rows_of core.nodes) (steps (quiet_round 0 first.tasks ∷ quiet_round 0 second.tasks ∷ []) core.picks) into into_after meter meter_after
           both_done = done_more first_done (done_as stays.nodes.rows (second_steps second.tasks) second.done)
 
-          begun_at_end : IsBegun code_reaction bus (run_of core) (quiet_round 0 first.tasks ∷ quiet_round 0 second.tasks ∷ []) (settled bus (run_of end))
+          begun_at_end : HasBegun code_reaction bus (run_of core) (quiet_round 0 first.tasks ∷ quiet_round 0 second.tasks ∷ []) (settled bus (run_of end))
           begun_at_end = begun_by first.tasks (run_of between) second.tasks (run_of end) first.is_round second.is_round
 
           -- a fault came after both rounds
@@ -291,8 +291,8 @@ module _ {B : Type 0} (bus : BusMeaning B) (come : FramesCome bus) (core : CoreS
 
           -- so the run stands once all is settled
           pub begun_is : (after : CoreState B) → run_of after ≡ settled bus (run_of end)
-              → IsBegun code_reaction bus (run_of core) (quiet_round 0 first.tasks ∷ quiet_round 0 second.tasks ∷ []) (run_of after)
-          begun_is after settles = subst (IsBegun code_reaction bus (run_of core) (quiet_round 0 first.tasks ∷ quiet_round 0 second.tasks ∷ [])) (sym settles) begun_at_end
+              → HasBegun code_reaction bus (run_of core) (quiet_round 0 first.tasks ∷ quiet_round 0 second.tasks ∷ []) (run_of after)
+          begun_is after settles = subst (HasBegun code_reaction bus (run_of core) (quiet_round 0 first.tasks ∷ quiet_round 0 second.tasks ∷ [])) (sym settles) begun_at_end
 
           -- the beginning was done
           pub begin_done : StaysInRound between end → (after : CoreState B) → run_of after ≡ settled bus (run_of end) → after.nodes ≡ end.nodes → after.picks ≡ end.picks
@@ -311,12 +311,12 @@ module _ {B : Type 0} (bus : BusMeaning B) (come : FramesCome bus) (core : CoreS
 
   -- however a simulation begins of which nothing has happened yet, its run stands so afterwards
   pub stands_begun : SoundStays bus → DueLater bus → DueLaterFromNothing bus → IsCore bus core → core.phase ≡ New → (passed : List Passed) (after : RunState (NodeState CodeMemory) B)
-      → IsBegun code_reaction bus (run_of core) passed after → Stands IsSound CanOccur bus after
+      → HasBegun code_reaction bus (run_of core) passed after → Stands IsSound CanOccur bus after
   stands_begun stays goes_on from_nothing is is_new passed after begun = (fresh_stands (is.fresh is_new) stays goes_on from_nothing passed after begun).0
 
   -- what a simulation keeps after its beginning
   pub begun_core : SoundStays bus → DueLater bus → DueLaterFromNothing bus → IsCore bus core → core.phase ≡ New → (after : CoreState B) (passed : List Passed)
-      → IsBegun code_reaction bus (run_of core) passed (run_of after) → All IsIdle after.nodes → length after.nodes < bus.nodes after.bus → length after.nodes < 2 ^ 32 → after.until ≤ 2 ^ 63
+      → HasBegun code_reaction bus (run_of core) passed (run_of after) → All IsIdle after.nodes → length after.nodes < bus.nodes after.bus → length after.nodes < 2 ^ 32 → after.until ≤ 2 ^ 63
       → IsCore bus (going after)
   begun_core stays goes_on from_nothing is is_new after passed begun idle serves few in_time =
       let known = fresh_stands (is.fresh is_new) stays goes_on from_nothing passed (run_of after) begun in

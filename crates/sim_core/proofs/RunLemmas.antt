@@ -11,7 +11,7 @@ use Rattle.node_run.specs.Code.{CodeMemory, by_code, code_reaction}
 use Rattle.node_run.specs.Sound.{CanOccur, IsSound}
 use Rattle.run_meaning.specs.Done.{AreCut, AreDone}
 use Rattle.run_meaning.specs.Live.{Stands}
-use Rattle.run_meaning.specs.Run.{EndsAt, GoesOn, IsBegun, IsEnded, IsInstant, IsRound, IsRun, Passed, RunState, next_moment, quiet_round}
+use Rattle.run_meaning.specs.Run.{EndsAt, RunsOn, HasBegun, IsEnded, IsInstant, IsRound, IsRun, Passed, RunState, next_instant, quiet_round}
 use Rattle.run_meaning.specs.Steps.{picks_left, steps}
 use Rattle.run_meaning.proofs.DoneLemmas.{cut_before, cut_more, done_more, picks_left_append, steps_append}
 use Rattle.run_meaning.proofs.EachRun.{goes_on_there, instant_first, instant_stands, ready_at_end, stop_first}
@@ -31,7 +31,7 @@ at_end {B} end core = record core { moment = end; phase = Over }
 
 -- it is at rest
 pub end_rest : {B : Type 0} (bus : BusMeaning B) → FramesCome bus → (core : CoreState B) (end : ℕ) → IsCore bus core → core.phase ≡ Going
-    → EndsAt core.stops core.moment (next_moment code_reaction bus (run_of core)) core.until end → IsAtRest bus end (at_end end core)
+    → EndsAt core.stops core.moment (next_instant code_reaction bus (run_of core)) core.until end → IsAtRest bus end (at_end end core)
 end_rest bus come core end is is_going ends =
     let stands = is.stands is_going in
     record {
@@ -41,7 +41,7 @@ end_rest bus come core end is is_going ends =
       frames = stands.frames;
     }
 
-module _ {B : Type 0} (bus : BusMeaning B) (core : CoreState B) (end : ℕ) (ends : EndsAt core.stops core.moment (next_moment code_reaction bus (run_of core)) core.until end) where
+module _ {B : Type 0} (bus : BusMeaning B) (core : CoreState B) (end : ℕ) (ends : EndsAt core.stops core.moment (next_instant code_reaction bus (run_of core)) core.until end) where
   -- its round is the end of the run
   pub end_by : (tasks : List (List Task)) (after : RunState (NodeState CodeMemory) B) → (is : IsRound code_reaction bus round.Stop None [] (run_of (at_end end core)) tasks after)
       → IsEnded code_reaction bus core.until (run_of core) (quiet_round end tasks ∷ []) (record (run_of core) { moment = end; nodes = is.nodes })
@@ -73,8 +73,8 @@ module _ {B : Type 0} (bus : BusMeaning B) (core : CoreState B) (end : ℕ) (end
 
 -- the next instant of a new simulation is that of moment 0
 pub is_begun : {B : Type 0} (bus : BusMeaning B) (core : CoreState B) (passed : List Passed) (after : RunState (NodeState CodeMemory) B) → core.phase ≡ New
-    → IsNextInstant bus core passed after → IsBegun code_reaction bus (run_of core) passed after
-is_begun bus core passed after is_new next = elim next as (λ _. IsBegun code_reaction bus (run_of core) passed after) [
+    → IsNextInstant bus core passed after → HasBegun code_reaction bus (run_of core) passed after
+is_begun bus core passed after is_new next = elim next as (λ _. HasBegun code_reaction bus (run_of core) passed after) [
   | inl first ↦ first.1
   | inr further ↦ absurd (let f : New ≡ Going = sym is_new ∙ further.0 in cc)
 ]
@@ -102,7 +102,7 @@ next_stands bus come stays goes_on from_nothing core is passed after next = elim
 pub record HasGone {B R : Type 0} (bus : BusMeaning B) (meaning : RecordMeaning R) (before : CoreState B) (into : R) (meter : List MeterRow) (now : CoreState B) (into_now : R)
     (meter_now : List MeterRow) : Type 0 where
   pub rounds : List Passed
-  pub leads : (rest : List Passed) (after : RunState (NodeState CodeMemory) B) → GoesOn code_reaction bus before.until (run_of now) rest after
+  pub leads : (rest : List Passed) (after : RunState (NodeState CodeMemory) B) → RunsOn code_reaction bus before.until (run_of now) rest after
       → IsRun code_reaction bus before.until (run_of before) (rounds ++ rest) after
   pub done : AreDone meaning (rows_of before.nodes) (steps rounds before.picks) into into_now meter meter_now
   pub picks : now.picks ≡ picks_left rounds before.picks
@@ -238,7 +238,7 @@ module _ {B R : Type 0} (bus : BusMeaning B) (meaning : RecordMeaning R) (before
 
   -- the instant at moment 0 was cut: the run goes on behind it
   pub first_cut : FramesCome bus → SoundStays bus → DueLater bus → DueLaterFromNothing bus → (into_after : R) (meter_after : List MeterRow) → before.phase ≡ New
-      → ((passed : List Passed) (after : RunState (NodeState CodeMemory) B) → IsBegun code_reaction bus (run_of before) passed after → Stands IsSound CanOccur bus after)
+      → ((passed : List Passed) (after : RunState (NodeState CodeMemory) B) → HasBegun code_reaction bus (run_of before) passed after → Stands IsSound CanOccur bus after)
       → IsInstantCut bus meaning before into into_after meter meter_after → IsRunCut bus meaning before into into_after meter meter_after
   first_cut come stays goes_on from_nothing into_after meter_after is_new stands cut =
       let begun = is_begun bus before cut.rounds cut.after is_new cut.is_next in

@@ -10,7 +10,7 @@ use Rattle.node_run.specs.Code.{CodeMemory, code_reaction}
 use Rattle.node_run.specs.Node.{HasRows, NodeInRound, loaded}
 use Rattle.node_run.specs.Sound.{IsSound}
 use Rattle.run_meaning.specs.Done.{AreCut, AreDone}
-use Rattle.run_meaning.specs.Run.{IsBegun, IsInstant, IsRun, Passed, RunState, next_moment}
+use Rattle.run_meaning.specs.Run.{HasBegun, IsInstant, IsRun, Passed, RunState, next_instant}
 use Rattle.run_meaning.specs.Steps.{picks_left, steps}
 use Rattle.sim_core.specs.declared.simulation.Phase.{Phase}
 use Rattle.sim_core.specs.declared.simulation.Phase.TheVariants.{New, Going}
@@ -75,14 +75,14 @@ HaveRows meter nodes = All (HasRows meter) nodes
 abbrev pub IsNextInstant : {B : Type 0} → BusMeaning B → CoreState B → List Passed
     → RunState (NodeState CodeMemory) B → Type 0
 IsNextInstant {B} bus core rounds after =
-    ((core.phase ≡ New) × IsBegun code_reaction bus (run_of core) rounds after)
+    ((core.phase ≡ New) × HasBegun code_reaction bus (run_of core) rounds after)
     ⊎ ((core.phase ≡ Going) × IsInstant code_reaction bus core.until (run_of core) rounds after)
 
 -- there is no further instant: a node asked to stop, or nothing is due up to the end moment
 pub record HasNoInstant {B : Type 0} (bus : BusMeaning B) (core : CoreState B) : Type 0 where
   pub has_begun : core.phase ≡ Going
   pub is_over : (core.stops ≡ true)
-      ⊎ IfSome (next_moment code_reaction bus (run_of core)) (λ moment. core.until < moment)
+      ⊎ IfSome (next_instant code_reaction bus (run_of core)) (λ moment. core.until < moment)
 
 -- nodes have their code and their rows still
 pub record KeepsNodes (before after : List NodeInRound) : Type 0 where

@@ -7,7 +7,7 @@ ghost use Rattle.node_run.specs.Code.{CodeMemory, code_reaction};
 ghost use Rattle.node_run.specs.Sound.{CanOccur, IsSound};
 ghost use Rattle.run_meaning.specs.Live.{Stands};
 ghost use Rattle.run_meaning.specs.Moments.{least, next_timer};
-ghost use Rattle.run_meaning.specs.Run.{EndsAt, IsBegun, IsEnded, Passed, RunState, next_moment, settled};
+ghost use Rattle.run_meaning.specs.Run.{EndsAt, HasBegun, IsEnded, Passed, RunState, next_instant, settled};
 ghost use Rattle.sim_core.specs.declared.simulation.Phase.TheVariants.{New, Going, Over};
 ghost use Rattle.sim_core.specs.Core.{DoesInstant, HasNoInstant, HaveRows, IsInstantCut, run_of, states_of};
 ghost use Rattle.sim_core.specs.Inside.Rounds.{AreRoundsCut, HasStopped};
@@ -48,7 +48,7 @@ impl<B: Bus> Core<B> {
         requires going { self.now.phase ≡ Going }
         ensures goes_on { IfSome result (λ moment. self.now.stops ≡ false) }
         ensures next { IfSome result (λ moment.
-            next_moment code_reaction B.meaning (run_of self.now) ≡ Some moment) }
+            next_instant code_reaction B.meaning (run_of self.now) ≡ Some moment) }
         ensures in_time { IfSome result (λ moment. moment ≤ self.now.until) }
         ensures none { result ≡ None → HasNoInstant B.meaning self.now }
         ensures stands { Stands IsSound CanOccur B.meaning (run_of self.now) }
@@ -105,7 +105,7 @@ impl<B: Bus> Core<B> {
         ensures over { OnErr result (self.new.phase ≡ Over) }
         ensures as_many_rows { length meter.new ≡ length meter.old }
         ensures stands { (rounds : List Passed) (after : RunState (NodeState CodeMemory) B) →
-            IsBegun code_reaction B.meaning (run_of self.old) rounds after →
+            HasBegun code_reaction B.meaning (run_of self.old) rounds after →
             Stands IsSound CanOccur B.meaning after }
     {
         self.phase = Phase::Over;
@@ -130,7 +130,7 @@ impl<B: Bus> Core<B> {
     ) -> Result<(), TaskFault>
         requires going { self.old.phase ≡ Going }
         requires goes_on { self.old.stops ≡ false }
-        requires next { next_moment code_reaction B.meaning (run_of self.old) ≡ Some now }
+        requires next { next_instant code_reaction B.meaning (run_of self.old) ≡ Some now }
         requires in_time { now ≤ self.old.until }
         requires rows { HaveRows meter.old self.old.nodes }
         ensures does { OnOk result (DoesInstant B.meaning R.meaning
@@ -155,7 +155,7 @@ impl<B: Bus> Core<B> {
     fn end_moment(&self) -> u64
         requires over { HasNoInstant B.meaning self.now }
         ensures ends { EndsAt self.now.stops self.now.moment
-            (next_moment code_reaction B.meaning (run_of self.now)) self.now.until result }
+            (next_instant code_reaction B.meaning (run_of self.now)) self.now.until result }
         ensures in_time { result ≤ self.now.until }
     {
         if self.stops { self.moment } else { self.until }

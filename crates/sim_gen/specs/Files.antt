@@ -17,10 +17,10 @@ source_text sources name =
     option_map (λ source. source.text) (find (λ source. bytes_eq source.name name) sources)
 
 -- what each name holds: the text of the scenario, or that of a source
-abbrev pub held_by : Made → List ℕ → Option (List ℕ)
-held_by made name =
+abbrev pub made_contents : Made → List ℕ → Option (List ℕ)
+made_contents made name =
     if bytes_eq name scenario_name then Some made.scenario else source_text made.sources name
 
 -- what the files of the generated scenario of so many nodes hold
 abbrev pub generated_files : ℕ → List ℕ → Option (List ℕ)
-generated_files count = held_by (generated count)
+generated_files count = made_contents (generated count)

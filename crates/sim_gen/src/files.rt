@@ -3,7 +3,7 @@
 ghost use Rattle.std.specs.Prelude.{◌≡◌, ◌-◌, ◌^◌, ◌≤◌, ℕ, List, Option, IfOk, IfSome, IsErrOf, vec_len};
 ghost use Rattle.std.specs.Option.{option_map};
 ghost use Rattle.sim_outside.specs.Files.{AgreesWith};
-ghost use Rattle.sim_gen.specs.Files.{held_by, source_text};
+ghost use Rattle.sim_gen.specs.Files.{made_contents, source_text};
 ghost use Rattle.texts.specs.Fault.{HasRisen, raised};
 
 use crate::generated::{Made, Source};
@@ -17,9 +17,9 @@ pub const SCENARIO_NAME: &str = "gen";
 /// The scenario and its sources are files that tell what they hold. No read of them fails; none is counted.
 impl Files for Made {
     ghost use Rattle.std.specs.Prelude.{Some, ◌-◌, ◌^◌};
-    ghost use Rattle.sim_gen.specs.Files.{held_by};
+    ghost use Rattle.sim_gen.specs.Files.{made_contents};
 
-    ghost held = { λ made. Some (held_by made) };
+    ghost held = { λ made. Some (made_contents made) };
 
     ghost faults = { λ _. 0 };
 
@@ -38,7 +38,7 @@ impl Files for Made {
 
 /// What a name holds.
 fn text_of<'a>(made: &'a Made, name: &[u8]) -> Option<&'a [u8]>
-    ensures { option_map (λ text. text.now) result ≡ held_by made.now name.now }
+    ensures { option_map (λ text. text.now) result ≡ made_contents made.now name.now }
 {
     if name == SCENARIO_NAME.as_bytes() {
         return Some(made.scenario.bytes());

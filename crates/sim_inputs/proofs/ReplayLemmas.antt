@@ -1,6 +1,6 @@
 -- The log of a scenario is one replay, or has one blame.
 use Rattle.std.proofs.Common.{◌≡◌, ℕ, List, [], ◌∷◌, ◌++◌, Option, None, Some, Result, Ok, Err, inl, inr, sym, ap, subst, ◌∙◌}
-use Rattle.text_parts.specs.Line.{lines_of}
+use Rattle.text_parts.specs.Line.{text_lines}
 use Rattle.texts.specs.declared.blame.Blame.{Blame}
 use Rattle.sim_outside.specs.Folder.{beside}
 use Rattle.capl_include.specs.Expansion.{Contents}
@@ -35,7 +35,7 @@ NotBadToo = (log interface : List ℕ) (bit : ℕ) (epoch : Epoch) (replay : Rep
 -- ---- where no log is replayed
 
 empty_is_good : (log : List ℕ) (number : ℕ) → log ≡ [] → IsBadLine log number → ⊥
-empty_is_good log number none bad = no_line bad.lines bad.line bad.behind (sym (ap lines_of none) ∙ bad.are)
+empty_is_good log number none bad = no_line bad.lines bad.line bad.behind (sym (ap text_lines none) ∙ bad.are)
   where
     no_line : (lines : List (List ℕ)) (line : List ℕ) (behind : List (List ℕ)) → [] ≡ lines ++ line ∷ behind → ⊥
     no_line [] line behind is = cc

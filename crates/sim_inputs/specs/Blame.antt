@@ -2,7 +2,8 @@
 use Rattle.std.specs.Prelude.{◌≡◌, ◌<◌, ◌≤◌, ◌⊎◌, ℕ, List, length, Some, None}
 use Rattle.texts.specs.declared.blame.Blame.{Blame}
 use Rattle.texts.specs.declared.blame.Rule.{Rule}
-use Rattle.capl_include.specs.Blame.{file_blame, source_rule, too_long_rule}
+use Rattle.texts.specs.Rule.{source_rule}
+use Rattle.capl_include.specs.Blame.{file_blame, too_long_rule}
 use Rattle.capl_include.specs.Expansion.{Contents}
 
 -- F01: there is no file of the name

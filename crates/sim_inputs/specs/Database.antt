@@ -2,7 +2,7 @@
 use Rattle.std.specs.Prelude.{◌≡◌, ◌^◌, ◌⊎◌, ℕ, List, [], Option, Some, None}
 use Rattle.sim_outside.specs.Folder.{beside}
 use Rattle.texts.specs.declared.blame.Blame.{Blame}
-use Rattle.dbc_reader.specs.Database.{IsDatabase, IsRefusal}
+use Rattle.dbc_reader.specs.Database.{IsDatabase, IsDatabaseRefusal}
 use Rattle.dbc_reader.specs.declared.message.DbcMessage.{DbcMessage}
 use Rattle.dbc_reader.specs.declared.refusal.DbcRefusal.TheVariants as refusal
 use Rattle.capl_include.specs.Expansion.{Contents}
@@ -26,8 +26,8 @@ BaseAt contents name (Some file) base = DatabaseAt contents (beside name file) b
 -- a statement has no spelling (D01), or gives an identifier or a name for the second time (D02)
 abbrev pub IsStatementBlame : List ℕ → List ℕ → Blame → Type 0
 IsStatementBlame text name blame =
-    ((line : ℕ) × IsRefusal text (refusal.Text line) × (blame ≡ line_blame name line statement_rule))
-    ⊎ ((line : ℕ) × IsRefusal text (refusal.Twice line) × (blame ≡ line_blame name line twice_rule))
+    ((line : ℕ) × IsDatabaseRefusal text (refusal.Text line) × (blame ≡ line_blame name line statement_rule))
+    ⊎ ((line : ℕ) × IsDatabaseRefusal text (refusal.Twice line) × (blame ≡ line_blame name line twice_rule))
 
 -- the file of a database is to blame, or a line of its text
 abbrev pub IsDatabaseBlame : Contents → List ℕ → Blame → Type 0

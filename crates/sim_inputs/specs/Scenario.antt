@@ -2,7 +2,7 @@
 use Rattle.std.specs.Prelude.{◌≡◌, ◌^◌, ◌⊎◌, ℕ, List}
 use Rattle.texts.specs.declared.blame.Blame.{Blame}
 use Rattle.texts.specs.declared.blame.Rule.{Rule}
-use Rattle.scenario.specs.Scenario.{IsScenario, IsRefusal}
+use Rattle.scenario.specs.Scenario.{IsScenario, IsScenarioRefusal}
 use Rattle.scenario.specs.declared.refusal.ScenarioRefusal.TheVariants.{Broken}
 use Rattle.scenario.specs.declared.scenario.Scenario.{Scenario}
 use Rattle.capl_include.specs.Expansion.{Contents}
@@ -22,7 +22,8 @@ pub record ScenarioAt (contents : Contents) (name : List ℕ) (scenario : Scenar
 -- a line of the text of a scenario breaks a rule of S01 to S12, the first that does
 abbrev pub IsLineBlame : List ℕ → List ℕ → Blame → Type 0
 IsLineBlame text name blame =
-    (line : ℕ) × (rule : Rule) × IsRefusal text (Broken line rule) × (blame ≡ line_blame name line rule)
+    (line : ℕ) × (rule : Rule) × IsScenarioRefusal text (Broken line rule)
+    × (blame ≡ line_blame name line rule)
 
 -- the file of the scenario is to blame, or a line of its text
 abbrev pub IsScenarioBlame : Contents → List ℕ → Blame → Type 0

@@ -8,7 +8,7 @@ use Rattle.node_rounds.specs.declared.round.Round.{Round}
 use Rattle.node_rounds.specs.Reaction.{Done, DoesProcedure, NodeState, without_procedure}
 use Rattle.node_rounds.specs.Round.{Doing, DoesNext, PartOf, Task, at_begin}
 use Rattle.node_run.specs.Code.{CodeMemory, by_code, code_reaction}
-use Rattle.run_meaning.specs.Run.{AreInstants, AreParts, AreRounds, IsBegun, IsInstant, IsRound, IsRun, IsSecond, Passed, RunState, finished, seen_by}
+use Rattle.run_meaning.specs.Run.{AreInstants, AreParts, AreRounds, HasBegun, IsInstant, IsRound, IsRun, IsSecond, Passed, RunState, finished, seen_by}
 
 -- the code of each node
 abbrev pub codes_of : List (NodeState CodeMemory) → List Code
@@ -76,7 +76,7 @@ module _ {B : Type 0} (bus : BusMeaning B) where
   by_instants until before [] after same = ap (λ (s : RunState (NodeState CodeMemory) B). codes_of s.nodes) same
   by_instants until before (rounds ∷ instants) after are = by_instants until are.0 instants after are.2 ∙ by_instant until before rounds are.0 are.1
 
-  by_begin : (before : RunState (NodeState CodeMemory) B) (rounds : List Passed) (after : RunState (NodeState CodeMemory) B) → IsBegun code_reaction bus before rounds after
+  by_begin : (before : RunState (NodeState CodeMemory) B) (rounds : List Passed) (after : RunState (NodeState CodeMemory) B) → HasBegun code_reaction bus before rounds after
       → codes_of after.nodes ≡ codes_of before.nodes
   by_begin before rounds after begun =
       ap (λ (s : RunState (NodeState CodeMemory) B). codes_of s.nodes) begun.stands ∙ by_round _ _ _ begun.between begun.start begun.end begun.starts

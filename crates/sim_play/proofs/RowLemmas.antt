@@ -9,7 +9,7 @@ use Rattle.bytecode.specs.declared.code.Handler.{Handler}
 use Rattle.stack_vm.specs.declared.meter.MeterRow.{MeterRow}
 use Rattle.stack_vm.specs.Meter.{row_after}
 use Rattle.node_run.specs.Node.{HasRows, NodeInRound}
-use Rattle.run_meaning.specs.Counts.{AddsSteps, adds_to, row_then, row_with, turns_of}
+use Rattle.run_meaning.specs.Counts.{AddsSteps, adds_to, row_then, row_with, step_turns}
 use Rattle.run_meaning.specs.Steps.{Step}
 use Rattle.sim_core.specs.Core.{HaveRows}
 use Rattle.sim_play.specs.Inside.Counted.{handlers_of, row_count}
@@ -37,29 +37,29 @@ row_by runs turns = record { runs = runs; turns = turns }
 -- a row in range after steps
 row_grown : (first_rows : List ℕ) (number : ℕ) (row : MeterRow) (steps : List Step) → row.runs ≤ most → row.turns ≤ most
     → row_with first_rows number row steps
-    ≡ row_by (min (row.runs + count_by (adds_to first_rows number) steps) most) (min (row.turns + sum_by turns_of (filter (adds_to first_rows number) steps)) most)
+    ≡ row_by (min (row.runs + count_by (adds_to first_rows number) steps) most) (min (row.turns + sum_by step_turns (filter (adds_to first_rows number) steps)) most)
 row_grown first_rows number row [] runs turns = ap₂ row_by (capped_none row.runs most runs) (capped_none row.turns most turns)
 row_grown first_rows number row (step ∷ steps) runs turns =
     by (adds_to first_rows number step) (λ r a b. row_grown first_rows number r steps a b)
-    ∙ ap (λ n. row_by (min (row.runs + n) most) (min (row.turns + sum_by turns_of (filter (adds_to first_rows number) (step ∷ steps))) most))
+    ∙ ap (λ n. row_by (min (row.runs + n) most) (min (row.turns + sum_by step_turns (filter (adds_to first_rows number) (step ∷ steps))) most))
     (sym (sum_by-cons (λ (s : Step). cond (adds_to first_rows number s) 1 0) step steps))
   where
     by : (b : Bool)
         → ((r : MeterRow) → r.runs ≤ most → r.turns ≤ most → row_with first_rows number r steps
-        ≡ row_by (min (r.runs + count_by (adds_to first_rows number) steps) most) (min (r.turns + sum_by turns_of (filter (adds_to first_rows number) steps)) most))
-        → row_with first_rows number (cond b (row_after (turns_of step) row) row) steps
+        ≡ row_by (min (r.runs + count_by (adds_to first_rows number) steps) most) (min (r.turns + sum_by step_turns (filter (adds_to first_rows number) steps)) most))
+        → row_with first_rows number (cond b (row_after (step_turns step) row) row) steps
         ≡ row_by (min (row.runs + (cond b 1 0 + count_by (adds_to first_rows number) steps)) most)
-        (min (row.turns + sum_by turns_of (cond b (step ∷ filter (adds_to first_rows number) steps) (filter (adds_to first_rows number) steps))) most)
+        (min (row.turns + sum_by step_turns (cond b (step ∷ filter (adds_to first_rows number) steps) (filter (adds_to first_rows number) steps))) most)
     by true more =
-        more (row_after (turns_of step) row) (omega arith) (omega arith)
+        more (row_after (step_turns step) row) (omega arith) (omega arith)
         ∙ ap₂ row_by (capped row.runs 1 (count_by (adds_to first_rows number) steps) most runs)
-        (capped row.turns (turns_of step) (sum_by turns_of (filter (adds_to first_rows number) steps)) most turns
-        ∙ ap (λ n. min (row.turns + n) most) (sym (sum_by-cons turns_of step (filter (adds_to first_rows number) steps))))
-    by false more = more row runs turns ∙ ap (λ n. row_by (min (row.runs + n) most) (min (row.turns + sum_by turns_of (filter (adds_to first_rows number) steps)) most)) (omega arith)
+        (capped row.turns (step_turns step) (sum_by step_turns (filter (adds_to first_rows number) steps)) most turns
+        ∙ ap (λ n. min (row.turns + n) most) (sym (sum_by-cons step_turns step (filter (adds_to first_rows number) steps))))
+    by false more = more row runs turns ∙ ap (λ n. row_by (min (row.runs + n) most) (min (row.turns + sum_by step_turns (filter (adds_to first_rows number) steps)) most)) (omega arith)
 
 -- a row of zeros after steps
 pub row_from_none : (first_rows : List ℕ) (number : ℕ) (steps : List Step) → row_with first_rows number no_runs steps ≡ row_then first_rows steps number
-row_from_none first_rows number steps = row_grown first_rows number no_runs steps (omega arith) (omega arith) ∙ ap₂ row_by (zeros (count_by (adds_to first_rows number) steps) most) (zeros (sum_by turns_of (filter (adds_to first_rows number) steps)) most)
+row_from_none first_rows number steps = row_grown first_rows number no_runs steps (omega arith) (omega arith) ∙ ap₂ row_by (zeros (count_by (adds_to first_rows number) steps) most) (zeros (sum_by step_turns (filter (adds_to first_rows number) steps)) most)
   where
     zeros : (n most : ℕ) → min (0 + n) most ≡ min n most
     zeros n most = omega arith

@@ -33,7 +33,7 @@ use Rattle.sim_text.specs.Blame.{blame_line}
 use Rattle.source_laws.specs.Source.{SourceMemory, by_source_reaction}
 use Rattle.sim_run.proofs.CommandLemmas.{AsksSame, asked_or_none, one_asked}
 use Rattle.sim_run.proofs.LoadedLemmas.{nothing_due}
-use Rattle.sim_run.specs.Answer.{IsAnswer, IsAnswerOf, IsAnswerOn, IsDone, IsRefused, IsShown}
+use Rattle.sim_run.specs.Answer.{IsAnswer, IsAnswerOf, IsAnswerOn, IsAnsweredOn, IsRefused, IsShown}
 use Rattle.sim_run.specs.Command.{IsAsked}
 use Rattle.sim_run.specs.Run.{IsRunOf, first_rows, rows_in}
 use Rattle.sim_run.specs.Shown.{labels_of, node_lines, shown_last, shown_of}
@@ -141,7 +141,7 @@ one_of law (Some show) scenario other base sources replay bytes more rows others
     one_shown law show other base sources replay bytes more rows others (moved_shown show scenario other base sources replay bytes rows same is) also
 
 -- what is shown of one accepted scenario has one list of bytes, and counts one list of rows
-one_done : AcceptedLaw → OneRunLaw → (what : Option Show) (held : Contents) (name : List ℕ) (bytes more : List ℕ) (rows others : List MeterRow) → IsDone what held name bytes rows → IsDone what held name more others →
+one_done : AcceptedLaw → OneRunLaw → (what : Option Show) (held : Contents) (name : List ℕ) (bytes more : List ℕ) (rows others : List MeterRow) → IsAnsweredOn what held name bytes rows → IsAnsweredOn what held name more others →
     (bytes ≡ more) × (rows ≡ others)
 one_done accepted law what held name bytes more rows others is also =
     let inputs = accepted held name is.scenario also.scenario is.base also.base is.sources also.sources is.replay also.replay is.accepted also.accepted in
@@ -157,7 +157,7 @@ one_refused law held name bytes more rows others is also =
     (is.line ∙ ap blame_line (law held name is.blame also.blame is.first also.first) ∙ sym also.line, is.no_rows ∙ sym also.no_rows)
 
 -- no inputs are both accepted and refused
-pub done_or_refused : NotBothLaw → (what : Option Show) (held : Contents) (name : List ℕ) (bytes more : List ℕ) (rows others : List MeterRow) → IsDone what held name bytes rows → IsRefused held name more others → ⊥
+pub done_or_refused : NotBothLaw → (what : Option Show) (held : Contents) (name : List ℕ) (bytes more : List ℕ) (rows others : List MeterRow) → IsAnsweredOn what held name bytes rows → IsRefused held name more others → ⊥
 done_or_refused law what held name bytes more rows others is also = law held name is.scenario is.base is.sources is.replay also.blame is.accepted also.first
 
 -- two answers over the inputs of a name are one

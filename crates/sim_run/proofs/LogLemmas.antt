@@ -32,7 +32,7 @@ use Rattle.source_logs.specs.Silent.{IsSilent}
 use Rattle.stack_vm.specs.declared.meter.MeterRow.{MeterRow}
 use Rattle.sim_run.proofs.AnswerLemmas.{AcceptedLaw, moved_answer, moved_shown}
 use Rattle.sim_run.proofs.CommandLemmas.{one_asked}
-use Rattle.sim_run.specs.Answer.{IsAnswer, IsDone, IsShown}
+use Rattle.sim_run.specs.Answer.{IsAnswer, IsAnsweredOn, IsShown}
 use Rattle.sim_run.specs.Command.{IsCommand, show_of}
 use Rattle.sim_run.specs.Logs.{IsRecorded, IsReplayedBySilent}
 use Rattle.sim_run.specs.Shown.{labels_of, shown_of}
@@ -57,7 +57,7 @@ log_shown scenario base sources replay list =
 
 -- what a command answers on accepted inputs
 pub command_done : (command : Command) (contents : Contents) (words : List (List ℕ)) (name bytes : List ℕ) (rows : List MeterRow) → IsCommand words command name → IsAnswer contents words Done bytes rows
-    → IsDone (show_of command) contents name bytes rows
+    → IsAnsweredOn (show_of command) contents name bytes rows
 command_done command contents words name bytes rows is (inl answered) =
     moved_answer contents words answered.what (show_of command) answered.held contents answered.name name Done bytes rows
     (one_asked contents words answered.what (show_of command) answered.held contents answered.name name answered.asked (inl (command, is, refl, refl))) answered.answer

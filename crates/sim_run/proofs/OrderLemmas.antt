@@ -27,7 +27,7 @@ use Rattle.task_orders.specs.Values.{frames_in}
 use Rattle.task_orders.proofs.SameSteps.{differ}
 use Rattle.sim_run.proofs.AnswerLemmas.{AcceptedLaw, OneRunLaw, moved_shown}
 use Rattle.sim_run.proofs.LogLemmas.{command_done}
-use Rattle.sim_run.specs.Answer.{IsAnswer, IsAnswerOf, IsDone, IsShown}
+use Rattle.sim_run.specs.Answer.{IsAnswer, IsAnswerOf, IsAnsweredOn, IsShown}
 use Rattle.sim_run.specs.Command.{IsCommand, show_of}
 use Rattle.sim_run.specs.Orders.{AreAnswered, AreReordered, DifferInPicks}
 use Rattle.sim_run.specs.Run.{first_rows, procedures_in, rows_in}
@@ -93,7 +93,7 @@ module _ (base : List DbcMessage) (sources : List NodeSource) (rounds : List Pas
 
 -- what is answered on accepted inputs
 answered_on : AcceptedLaw → (what : Option Show) (contents : Contents) (name bytes : List ℕ) (rows : List MeterRow) (scenario : Scenario) (base : List DbcMessage) (sources : List NodeSource) (replay : Replay)
-    → AreAccepted contents name scenario base sources replay → IsDone what contents name bytes rows → IsAnswerOf what scenario base sources replay bytes rows
+    → AreAccepted contents name scenario base sources replay → IsAnsweredOn what contents name bytes rows → IsAnswerOf what scenario base sources replay bytes rows
 answered_on accepted what contents name bytes rows scenario base sources replay are done =
     let same = accepted contents name done.scenario scenario done.base base done.sources sources done.replay replay done.accepted are in
     let here = by_scenario what same.0 done.answers in

@@ -12,7 +12,7 @@ use Rattle.replay_node.specs.declared.replay.Replay.{Replay}
 use Rattle.dbc_reader.specs.declared.message.DbcMessage.{DbcMessage}
 use Rattle.capl_include.specs.Expansion.{Contents}
 use Rattle.run_meaning.specs.Steps.{Step, steps}
-use Rattle.sim_gen.specs.Files.{held_by, scenario_name}
+use Rattle.sim_gen.specs.Files.{made_contents, scenario_name}
 use Rattle.sim_gen.specs.Generated.{generated}
 use Rattle.sim_gen.specs.declared.generated.Made.{Made}
 use Rattle.sim_inputs.specs.Accepted.{AreAccepted, IsFirstBlame}
@@ -169,8 +169,8 @@ part_over contents words show what held third name fourth scenario base sources 
 
 -- what `gen` asks for
 pub asks_generated : (contents : Contents) (words : List (List ℕ)) (count : ℕ) (made : Made) (name : List ℕ) → IsGenerated words count → made ≡ generated count → name ≡ scenario_name →
-    IsAsked contents words (Some Summary) (held_by made) name
-asks_generated contents words count made name is made_is name_is = inr (count, is, refl, ap held_by made_is, name_is)
+    IsAsked contents words (Some Summary) (made_contents made) name
+asks_generated contents words count made name is made_is name_is = inr (count, is, refl, ap made_contents made_is, name_is)
 
 -- no read of them fails
 pub none_fails : ¬ HasRisen 0 0

@@ -38,7 +38,7 @@ IsAnswerOf (Some show) scenario base sources replay bytes rows =
     IsShown show scenario base sources replay bytes rows
 
 -- the inputs of a name are accepted, and these are the bytes and the rows of what is answered on them
-pub record IsDone (what : Option Show) (held : Contents) (name : List ℕ) (bytes : List ℕ)
+pub record IsAnsweredOn (what : Option Show) (held : Contents) (name : List ℕ) (bytes : List ℕ)
     (rows : List MeterRow) : Type 0 where
   pub scenario : Scenario
   pub base : List DbcMessage
@@ -56,7 +56,7 @@ pub record IsRefused (held : Contents) (name : List ℕ) (bytes : List ℕ) (row
 
 -- the answer over the inputs of a name is this status with these bytes and these rows
 abbrev pub IsAnswerOn : Option Show → Contents → List ℕ → Status → List ℕ → List MeterRow → Type 0
-IsAnswerOn what held name Done bytes rows = IsDone what held name bytes rows
+IsAnswerOn what held name Done bytes rows = IsAnsweredOn what held name bytes rows
 IsAnswerOn what held name Refused bytes rows = IsRefused held name bytes rows
 IsAnswerOn what held name Usage bytes rows = ⊥
 IsAnswerOn what held name ReadFault bytes rows = ⊥

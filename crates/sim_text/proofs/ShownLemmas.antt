@@ -5,14 +5,14 @@ use Rattle.std.proofs.lemmas.Bool.Decides.{nat_tests}
 use Rattle.std.proofs.lemmas.List.{take-replicate}
 use Rattle.std.proofs.lemmas.List.Elements.{All-head, All-tail}
 use Rattle.text_parts.specs.Digits.{zero_filled}
-use Rattle.sim_text.specs.Shown.{shown}
+use Rattle.sim_text.specs.Shown.{shown_text}
 
 -- a byte that is shown as it is
 abbrev pub IsPlain : ℕ → Type 0
 IsPlain byte = (byte ≢ 10) × (byte ≢ 13)
 
 -- such bytes are shown as they are
-pub plain_is_shown : (text : List ℕ) → All IsPlain text → shown text ≡ text
+pub plain_is_shown : (text : List ℕ) → All IsPlain text → shown_text text ≡ text
 plain_is_shown [] all = refl
 plain_is_shown (byte ∷ text) all =
     let plain = All-head IsPlain byte text all in

@@ -3,7 +3,7 @@ use Rattle.std.specs.Prelude.{ℕ, List, [], ◌∷◌, ◌++◌, Option, Some, 
 use Rattle.texts.specs.declared.blame.Blame.{Blame}
 use Rattle.texts.specs.declared.blame.Rule.{Rule}
 use Rattle.text_parts.specs.Digits.{zero_filled}
-use Rattle.sim_text.specs.Shown.{shown}
+use Rattle.sim_text.specs.Shown.{shown_text}
 
 -- `:` and the number of a line or a column, where there is one
 abbrev pub place_text : Option ℕ → List ℕ
@@ -18,5 +18,5 @@ rule_text rule = rule.group ∷ zero_filled 2 (decimal rule.number)
 -- them
 abbrev pub blame_line : Blame → List ℕ
 blame_line blame =
-    codes "refused " ++ shown blame.file ++ place_text blame.line ++ place_text blame.column ++ codes " "
+    codes "refused " ++ shown_text blame.file ++ place_text blame.line ++ place_text blame.column ++ codes " "
     ++ rule_text blame.rule ++ codes "\n"

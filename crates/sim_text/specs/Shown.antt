@@ -7,5 +7,5 @@ abbrev pub shown_byte : ℕ → List ℕ
 shown_byte byte = if byte == 10 then codes "\\n" else (if byte == 13 then codes "\\r" else byte ∷ [])
 
 -- a text with each byte as it is shown
-abbrev pub shown : List ℕ → List ℕ
-shown text = flat_map shown_byte text
+abbrev pub shown_text : List ℕ → List ℕ
+shown_text text = flat_map shown_byte text

@@ -1,14 +1,14 @@
 // Texts as they are shown in a line.
 
 ghost use Rattle.std.specs.Prelude.{◌≡◌, ◌++◌, OnOk};
-ghost use Rattle.sim_text.specs.Shown.{shown};
+ghost use Rattle.sim_text.specs.Shown.{shown_text};
 
 use texts::NoMemory;
 
 /// Appends a text as it is shown.
 #[tactic(auto, using(crate::proofs::ShownLemmas::plain_is_shown))]
 pub(crate) fn append_shown(line: &mut Vec<u8>, text: &[u8]) -> Result<(), NoMemory>
-    ensures { OnOk result (line.new.items ≡ line.old.items ++ shown text.now) }
+    ensures { OnOk result (line.new.items ≡ line.old.items ++ shown_text text.now) }
 {
     if text.iter().all(|byte| *byte != b'\n' && *byte != b'\r') {
         line.extend_from_slice(text)?;
@@ -19,7 +19,7 @@ pub(crate) fn append_shown(line: &mut Vec<u8>, text: &[u8]) -> Result<(), NoMemo
 
 /// Appends each byte of a text as it is shown.
 fn append_each_shown(line: &mut Vec<u8>, text: &[u8]) -> Result<(), NoMemory>
-    ensures { OnOk result (line.new.items ≡ line.old.items ++ shown text.now) }
+    ensures { OnOk result (line.new.items ≡ line.old.items ++ shown_text text.now) }
 {
     for byte in text {
         match byte {

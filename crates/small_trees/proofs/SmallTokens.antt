@@ -9,7 +9,7 @@ use Rattle.text_parts.specs.Number.{IsHexDigit, digit_value, number_in, number_o
 use Rattle.capl_lexer.specs.declared.token.Tok.{Tok}
 use Rattle.capl_lexer.specs.declared.token.Tok.TheVariants as tok
 use Rattle.capl_lexer.specs.declared.token.Token.{Token}
-use Rattle.capl_lexer.specs.Reading.{AreFront, Blank, Comment, IsReading, Lexeme, Piece, start_of, tokens_at}
+use Rattle.capl_lexer.specs.Reading.{AreFront, Blank, Comment, IsReading, Lexeme, Piece, first_place, tokens_at}
 use Rattle.capl_lexer.specs.Spelling.{AreItems, IsEscape, IsItem, IsPlain, IsPlainInChar, Spells, escaped}
 use Rattle.sound_programs.specs.Small.{IsShortList}
 use Rattle.small_trees.specs.Tokens.{AreBytes, AreSmallToks, IsSmallTok}
@@ -143,4 +143,4 @@ pub reading_small : (text : List ℕ) (tokens : List Token) → IsReading text t
     AreSmallToks (map (λ (t : Token). t.tok) tokens)
 reading_small text tokens is are short =
     subst (λ (l : List Token). AreSmallToks (map (λ (t : Token). t.tok) l)) (sym is.2)
-    (pieces_small text (start_of text) is.0 (drop (start_of text) text) [] is.1 (behind (start_of text) text are) (omega (arith, short, fewer (start_of text) text)))
+    (pieces_small text (first_place text) is.0 (drop (first_place text) text) [] is.1 (behind (first_place text) text are) (omega (arith, short, fewer (first_place text) text)))

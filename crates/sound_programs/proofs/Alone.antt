@@ -40,12 +40,12 @@ use Rattle.capl_meaning.specs.Rule.{E16}
 use Rattle.capl_meaning.specs.Variable.{Form, Number, Array, Message, Timer, Misfit, Variable}
 use Rattle.capl_meaning.specs.Names.{Callee, Function, OfLanguage, OfProgram, Unknown, Scope, ThisForm, NoThis, ThisFrame, ThisKey, callee, direction, means}
 use Rattle.capl_meaning.specs.Calls.{calls_in, calls_in_row}
-use Rattle.capl_meaning.specs.Format.{first_text, text_in}
+use Rattle.capl_meaning.specs.Format.{first_text, quoted_text}
 use Rattle.capl_meaning.specs.Message.{Held, HeldFrame, HeldVariable, is_message_place, is_number_place, is_variable, message_in, signals_of}
 use Rattle.capl_meaning.specs.Sort.{is_number, sort_of, sort_of_assignment, sort_of_binary, sort_of_builtin, sort_of_call, sort_of_choice, sort_of_direction, sort_of_element, sort_of_form, sort_of_name, sort_of_number, sort_of_part, sort_of_prefix, sort_of_step, sort_of_this, sorts_of}
-use Rattle.capl_meaning.specs.ExpressionRules.{argument_rule, builtin_rules, call_rules, function_rules, integer_needed, is_message, is_timer, left_rule, offence, offences, offences_of_row, right_rule, sides_rule}
+use Rattle.capl_meaning.specs.ExpressionRules.{argument_rule, builtin_rules, call_rules, function_rules, integer_needed, is_message_sort, is_timer_sort, left_rule, offence, offences, offences_of_row, right_rule, sides_rule}
 use Rattle.capl_meaning.specs.Expression.{timer_in}
-use Rattle.capl_meaning.specs.Store.{key_of, timer_number}
+use Rattle.capl_meaning.specs.Store.{variable_key, timer_number}
 use Rattle.typed_laws.specs.Laid.{HasForm, IsHeld, message_slot, slot}
 use Rattle.typed_laws.proofs.Places.{message_named}
 use Rattle.typed_laws.proofs.Timers.{timer_named}
@@ -150,10 +150,10 @@ module _ (typed : Typed) (around : Around) where
 
     -- ---- calls of functions of the language
 
-    sound_output : (at : ℕ) (message : Expr) → IsFine (sort_of s message) → argument_rule s at is_message message ≡ [] →
+    sound_output : (at : ℕ) (message : Expr) → IsFine (sort_of s message) → argument_rule s at is_message_sort message ≡ [] →
         IsSoundPlain (option_map_or (λ held. Send (message_slot s.names held)) (message_in s message) Empty)
     sound_output at message good none =
-        let there = message_there s message (of_message (sort_of s message) (argument_so s at is_message message good none)) in
+        let there = message_there s message (of_message (sort_of s message) (argument_so s at is_message_sort message good none)) in
         subst (λ o. IsSoundPlain (option_map_or (λ held. Send (message_slot s.names held)) o Empty)) (sym there.1) (
           record {
             names_exist = held_there message there.0 there.1;
@@ -169,14 +169,14 @@ module _ (typed : Typed) (around : Around) where
         )
 
     -- the timer of a call is there
-    timer_exists : (at : ℕ) (timer : Expr) → IsFine (sort_of s timer) → argument_rule s at is_timer timer ≡ [] →
+    timer_exists : (at : ℕ) (timer : Expr) → IsFine (sort_of s timer) → argument_rule s at is_timer_sort timer ≡ [] →
         (v : Variable) × (timer_in s timer ≡ Some v) × (timer_number s.names v < length typed.timers)
     timer_exists at timer good none =
-        let there = timer_there s timer (of_timer (sort_of s timer) (argument_so s at is_timer timer good none)) in
+        let there = timer_there s timer (of_timer (sort_of s timer) (argument_so s at is_timer_sort timer good none)) in
         let real = timer_named s timer there.0 there.1 in
         (there.0, there.1, tables.timers there.0 real.0 real.1)
 
-    sound_set : (at : ℕ) (timer : Expr) (cyclic : Bool) (t : TExpr) → IsFine (sort_of s timer) → argument_rule s at is_timer timer ≡ [] → IsSoundExpr typed around.number t →
+    sound_set : (at : ℕ) (timer : Expr) (cyclic : Bool) (t : TExpr) → IsFine (sort_of s timer) → argument_rule s at is_timer_sort timer ≡ [] → IsSoundExpr typed around.number t →
         IsSoundPlain (setting s.names (timer_in s timer) cyclic t)
     sound_set at timer cyclic t good none duration =
         let there = timer_exists at timer good none in
@@ -197,7 +197,7 @@ module _ (typed : Typed) (around : Around) where
           tt,
         )
 
-    sound_cancel : (at : ℕ) (timer : Expr) → IsFine (sort_of s timer) → argument_rule s at is_timer timer ≡ [] →
+    sound_cancel : (at : ℕ) (timer : Expr) → IsFine (sort_of s timer) → argument_rule s at is_timer_sort timer ≡ [] →
         IsSoundPlain (option_map_or (λ v. Cancel (timer_number s.names v)) (timer_in s timer) Empty)
     sound_cancel at timer good none =
         let there = timer_exists at timer good none in
@@ -299,14 +299,14 @@ module _ (typed : Typed) (around : Around) where
     sound_builtin at before builtin.SetTimer end_of-Expr other good none can few formats is all = absurd (full _ _ none)
     sound_builtin at before builtin.SetTimer (more_of-Expr timer end_of-Expr) other good none can few formats is all = absurd (full _ _ none)
     sound_builtin at before builtin.SetTimer (more_of-Expr timer (more_of-Expr duration end_of-Expr)) other good none can few formats is all =
-        sound_set at timer false (expression_of s order duration) good.0 (front (argument_rule s at is_timer timer) _ none)
-        (sound typed around.number s order tables duration (integer s duration (good.1).0 (back (argument_rule s at is_timer timer) _ none)) (can.1).0)
+        sound_set at timer false (expression_of s order duration) good.0 (front (argument_rule s at is_timer_sort timer) _ none)
+        (sound typed around.number s order tables duration (integer s duration (good.1).0 (back (argument_rule s at is_timer_sort timer) _ none)) (can.1).0)
     sound_builtin at before builtin.SetTimer (more_of-Expr timer (more_of-Expr duration (more_of-Expr more rest))) other good none can few formats is all = absurd (full _ _ none)
     sound_builtin at before builtin.SetTimerCyclic end_of-Expr other good none can few formats is all = absurd (full _ _ none)
     sound_builtin at before builtin.SetTimerCyclic (more_of-Expr timer end_of-Expr) other good none can few formats is all = absurd (full _ _ none)
     sound_builtin at before builtin.SetTimerCyclic (more_of-Expr timer (more_of-Expr duration end_of-Expr)) other good none can few formats is all =
-        sound_set at timer true (expression_of s order duration) good.0 (front (argument_rule s at is_timer timer) _ none)
-        (sound typed around.number s order tables duration (integer s duration (good.1).0 (back (argument_rule s at is_timer timer) _ none)) (can.1).0)
+        sound_set at timer true (expression_of s order duration) good.0 (front (argument_rule s at is_timer_sort timer) _ none)
+        (sound typed around.number s order tables duration (integer s duration (good.1).0 (back (argument_rule s at is_timer_sort timer) _ none)) (can.1).0)
     sound_builtin at before builtin.SetTimerCyclic (more_of-Expr timer (more_of-Expr duration (more_of-Expr more rest))) other good none can few formats is all = absurd (full _ _ none)
     sound_builtin at before builtin.CancelTimer end_of-Expr other good none can few formats is all = absurd (full _ _ none)
     sound_builtin at before builtin.CancelTimer (more_of-Expr timer end_of-Expr) other good none can few formats is all = sound_cancel at timer good.0 none

@@ -12,7 +12,7 @@ use Rattle.dbc_reader.specs.declared.message.DbcMessage.{DbcMessage}
 use Rattle.capl_tree.specs.declared.procedure.SelWhat.{SelWhat}
 use Rattle.capl_tree.specs.declared.procedure.SelWhat.TheVariants as selected
 use Rattle.capl_meaning.specs.DeclarationRules.{is_identifier, is_in_range}
-use Rattle.capl_meaning.specs.ProcedureRules.{Both, Channels, First, ForFrames, Number, Purpose, Second, all_on, does_not_fall, identifiers_on, is_range, key_of, keys_between, keys_on, names_identifier, number_in, on_second, overlap, same_form, selector_of, selector_of_message, share_channel}
+use Rattle.capl_meaning.specs.ProcedureRules.{Both, Channels, First, ForFrames, Number, Purpose, Second, all_on, does_not_fall, identifiers_on, is_range, selected_key, keys_between, keys_on, names_identifier, selector_number, on_second, overlap, same_form, selector_of, selector_of_message, share_channel}
 use Rattle.capl_meaning.specs.Variable.{message_named}
 use Rattle.sound_programs.proofs.Repeated.{Apart}
 use Rattle.sound_programs.proofs.Written.{and_both}
@@ -86,9 +86,9 @@ one_form false false is = refl
 
 -- two numbers that are spelled as identifiers of one form
 numbers_formed : (rank : ℕ) (low high : Number) (keys : Selector) → rank < 2 → low.extended ≡ high.extended
-    → keys_between rank (key_of low) (key_of high) ≡ Some keys → IsSelected keys
+    → keys_between rank (selected_key low) (selected_key high) ≡ Some keys → IsSelected keys
 numbers_formed rank low high keys lesser same is =
-    let made = between rank (key_of low) (key_of high) keys is in
+    let made = between rank (selected_key low) (selected_key high) keys is in
     let least : IsKey low.extended keys.low = key_formed low.value low.extended keys.low made.from in
     let most : IsKey high.extended keys.high = key_formed high.value high.extended keys.high made.to in
     inr (omega (arith, made.rank_is, lesser), both_keys high.extended keys.low keys.high (subst (λ e. IsKey e keys.low) same least) most)
@@ -124,16 +124,16 @@ selected_formed base (selected.Name name at) keys is = go (message_named base na
     go : (o : Option DbcMessage) → option_and_then selector_of_message o ≡ Some keys → IsSelected keys
     go None e = absurd (let f : None ≡ Some keys = e in cc)
     go (Some m) e = message_formed m.id keys e
-selected_formed base (selected.Ids low None at) keys is = numbers_formed 0 (number_in low) (number_in low) keys (omega arith) refl is
-selected_formed base (selected.Ids low (Some high) at) keys is = go (is_range (number_in low) (number_in high)) refl is
+selected_formed base (selected.Ids low None at) keys is = numbers_formed 0 (selector_number low) (selector_number low) keys (omega arith) refl is
+selected_formed base (selected.Ids low (Some high) at) keys is = go (is_range (selector_number low) (selector_number high)) refl is
   where
-    go : (b : Bool) → is_range (number_in low) (number_in high) ≡ b
-        → (if b then keys_between 1 (key_of (number_in low)) (key_of (number_in high)) else None) ≡ Some keys → IsSelected keys
+    go : (b : Bool) → is_range (selector_number low) (selector_number high) ≡ b
+        → (if b then keys_between 1 (selected_key (selector_number low)) (selected_key (selector_number high)) else None) ≡ Some keys → IsSelected keys
     go true range e =
-        let identifiers = and_both (names_identifier (number_in low)) _ range in
-        let others = and_both (names_identifier (number_in high)) _ identifiers.1 in
-        let forms = and_both (same_form (number_in low).extended (number_in high).extended) (does_not_fall (number_in low).value (number_in high).value) others.1 in
-        numbers_formed 1 (number_in low) (number_in high) keys (omega arith) (one_form (number_in low).extended (number_in high).extended forms.0) e
+        let identifiers = and_both (names_identifier (selector_number low)) _ range in
+        let others = and_both (names_identifier (selector_number high)) _ identifiers.1 in
+        let forms = and_both (same_form (selector_number low).extended (selector_number high).extended) (does_not_fall (selector_number low).value (selector_number high).value) others.1 in
+        numbers_formed 1 (selector_number low) (selector_number high) keys (omega arith) (one_form (selector_number low).extended (selector_number high).extended forms.0) e
     go false range e = absurd (let f : None ≡ Some keys = e in cc)
 
 -- ---- the keys of one selector

@@ -28,7 +28,7 @@ use Rattle.capl_meaning.specs.ExpressionRules.{integer_offences, offence, offenc
 use Rattle.capl_meaning.specs.InitialiserRules.{constant_needed, constant_offences, initialiser_offences}
 use Rattle.capl_meaning.specs.DeclarationRules.{const_rule, database_rule, declaration_offences, declarator_offences, form_rule, is_identifier, is_in_range, size_offences, size_rule, type_rules}
 use Rattle.capl_meaning.specs.StatementRules as source
-use Rattle.capl_meaning.specs.StatementRules.{alone_offences, in_body, in_loop, label_offences, labels_of, labels_rule, needed_offences, offences_of_arms, offences_of_else, offences_of_groups, offences_of_statements, statement_offences}
+use Rattle.capl_meaning.specs.StatementRules.{alone_offences, in_body, in_loop, label_offences, labels_said, labels_rule, needed_offences, offences_of_arms, offences_of_else, offences_of_groups, offences_of_statements, statement_offences}
 use Rattle.capl_meaning.specs.ProcedureRules.{head_offences, inner_name_offences, outer_name_offences, purpose_offences}
 use Rattle.capl_meaning.specs.Offences.{offences_of, part_offences}
 use Rattle.capl_tree.specs.Place.{expression_place}
@@ -61,7 +61,7 @@ module _ (s : Scope) where
     clean around (tree.Do body given) none = clean in_loop body (front (statement_offences s in_loop body) _ none)
     clean around (tree.For init given step body) none =
         clean in_loop body (back (alone_offences s step) _ (back (needed_offences s given) _ (back (alone_offences s init) _ none)))
-    clean around (stmt.Switch' on shape groups) none = clean_groups (source.in_switch around) groups (back (labels_rule s (sort_of s on) (labels_of groups)) _ (back (integer_offences s on) _ none))
+    clean around (stmt.Switch' on shape groups) none = clean_groups (source.in_switch around) groups (back (labels_rule s (sort_of s on) (labels_said groups)) _ (back (integer_offences s on) _ none))
     clean around (stmt.Break at) none = tt
     clean around (stmt.Continue at) none = tt
     clean around (stmt.Return value at) none = tt

@@ -161,8 +161,8 @@ one_timer names u v j k one other same =
     let first = at u j one in
     let second = at v k other in
     let place : first.0 ≡ second.0 = sym (ap (λ o. unwrap_or o 0) first.1) ∙ same ∙ ap (λ o. unwrap_or o 0) second.1 in
-    let here = (position-Some (λ w. same_key (store.key_of u) (store.key_of w)) timers first.0 u first.1).1 in
-    let there = (position-Some (λ w. same_key (store.key_of v) (store.key_of w)) timers second.0 u second.1).1 in
+    let here = (position-Some (λ w. same_key (store.variable_key u) (store.variable_key w)) timers first.0 u first.1).1 in
+    let there = (position-Some (λ w. same_key (store.variable_key v) (store.variable_key w)) timers second.0 u second.1).1 in
     let a = name_of u (get_or timers first.0 u) here in
     let b = name_of v (get_or timers second.0 u) there in
     a ∙ ap (λ i. (get_or timers i u).name) place ∙ sym b
@@ -170,10 +170,10 @@ one_timer names u v j k one other same =
     timers : List Variable
     timers = filter (λ w. is_timer w.form) names.variables
 
-    at : (x : Variable) (unit : ℕ) → HasForm names x (Timer unit) → (i : ℕ) × (position (λ w. same_key (store.key_of x) (store.key_of w)) (filter (λ w. is_timer w.form) names.variables) ≡ Some i)
-    at x unit form = some_place (λ w. same_key (store.key_of x) (store.key_of w)) (filter (λ w. is_timer w.form) names.variables) x (among_filter (λ w. is_timer w.form) names.variables x form.among (ap is_timer form.form_is)) (key_self (store.key_of x))
+    at : (x : Variable) (unit : ℕ) → HasForm names x (Timer unit) → (i : ℕ) × (position (λ w. same_key (store.variable_key x) (store.variable_key w)) (filter (λ w. is_timer w.form) names.variables) ≡ Some i)
+    at x unit form = some_place (λ w. same_key (store.variable_key x) (store.variable_key w)) (filter (λ w. is_timer w.form) names.variables) x (among_filter (λ w. is_timer w.form) names.variables x form.among (ap is_timer form.form_is)) (key_self (store.variable_key x))
 
-    name_of : (x w : Variable) → same_key (store.key_of x) (store.key_of w) ≡ true → x.name ≡ w.name
+    name_of : (x w : Variable) → same_key (store.variable_key x) (store.variable_key w) ≡ true → x.name ≡ w.name
     name_of x w is = (bytes_eq-Decides x.name w.name).0 (and_both (x.owner == w.owner) (bytes_eq x.name w.name) is).1
 
 module _ (names : Names) where

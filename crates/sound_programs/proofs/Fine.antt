@@ -27,10 +27,10 @@ use Rattle.capl_meaning.specs.declared.sort.Sort.TheVariants as sort
 use Rattle.capl_meaning.specs.Rule.{E09, E11, E13, E14, E15, E16, E17, E18, E23, E26, E28}
 use Rattle.capl_meaning.specs.Variable.{Form, Number, Array, Message, Timer, Misfit, Variable}
 use Rattle.capl_meaning.specs.Names.{Callee, Function, OfLanguage, OfProgram, Unknown, Scope, ThisForm, NoThis, ThisFrame, ThisKey, callee, direction, means}
-use Rattle.capl_meaning.specs.Format.{first_text, format_codes, show_all, shows, text_in}
-use Rattle.capl_meaning.specs.Message.{Held, Member, IsField, IsSignal, IsUnusable, IsUnknown, held_by, is_message_place, is_number_place, is_open_number, is_variable, member_named, message_in, signals_of}
+use Rattle.capl_meaning.specs.Format.{first_text, format_codes, show_all, shows, quoted_text}
+use Rattle.capl_meaning.specs.Message.{Held, NamedMember, IsField, IsSignal, IsUnusable, IsUnknown, held_by, is_message_place, is_number_place, is_open_number, is_variable, member_named, message_in, signals_of}
 use Rattle.capl_meaning.specs.Sort.{is_bad, is_number, is_recursive, number_from, sort_given, sort_of, sort_of_assignment, sort_of_builtin, sort_of_call, sort_of_direction, sort_of_element, sort_of_form, sort_of_function, sort_of_member, sort_of_name, sort_of_number, sort_of_part, sort_of_prefix, sort_of_step, sort_of_this, sorts_of}
-use Rattle.capl_meaning.specs.ExpressionRules.{argument_rule, builtin_rules, call_rules, codes_rules, direction_rule, format_rules, function_rules, index_needed, index_rule, integer_needed, integer_offences, is_array, is_message, is_place_for, is_timer, left_rule, member_rules, name_of_member_rule, name_rule, number_rule, prefix_rule, offence, offences, offences_of_field, offences_of_row, part_rules, right_rule, shown_rule, sides_rule, step_rule, this_rule}
+use Rattle.capl_meaning.specs.ExpressionRules.{argument_rule, builtin_rules, call_rules, codes_rules, direction_rule, format_rules, function_rules, index_needed, index_rule, integer_needed, integer_offences, is_array, is_message_sort, is_place_for, is_timer_sort, left_rule, member_rules, name_of_member_rule, name_rule, number_rule, prefix_rule, offence, offences, offences_of_field, offences_of_row, part_rules, right_rule, shown_rule, sides_rule, step_rule, this_rule}
 use Rattle.typed_laws.specs.Laid.{HasForm}
 use Rattle.typed_laws.proofs.Places.{means_among}
 use Rattle.typed_source.specs.Sound.{IsOfNumber}
@@ -60,7 +60,7 @@ fine_direction : (s : Scope) (at : ℕ) (o : Option ℕ) → direction_rule s at
 fine_direction s at None none = absurd (full _ _ none)
 fine_direction s at (Some n) none = tt
 
-fine_member : (s : Scope) (at name_at : ℕ) (m : Member) → name_of_member_rule s at name_at m ≡ [] → IsOfNumber (sort_of_member m)
+fine_member : (s : Scope) (at name_at : ℕ) (m : NamedMember) → name_of_member_rule s at name_at m ≡ [] → IsOfNumber (sort_of_member m)
 fine_member s at name_at (IsField f) none = tt
 fine_member s at name_at (IsSignal layout) none = tt
 fine_member s at name_at IsUnusable none = absurd (full _ _ none)
@@ -85,7 +85,7 @@ pub right_number : (s : Scope) (at : ℕ) (left right : Expr) → IsOfNumber (so
 right_number s at left right number fine sides none = go (sort_of s left) (sort_of s right) number fine sides none
   where
     go : (g h : Sort) → IsOfNumber g → IsFine h → sides_rule s at g h ≡ [] →
-        (if is_message g || is_message h then [] else (if not (is_number h) && not (is_bad h) then offence s (expression_place right) E13 ∷ [] else [])) ≡ [] → IsOfNumber h
+        (if is_message_sort g || is_message_sort h then [] else (if not (is_number h) && not (is_bad h) then offence s (expression_place right) E13 ∷ [] else [])) ≡ [] → IsOfNumber h
     go (sort.Number k) (sort.Number j) number fine sides none = tt
     go (sort.Number k) (sort.Array j) number fine sides none = absurd (full _ _ none)
     go (sort.Number k) sort.Message number fine sides none = absurd (full _ _ sides)
@@ -98,7 +98,7 @@ right_number s at left right number fine sides none = go (sort_of s left) (sort_
 -- the right side of an assignment to a message is one
 pub right_message : (s : Scope) (at : ℕ) (left right : Sort) → left ≡ sort.Message → IsFine right → sides_rule s at left right ≡ [] → right ≡ sort.Message
 right_message s at left right is fine none =
-    of_message right (needed (is_message right) right fine (unbroken (not (is_message right) && not (is_bad right)) s at E28 (subst (λ g. sides_rule s at g right ≡ []) is none)))
+    of_message right (needed (is_message_sort right) right fine (unbroken (not (is_message_sort right) && not (is_bad right)) s at E28 (subst (λ g. sides_rule s at g right ≡ []) is none)))
 
 -- ---- messages and texts
 
@@ -134,7 +134,7 @@ message_place s e is = go (message_in s e) refl is
     go (Some held) there e = (held, there, e)
 
 -- a text is of its sort
-pub text_sort : (s : Scope) (e : Expr) (text : List ℕ) → text_in e ≡ Some text → sort_of s e ≡ sort.Text
+pub text_sort : (s : Scope) (e : Expr) (text : List ℕ) → quoted_text e ≡ Some text → sort_of s e ≡ sort.Text
 text_sort s (tree.Paren inner at) text is = text_sort s inner text is
 text_sort s (expr.Str bytes at) text is = refl
 text_sort s e text is = absurd (let f : None ≡ Some text = is in cc)
@@ -145,7 +145,7 @@ text_sort s e text is = absurd (let f : None ≡ Some text = is in cc)
 pub part_number : (s : Scope) (signals : Option (List DbcSignal)) (field : Field) → IsFine (sort_of_part s signals field) → IsOfNumber (sort_of_part s signals field)
 part_number s signals (Named name at) fine = go (member_named signals name) fine
   where
-    go : (m : Member) → IsFine (sort_of_member m) → IsOfNumber (sort_of_member m)
+    go : (m : NamedMember) → IsFine (sort_of_member m) → IsOfNumber (sort_of_member m)
     go (IsField f) fine = tt
     go (IsSignal layout) fine = tt
     go IsUnusable fine = elim fine [ ]
@@ -235,14 +235,14 @@ shown_codes s at (Some found) {m} row fine none = go (length found == length (it
         ∙ all_shown s found row fine none
 
 fine_write : (s : Scope) (at : ℕ) (format : Expr) {m : Count} (rest : Row_of-Expr m) → IsFine (sort_of s format) → AreFine (sorts_of s rest) →
-    format_rules s format (text_in format) (items-the_row-Expr m rest) ≡ [] → IsFine (sort_of_builtin builtin.Write (text_in format) (sort_of s format ∷ sorts_of s rest))
-fine_write s at format {m} rest fine others none = go (text_in format) refl none
+    format_rules s format (quoted_text format) (items-the_row-Expr m rest) ≡ [] → IsFine (sort_of_builtin builtin.Write (quoted_text format) (sort_of s format ∷ sorts_of s rest))
+fine_write s at format {m} rest fine others none = go (quoted_text format) refl none
   where
     chosen : (b : Bool) → b ≡ true → IsFine (if b then sort.Nothing else sort.Bad)
     chosen true e = tt
     chosen false e = absurd (let f : false ≡ true = e in cc)
 
-    go : (o : Option (List ℕ)) → text_in format ≡ o → format_rules s format o (items-the_row-Expr m rest) ≡ [] → IsFine (sort_of_builtin builtin.Write o (sort_of s format ∷ sorts_of s rest))
+    go : (o : Option (List ℕ)) → quoted_text format ≡ o → format_rules s format o (items-the_row-Expr m rest) ≡ [] → IsFine (sort_of_builtin builtin.Write o (sort_of s format ∷ sorts_of s rest))
     go None is none = absurd (fine_good (sort_of s format) fine (unbroken _ s (expression_place format) E17 none))
     go (Some text) is none = subst (λ g. IsFine (sort_of_builtin builtin.Write (Some text) (g ∷ sorts_of s rest))) (sym (text_sort s format text is))
         (chosen (option_map_or (λ found. show_all found (sorts_of s rest)) (format_codes text) false) (shown_codes s (expression_place format) (format_codes text) rest others none))
@@ -260,37 +260,37 @@ fine_builtin : (s : Scope) (at : ℕ) (b : Builtin) {m : Count} (row : Row_of-Ex
     IsFine (sort_of_builtin b (first_text row) (sorts_of s row))
 fine_builtin s at builtin.Output end_of-Expr fine none = absurd (full _ _ none)
 fine_builtin s at builtin.Output (more_of-Expr message end_of-Expr) fine none =
-    fine_one builtin.Output (text_in message) _ sort.Message (of_message (sort_of s message) (argument_so s at is_message message fine.0 none)) tt
+    fine_one builtin.Output (quoted_text message) _ sort.Message (of_message (sort_of s message) (argument_so s at is_message_sort message fine.0 none)) tt
 fine_builtin s at builtin.Output (more_of-Expr message (more_of-Expr other rest)) fine none = absurd (full _ _ none)
 fine_builtin s at builtin.Write end_of-Expr fine none = absurd (full _ _ none)
 fine_builtin s at builtin.Write (more_of-Expr format rest) fine none = fine_write s at format rest fine.0 fine.1 none
 fine_builtin s at builtin.SetTimer end_of-Expr fine none = absurd (full _ _ none)
 fine_builtin s at builtin.SetTimer (more_of-Expr timer end_of-Expr) fine none = absurd (full _ _ none)
 fine_builtin s at builtin.SetTimer (more_of-Expr timer (more_of-Expr duration end_of-Expr)) fine none =
-    (fine_set (text_in timer) (sort_of s timer) (sort_of s duration) (of_timer (sort_of s timer) (argument_so s at is_timer timer fine.0 (front (argument_rule s at is_timer timer) (integer_needed s duration) none)))
-    (integer s duration (fine.1).0 (back (argument_rule s at is_timer timer) (integer_needed s duration) none))).0
+    (fine_set (quoted_text timer) (sort_of s timer) (sort_of s duration) (of_timer (sort_of s timer) (argument_so s at is_timer_sort timer fine.0 (front (argument_rule s at is_timer_sort timer) (integer_needed s duration) none)))
+    (integer s duration (fine.1).0 (back (argument_rule s at is_timer_sort timer) (integer_needed s duration) none))).0
 fine_builtin s at builtin.SetTimer (more_of-Expr timer (more_of-Expr duration (more_of-Expr other rest))) fine none = absurd (full _ _ none)
 fine_builtin s at builtin.SetTimerCyclic end_of-Expr fine none = absurd (full _ _ none)
 fine_builtin s at builtin.SetTimerCyclic (more_of-Expr timer end_of-Expr) fine none = absurd (full _ _ none)
 fine_builtin s at builtin.SetTimerCyclic (more_of-Expr timer (more_of-Expr duration end_of-Expr)) fine none =
-    (fine_set (text_in timer) (sort_of s timer) (sort_of s duration) (of_timer (sort_of s timer) (argument_so s at is_timer timer fine.0 (front (argument_rule s at is_timer timer) (integer_needed s duration) none)))
-    (integer s duration (fine.1).0 (back (argument_rule s at is_timer timer) (integer_needed s duration) none))).1
+    (fine_set (quoted_text timer) (sort_of s timer) (sort_of s duration) (of_timer (sort_of s timer) (argument_so s at is_timer_sort timer fine.0 (front (argument_rule s at is_timer_sort timer) (integer_needed s duration) none)))
+    (integer s duration (fine.1).0 (back (argument_rule s at is_timer_sort timer) (integer_needed s duration) none))).1
 fine_builtin s at builtin.SetTimerCyclic (more_of-Expr timer (more_of-Expr duration (more_of-Expr other rest))) fine none = absurd (full _ _ none)
 fine_builtin s at builtin.CancelTimer end_of-Expr fine none = absurd (full _ _ none)
 fine_builtin s at builtin.CancelTimer (more_of-Expr timer end_of-Expr) fine none =
-    fine_one builtin.CancelTimer (text_in timer) _ sort.Timer (of_timer (sort_of s timer) (argument_so s at is_timer timer fine.0 none)) tt
+    fine_one builtin.CancelTimer (quoted_text timer) _ sort.Timer (of_timer (sort_of s timer) (argument_so s at is_timer_sort timer fine.0 none)) tt
 fine_builtin s at builtin.CancelTimer (more_of-Expr timer (more_of-Expr other rest)) fine none = absurd (full _ _ none)
 fine_builtin s at builtin.Stop end_of-Expr fine none = tt
 fine_builtin s at builtin.Stop (more_of-Expr other rest) fine none = absurd (full _ _ none)
 fine_builtin s at builtin.IsTimerActive end_of-Expr fine none = absurd (full _ _ none)
 fine_builtin s at builtin.IsTimerActive (more_of-Expr timer end_of-Expr) fine none =
-    fine_one builtin.IsTimerActive (text_in timer) _ sort.Timer (of_timer (sort_of s timer) (argument_so s at is_timer timer fine.0 none)) tt
+    fine_one builtin.IsTimerActive (quoted_text timer) _ sort.Timer (of_timer (sort_of s timer) (argument_so s at is_timer_sort timer fine.0 none)) tt
 fine_builtin s at builtin.IsTimerActive (more_of-Expr timer (more_of-Expr other rest)) fine none = absurd (full _ _ none)
 fine_builtin s at builtin.TimeNow end_of-Expr fine none = tt
 fine_builtin s at builtin.TimeNow (more_of-Expr other rest) fine none = absurd (full _ _ none)
 fine_builtin s at builtin.ElCount end_of-Expr fine none = absurd (full _ _ none)
 fine_builtin s at builtin.ElCount (more_of-Expr array end_of-Expr) fine none =
-    let is = of_array (sort_of s array) (argument_so s at is_array array fine.0 none) in fine_one builtin.ElCount (text_in array) _ (sort.Array is.0) is.1 tt
+    let is = of_array (sort_of s array) (argument_so s at is_array array fine.0 none) in fine_one builtin.ElCount (quoted_text array) _ (sort.Array is.0) is.1 tt
 fine_builtin s at builtin.ElCount (more_of-Expr array (more_of-Expr other rest)) fine none = absurd (full _ _ none)
 
 -- ---- calls of functions of the program

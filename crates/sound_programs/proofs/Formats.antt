@@ -19,7 +19,7 @@ use Rattle.write_format.specs.declared.piece.Piece.{Piece}
 use Rattle.write_format.specs.declared.piece.Piece.TheVariants as piece
 use Rattle.write_format.specs.Arrays.{IsCharArray, cells_of}
 use Rattle.write_format.specs.Element.{Element}
-use Rattle.write_format.specs.Format.{FormatText, IsShortElement, array_of, char_arrays, element_of, elements_of as format_elements}
+use Rattle.write_format.specs.Format.{FormatText, IsShortElement, array_of, char_arrays, element_of, format_elements}
 use Rattle.write_format.specs.Front.{piece_at}
 use Rattle.write_format.specs.Line.{before_zero}
 use Rattle.write_format.specs.Reading.{codes_of, is_fit, pieces_of, pieces_within}
@@ -37,13 +37,13 @@ use Rattle.capl_meaning.specs.declared.sort.Sort.{Sort}
 use Rattle.capl_meaning.specs.declared.sort.Sort.TheVariants as sort
 use Rattle.capl_meaning.specs.Names.{Callee, OfLanguage, OfProgram, Unknown, Scope, callee}
 use Rattle.capl_meaning.specs.Constant.{elements_of}
-use Rattle.capl_meaning.specs.Format.{argument_of as sort_argument, shows, text_in}
+use Rattle.capl_meaning.specs.Format.{argument_of as sort_argument, shows, quoted_text}
 use Rattle.capl_meaning.specs.Message.{array_in}
 use Rattle.capl_meaning.specs.Sort.{sort_of}
-use Rattle.capl_meaning.specs.Store.{key_of}
+use Rattle.capl_meaning.specs.Store.{variable_key}
 use Rattle.capl_meaning.specs.ExpressionRules.{builtin_rules, call_rules, integer_offences, offences, offences_of_row}
 use Rattle.capl_meaning.specs.StatementRules as source
-use Rattle.capl_meaning.specs.StatementRules.{alone_offences, in_body, in_loop, label_offences, labels_of, labels_rule, needed_offences, offences_of_arms, offences_of_else, offences_of_groups, offences_of_statements, statement_offences}
+use Rattle.capl_meaning.specs.StatementRules.{alone_offences, in_body, in_loop, label_offences, labels_said, labels_rule, needed_offences, offences_of_arms, offences_of_else, offences_of_groups, offences_of_statements, statement_offences}
 use Rattle.typed_laws.specs.Laid.{slot}
 use Rattle.typed_laws.proofs.Declared.{all_append}
 use Rattle.typed_source.specs.Sound.{HasTables}
@@ -78,7 +78,7 @@ module _ (s : Scope) (P : FormatText → Type 0) (each : (e : Expr) → IsSmallE
         all_append P (formats_of_part s init) (formats_of_part s step ++ formats_of s body) (part_formats init few.0 (front (alone_offences s init) _ none))
         (all_append P (formats_of_part s step) (formats_of s body) (part_formats step few.2 (front (alone_offences s step) _ last)) (statement_formats in_loop body few.3 (back (alone_offences s step) _ last)))
     statement_formats around (stmt.Switch' on shape groups) few none =
-        group_formats (source.in_switch around) groups few.2 (back (labels_rule s (sort_of s on) (labels_of groups)) _ (back (integer_offences s on) _ none))
+        group_formats (source.in_switch around) groups few.2 (back (labels_rule s (sort_of s on) (labels_said groups)) _ (back (integer_offences s on) _ none))
     statement_formats around (stmt.Break at) few none = tt
     statement_formats around (stmt.Continue at) few none = tt
     statement_formats around (stmt.Return value at) few none = tt
@@ -179,27 +179,27 @@ module _ (typed : Typed) (s : Scope) (tables : HasTables s.names typed) where
   text_arrays field conversion.Text text = tt
 
   -- an array of characters is there
-  array_there : (e : Expr) → Names s e (sort.Array kind.Char) → (field : Field) → Arrays (element_of field conversion.Text (text_argument s.names (text_in e) (array_in s e)))
+  array_there : (e : Expr) → Names s e (sort.Array kind.Char) → (field : Field) → Arrays (element_of field conversion.Text (text_argument s.names (quoted_text e) (array_in s e)))
   array_there e named field =
       let table = tables.arrays named.variable kind.Char named.fixed named.size named.form in
       subst (λ o. Arrays (element_of field conversion.Text (text_argument s.names o (array_in s e)))) (sym named.no_text)
       (subst (λ o. Arrays (element_of field conversion.Text (text_argument s.names None o))) (sym named.is) (
         record {
           there = table.0.there;
-          characters = subst (λ j. All (λ k. k ≡ j) (cells_of (slot s.names (key_of named.variable)) (elements_of s.names named.variable) typed.cells)) table.1 table.0.of_one_kind;
+          characters = subst (λ j. All (λ k. k ≡ j) (cells_of (slot s.names (variable_key named.variable)) (elements_of s.names named.variable) typed.cells)) table.1 table.0.of_one_kind;
         },
         tt,
       ))
 
   -- the arrays of an argument that its code shows
   shown_arrays : (field : Field) (c : Conversion) (e : Expr) (g : Sort) → Names s e g → option_map_or (is_fit c) (sort_argument g) false ≡ true →
-      Arrays (element_of field c (argument_by g (text_argument s.names (text_in e) (array_in s e))))
+      Arrays (element_of field c (argument_by g (text_argument s.names (quoted_text e) (array_in s e))))
   shown_arrays field c e (sort.Number k) named is = number_arrays field c k
   shown_arrays field c e sort.Text named is =
       subst (λ o. Arrays (element_of field c (text_argument s.names o (array_in s e)))) (sym named.1) (text_arrays field c named.0)
   shown_arrays field c e (sort.Array k) named is =
       let fit = shown_array c k is in
-      subst (λ d. Arrays (element_of field d (text_argument s.names (text_in e) (array_in s e)))) (sym fit.1)
+      subst (λ d. Arrays (element_of field d (text_argument s.names (quoted_text e) (array_in s e)))) (sym fit.1)
       (array_there e (subst (λ j. Names s e (sort.Array j)) fit.0 named) field)
   shown_arrays field c e sort.Message named is = absurd (let f : false ≡ true = is in cc)
   shown_arrays field c e sort.Timer named is = absurd (let f : false ≡ true = is in cc)

@@ -20,7 +20,7 @@ use Rattle.capl_meaning.specs.declared.sort.Sort.TheVariants as sort
 use Rattle.capl_meaning.specs.Names.{Scope}
 use Rattle.capl_meaning.specs.Constant.{constant_at}
 use Rattle.capl_meaning.specs.Statement.{label_of}
-use Rattle.capl_meaning.specs.StatementRules.{Said, Saying, Default, Case, Unclear, labels_of, labels_rule, repeated, said_by, same_saying, saying_of_number, saying_of_value}
+use Rattle.capl_meaning.specs.StatementRules.{SaidLabel, Saying, Default, Case, Unclear, labels_said, labels_rule, repeated, said_by, same_saying, saying_of_number, saying_of_value}
 use Rattle.typed_source.specs.Statement.{formats_of_row, groups_of}
 use Rattle.sound_programs.specs.Small.{AreSmallGroups}
 use Rattle.sound_programs.proofs.Empty.{unmapped}
@@ -35,8 +35,8 @@ label_by (Case n) = Some (Some n)
 label_by Unclear = None
 
 -- the labels of what is said
-abbrev labels_by : List Said → List (Option ℤ)
-labels_by all = filter_map (λ (said : Said). label_by said.saying) all
+abbrev labels_by : List SaidLabel → List (Option ℤ)
+labels_by all = filter_map (λ (said : SaidLabel). label_by said.saying) all
 
 -- two labels that do not say the same differ
 differ : (a b : Saying) (m n : Option ℤ) → same_saying b a ≡ false → label_by a ≡ Some m → label_by b ≡ Some n → m ≢ n
@@ -53,9 +53,9 @@ differ Unclear b m n apart one other same = let f : None ≡ Some m = one in cc
 differ Default Unclear m n apart one other same = let g : None ≡ Some n = other in cc
 differ (Case p) Unclear m n apart one other same = let g : None ≡ Some n = other in cc
 
-labels_apart : (all : List Said) → Apart (λ (x y : Said). same_saying y.saying x.saying ≡ false) all → Apart (λ m n. m ≢ n) (labels_by all)
+labels_apart : (all : List SaidLabel) → Apart (λ (x y : SaidLabel). same_saying y.saying x.saying ≡ false) all → Apart (λ m n. m ≢ n) (labels_by all)
 labels_apart all apart =
-    kept_apart (λ (said : Said). label_by said.saying) (λ (x y : Said). same_saying y.saying x.saying ≡ false) (λ m n. m ≢ n) (λ x y m n far one other. differ x.saying y.saying m n far one other) all apart
+    kept_apart (λ (said : SaidLabel). label_by said.saying) (λ (x y : SaidLabel). same_saying y.saying x.saying ≡ false) (λ m n. m ≢ n) (λ x y m n far one other. differ x.saying y.saying m n far one other) all apart
 
 module _ (s : Scope) where
   -- a label is what it says
@@ -81,23 +81,23 @@ module _ (s : Scope) where
   labels_in k labels = filter_map (λ (label : Label). label_of s k label.at label.value) labels
 
   -- they are the labels of the groups' trees
-  gathered : (order : List ℕ) (k : Kind) (before : ℕ) {m : Count} (groups : Row_of-Group m) → all_labels (groups_of s order k before groups) ≡ labels_in k (labels_of groups)
+  gathered : (order : List ℕ) (k : Kind) (before : ℕ) {m : Count} (groups : Row_of-Group m) → all_labels (groups_of s order k before groups) ≡ labels_in k (labels_said groups)
   gathered order k before end_of-Group = refl
   gathered order k before (more_of-Group labels shape body rest) =
-      ap (λ l. labels_in k labels ++ l) (gathered order k (before + length (formats_of_row s body)) rest) ∙ sym (filter_map-append (λ (label : Label). label_of s k label.at label.value) labels (labels_of rest))
+      ap (λ l. labels_in k labels ++ l) (gathered order k (before + length (formats_of_row s body)) rest) ∙ sym (filter_map-append (λ (label : Label). label_of s k label.at label.value) labels (labels_said rest))
 
   -- the labels of a `switch` over a number differ
-  pub labels_differ : (order : List ℕ) (k : Kind) (before : ℕ) {m : Count} (groups : Row_of-Group m) → labels_rule s (sort.Number k) (labels_of groups) ≡ [] →
+  pub labels_differ : (order : List ℕ) (k : Kind) (before : ℕ) {m : Count} (groups : Row_of-Group m) → labels_rule s (sort.Number k) (labels_said groups) ≡ [] →
       AllPairs (λ a b. a ≢ b) (all_labels (groups_of s order (join k k) before groups))
   labels_differ order k before groups none =
-      let apart = not_repeated (λ (a b : Said). same_saying a.saying b.saying) (map (said_by s (sort.Number k)) (labels_of groups)) (unmapped _ _ none) in
-      subst (λ l. AllPairs (λ a b. a ≢ b) l) (sym (gathered order (join k k) before groups ∙ all_say k (labels_of groups)))
-      (pairs (λ a b. a ≢ b) (labels_by (map (said_by s (sort.Number k)) (labels_of groups))) (labels_apart (map (said_by s (sort.Number k)) (labels_of groups)) apart))
+      let apart = not_repeated (λ (a b : SaidLabel). same_saying a.saying b.saying) (map (said_by s (sort.Number k)) (labels_said groups)) (unmapped _ _ none) in
+      subst (λ l. AllPairs (λ a b. a ≢ b) l) (sym (gathered order (join k k) before groups ∙ all_say k (labels_said groups)))
+      (pairs (λ a b. a ≢ b) (labels_by (map (said_by s (sort.Number k)) (labels_said groups))) (labels_apart (map (said_by s (sort.Number k)) (labels_said groups)) apart))
 
   -- and each is a number
   pub labels_in_range : (order : List ℕ) (k : Kind) (before : ℕ) {m : Count} (groups : Row_of-Group m) → All (λ label. IfSome label IsNumber) (all_labels (groups_of s order k before groups))
   labels_in_range order k before groups =
-      subst (λ l. All (λ label. IfSome label IsNumber) l) (sym (gathered order k before groups)) (All-from_recursion (λ label. IfSome label IsNumber) _ (each (labels_of groups)))
+      subst (λ l. All (λ label. IfSome label IsNumber) l) (sym (gathered order k before groups)) (All-from_recursion (λ label. IfSome label IsNumber) _ (each (labels_said groups)))
     where
       one : (at : ℕ) (value : Option Expr) (rest : List (Option ℤ)) → AllByRecursion (λ label. IfSome label IsNumber) rest → AllByRecursion (λ label. IfSome label IsNumber) (cons_option (label_of s k at value) rest)
       one at None rest h = (tt, h)

@@ -20,8 +20,8 @@ use Rattle.capl_meaning.specs.declared.sort.Sort.{Sort}
 use Rattle.capl_meaning.specs.declared.sort.Sort.TheVariants as sort
 use Rattle.capl_meaning.specs.Variable.{Form, Number, Array, Message, Timer, Misfit, Variable}
 use Rattle.capl_meaning.specs.Names.{Callee, OfLanguage, OfProgram, Unknown, Scope, ThisForm, NoThis, ThisFrame, ThisKey, callee, direction, means}
-use Rattle.capl_meaning.specs.Format.{first_text, format_codes, show_all, text_in}
-use Rattle.capl_meaning.specs.Message.{Held, Member, IsField, IsSignal, IsUnusable, IsUnknown, array_by, array_in, held_by, held_this, is_number_place, is_open_number, member_named, message_in, signals_of}
+use Rattle.capl_meaning.specs.Format.{first_text, format_codes, show_all, quoted_text}
+use Rattle.capl_meaning.specs.Message.{Held, NamedMember, IsField, IsSignal, IsUnusable, IsUnknown, array_by, array_in, held_by, held_this, is_number_place, is_open_number, member_named, message_in, signals_of}
 use Rattle.capl_meaning.specs.Sort.{number_from, sort_given, sort_of, sort_of_assignment, sort_of_binary, sort_of_builtin, sort_of_call, sort_of_choice, sort_of_direction, sort_of_element, sort_of_form, sort_of_member, sort_of_name, sort_of_number, sort_of_part, sort_of_prefix, sort_of_step, sort_of_this, sorts_of}
 use Rattle.capl_meaning.specs.Expression.{timer_by, timer_in}
 use Rattle.typed_laws.specs.Laid.{HasForm}
@@ -34,11 +34,11 @@ pub record IsArrayOf (s : Scope) (e : Expr) (k : Kind) : Type 0 where
   pub size : Expr
   pub is : array_in s e ≡ Some variable
   pub form : HasForm s.names variable (Array k fixed size)
-  pub no_text : text_in e ≡ None
+  pub no_text : quoted_text e ≡ None
 
 -- an expression of a sort names what the sort says: a text, an array, a message, or a timer
 abbrev pub Names : Scope → Expr → Sort → Type 0
-Names s e sort.Text = (text : List ℕ) × (text_in e ≡ Some text)
+Names s e sort.Text = (text : List ℕ) × (quoted_text e ≡ Some text)
 Names s e (sort.Array k) = IsArrayOf s e k
 Names s e sort.Message = (held : Held) × (message_in s e ≡ Some held)
 Names s e sort.Timer = (v : Variable) × (timer_in s e ≡ Some v)
@@ -81,7 +81,7 @@ module _ (s : Scope) where
   by_assignment e operator true is_message (sort.Number k) (sort.Number j) = tt
   by_assignment e operator is_place is_message left right = tt
 
-  by_member : (e : Expr) (m : Member) → Names s e (sort_of_member m)
+  by_member : (e : Expr) (m : NamedMember) → Names s e (sort_of_member m)
   by_member e (IsField f) = tt
   by_member e (IsSignal layout) = tt
   by_member e IsUnusable = tt

@@ -11,7 +11,7 @@ use Rattle.capl_tree.specs.declared.statement.Stmt.{Stmt}
 use Rattle.typed_tree.specs.declared.program.Typed.{Typed}
 use Rattle.capl_meaning.specs.Variable.{Number, Part, Globals, Procedure, Variable, declarations_in, parameters_of, variable_of_parameter, variables_of_declaration, variables_of_part}
 use Rattle.capl_meaning.specs.Names.{Function, Names, function_by, function_of_part}
-use Rattle.capl_meaning.specs.Store.{Key, key_of, same_key}
+use Rattle.capl_meaning.specs.Store.{Key, variable_key, same_key}
 use Rattle.typed_laws.specs.Laid.{AreDistinct, HasForm, IsAmong, cell_count, cells_before, cells_by_form, slot}
 use Rattle.typed_laws.proofs.Parts.{fresh, key_other, key_self}
 use Rattle.typed_source.specs.Sound.{HasTables}
@@ -22,7 +22,7 @@ use Rattle.sound_programs.proofs.Repeated.{Apart}
 
 distinct_front : (xs ys : List Variable) → AreDistinct (xs ++ ys) → AreDistinct xs
 distinct_front [] ys h = tt
-distinct_front (x ∷ xs) ys h = (all_front (λ u. same_key (key_of u) (key_of x) ≡ false) xs ys h.0, distinct_front xs ys h.1)
+distinct_front (x ∷ xs) ys h = (all_front (λ u. same_key (variable_key u) (variable_key x) ≡ false) xs ys h.0, distinct_front xs ys h.1)
 
 distinct_back : (xs ys : List Variable) → AreDistinct (xs ++ ys) → AreDistinct ys
 distinct_back [] ys h = h
@@ -55,10 +55,10 @@ distinct_functions base (Procedure number file procedure ∷ parts) h =
 -- ---- cells
 
 module _ (names : Names) where
-  first_cell : (w : Variable) (ws : List Variable) (k : Key) → same_key (key_of w) k ≡ true → cells_before names (w ∷ ws) k ≡ 0
+  first_cell : (w : Variable) (ws : List Variable) (k : Key) → same_key (variable_key w) k ≡ true → cells_before names (w ∷ ws) k ≡ 0
   first_cell w ws k is = ap (λ b. if b then 0 else cell_count names w + cells_before names ws k) is
 
-  later_cell : (w : Variable) (ws : List Variable) (k : Key) → same_key (key_of w) k ≡ false → cells_before names (w ∷ ws) k ≡ cell_count names w + cells_before names ws k
+  later_cell : (w : Variable) (ws : List Variable) (k : Key) → same_key (variable_key w) k ≡ false → cells_before names (w ∷ ws) k ≡ cell_count names w + cells_before names ws k
   later_cell w ws k is = ap (λ b. if b then 0 else cell_count names w + cells_before names ws k) is
 
   -- a variable is a number
@@ -66,26 +66,26 @@ module _ (names : Names) where
   IsOne v = cell_count names v ≡ 1
 
   -- two variables of one cell each do not begin at one cell
-  cells_differ : (vs : List Variable) → AreDistinct vs → (u v : Variable) → IsAmong u vs → IsAmong v vs → IsOne u → IsOne v → same_key (key_of v) (key_of u) ≡ false →
-      cells_before names vs (key_of u) ≢ cells_before names vs (key_of v)
+  cells_differ : (vs : List Variable) → AreDistinct vs → (u v : Variable) → IsAmong u vs → IsAmong v vs → IsOne u → IsOne v → same_key (variable_key v) (variable_key u) ≡ false →
+      cells_before names vs (variable_key u) ≢ cells_before names vs (variable_key v)
   cells_differ [] distinct u v a b one other apart same = elim a [ ]
   cells_differ (w ∷ ws) distinct u v (inl e) (inl f) one other apart same =
-      let itself : same_key (key_of v) (key_of u) ≡ true = subst (λ x. same_key (key_of v) (key_of x) ≡ true) (sym f ∙ e) (key_self (key_of v)) in
+      let itself : same_key (variable_key v) (variable_key u) ≡ true = subst (λ x. same_key (variable_key v) (variable_key x) ≡ true) (sym f ∙ e) (key_self (variable_key v)) in
       let g : true ≡ false = sym itself ∙ apart in cc
   cells_differ (w ∷ ws) distinct u v (inl e) (inr s) one other apart same =
-      let here : cells_before names (w ∷ ws) (key_of u) ≡ 0 = first_cell w ws (key_of u) (subst (λ x. same_key (key_of w) (key_of x) ≡ true) e (key_self (key_of w))) in
-      let there : cells_before names (w ∷ ws) (key_of v) ≡ cell_count names w + cells_before names ws (key_of v) = later_cell w ws (key_of v) (key_other (key_of v) (key_of w) (fresh w v ws distinct.0 s)) in
+      let here : cells_before names (w ∷ ws) (variable_key u) ≡ 0 = first_cell w ws (variable_key u) (subst (λ x. same_key (variable_key w) (variable_key x) ≡ true) e (key_self (variable_key w))) in
+      let there : cells_before names (w ∷ ws) (variable_key v) ≡ cell_count names w + cells_before names ws (variable_key v) = later_cell w ws (variable_key v) (key_other (variable_key v) (variable_key w) (fresh w v ws distinct.0 s)) in
       let count : cell_count names w ≡ 1 = ap (λ x. cell_count names x) e ∙ one in
       omega (arith, here, there, count, same)
   cells_differ (w ∷ ws) distinct u v (inr s) (inl f) one other apart same =
-      let here : cells_before names (w ∷ ws) (key_of v) ≡ 0 = first_cell w ws (key_of v) (subst (λ x. same_key (key_of w) (key_of x) ≡ true) f (key_self (key_of w))) in
-      let there : cells_before names (w ∷ ws) (key_of u) ≡ cell_count names w + cells_before names ws (key_of u) = later_cell w ws (key_of u) (key_other (key_of u) (key_of w) (fresh w u ws distinct.0 s)) in
+      let here : cells_before names (w ∷ ws) (variable_key v) ≡ 0 = first_cell w ws (variable_key v) (subst (λ x. same_key (variable_key w) (variable_key x) ≡ true) f (key_self (variable_key w))) in
+      let there : cells_before names (w ∷ ws) (variable_key u) ≡ cell_count names w + cells_before names ws (variable_key u) = later_cell w ws (variable_key u) (key_other (variable_key u) (variable_key w) (fresh w u ws distinct.0 s)) in
       let count : cell_count names w ≡ 1 = ap (λ x. cell_count names x) f ∙ other in
       omega (arith, here, there, count, same)
   cells_differ (w ∷ ws) distinct u v (inr s) (inr r) one other apart same =
-      let here : cells_before names (w ∷ ws) (key_of u) ≡ cell_count names w + cells_before names ws (key_of u) = later_cell w ws (key_of u) (key_other (key_of u) (key_of w) (fresh w u ws distinct.0 s)) in
-      let there : cells_before names (w ∷ ws) (key_of v) ≡ cell_count names w + cells_before names ws (key_of v) = later_cell w ws (key_of v) (key_other (key_of v) (key_of w) (fresh w v ws distinct.0 r)) in
-      let equal : cells_before names ws (key_of u) ≡ cells_before names ws (key_of v) = omega (arith, here, there, same) in
+      let here : cells_before names (w ∷ ws) (variable_key u) ≡ cell_count names w + cells_before names ws (variable_key u) = later_cell w ws (variable_key u) (key_other (variable_key u) (variable_key w) (fresh w u ws distinct.0 s)) in
+      let there : cells_before names (w ∷ ws) (variable_key v) ≡ cell_count names w + cells_before names ws (variable_key v) = later_cell w ws (variable_key v) (key_other (variable_key v) (variable_key w) (fresh w v ws distinct.0 r)) in
+      let equal : cells_before names ws (variable_key u) ≡ cells_before names ws (variable_key v) = omega (arith, here, there, same) in
       cells_differ ws distinct.1 u v s r one other apart equal
 
   module _ (distinct : AreDistinct names.variables) (owner file : ℕ) where
@@ -96,7 +96,7 @@ module _ (names : Names) where
     cell p = slot names (record { owner = owner; name = p.name })
 
     -- one parameter's cell differs from those of others
-    others_differ : (p : Param) → IsAmong (of p) names.variables → (ps : List Param) → AllByRecursion (λ u. same_key (key_of u) (key_of (of p)) ≡ false) (map of ps) →
+    others_differ : (p : Param) → IsAmong (of p) names.variables → (ps : List Param) → AllByRecursion (λ u. same_key (variable_key u) (variable_key (of p)) ≡ false) (map of ps) →
         ((i : ℕ) (q : Param) → slice_get ps i ≡ Some q → IsAmong (of q) names.variables) → AllByRecursion (λ c. cell p ≢ c) (map cell ps)
     others_differ p among [] apart all = tt
     others_differ p among (q ∷ qs) apart all =

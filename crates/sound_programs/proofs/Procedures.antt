@@ -19,7 +19,7 @@ use Rattle.typed_tree.specs.Sound.{IsSoundFunction, IsSoundHandler}
 use Rattle.typed_tree.specs.SoundStatement.{IsSoundStmt}
 use Rattle.capl_meaning.specs.Variable.{parts_of, variables_of}
 use Rattle.capl_meaning.specs.Names.{Callee, Function, Names, OfProgram, Scope, callee, function_of_part, inside_function, names_of}
-use Rattle.capl_meaning.specs.Calls.{called_by, called_by_number, calls_of, function_numbered, number_of_callee}
+use Rattle.capl_meaning.specs.Calls.{called_by, called_by_number, names_called, function_numbered, number_of_callee}
 use Rattle.capl_meaning.specs.Offences.{offences_of}
 use Rattle.capl_meaning.specs.Procedure.{Handler, handlers_of}
 use Rattle.capl_meaning.specs.StatementRules.{in_body, statement_offences}
@@ -51,12 +51,12 @@ use Rattle.sound_programs.proofs.Statements.{statement}
 module _ (typed : Typed) (number : ℕ) (s : Scope) (order : List ℕ) (tables : HasTables s.names typed) (forms : HaveForms s.names) where
   -- the statements of a body
   body_sound : (before : ℕ) (body : List Stmt) → AllByRecursion IsBodyPart body → AllByRecursion IsSmallStmt body → flat_map (statement_offences s in_body) body ≡ [] →
-      AreCallable s.names order typed number (flat_map calls_of body) → StandFrom before (formats_of_body s body) typed.formats → AllByRecursion (IsSoundStmt typed (in_procedure number s)) (body_of s order before body)
+      AreCallable s.names order typed number (flat_map names_called body) → StandFrom before (formats_of_body s body) typed.formats → AllByRecursion (IsSoundStmt typed (in_procedure number s)) (body_of s order before body)
   body_sound before [] formed few none called formats = tt
   body_sound before (first ∷ rest) formed few none called formats = (
-    statement typed number s order tables forms in_body before first formed.0 few.0 (front (statement_offences s in_body first) _ none) (all_front _ (calls_of first) (flat_map calls_of rest) called)
+    statement typed number s order tables forms in_body before first formed.0 few.0 (front (statement_offences s in_body first) _ none) (all_front _ (names_called first) (flat_map names_called rest) called)
         (first_part before (formats_of s first) (formats_of_body s rest) typed.formats formats),
-    body_sound (before + length (formats_of s first)) rest formed.1 few.1 (back (statement_offences s in_body first) _ none) (all_back _ (calls_of first) (flat_map calls_of rest) called)
+    body_sound (before + length (formats_of s first)) rest formed.1 few.1 (back (statement_offences s in_body first) _ none) (all_back _ (names_called first) (flat_map names_called rest) called)
         (second_part before (formats_of s first) (formats_of_body s rest) typed.formats formats),
   )
 
@@ -193,7 +193,7 @@ module _ (base : List DbcMessage) (program : Program) (order : List ℕ) (line :
           params_differ = pairs (λ a b. a ≢ b) (parameter_slots names f) (cells_apart names distinct f.number f.file f.parameters distinct_names params);
           few_statements = subst (λ n. n < 2 ^ 32) (sym (body_long (inside_function names f) order before f.body)) fine.body.few;
           statements = body_sound whole k (inside_function names f) order tables_there (have_forms base program none) before f.body fine.body.well_formed fine.body.small fine.body.no_offence
-              (callable_in_function number k at (flat_map calls_of f.body) before_it) formats;
+              (callable_in_function number k at (flat_map names_called f.body) before_it) formats;
         }
 
     -- each function is sound
@@ -221,7 +221,7 @@ module _ (base : List DbcMessage) (program : Program) (order : List ℕ) (line :
       statements = subst (λ b. AllByRecursion (IsSoundStmt whole (record { number = length whole.functions; gives = b; breakable = false; continuable = false })) (body_of h.scope order before h.body)) fine.gives
           (body_sound whole (length whole.functions) h.scope order (subst (λ n. HasTables n whole) (sym fine.named) tables_there) (subst HaveForms (sym fine.named) (have_forms base program none)) before h.body
           fine.body.well_formed fine.body.small fine.body.no_offence
-          (subst (λ n. AreCallable n order whole (length whole.functions) (flat_map calls_of h.body)) (sym fine.named) (callable_in_handler (flat_map calls_of h.body))) formats);
+          (subst (λ n. AreCallable n order whole (length whole.functions) (flat_map names_called h.body)) (sym fine.named) (callable_in_handler (flat_map names_called h.body))) formats);
     }
 
     all_sound : (before : ℕ) (handlers : List Handler) → AllByRecursion (IsGoodHandler names) handlers → StandFrom before (formats_of_handlers handlers) all_formats →

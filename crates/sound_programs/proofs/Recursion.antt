@@ -28,14 +28,14 @@ use Rattle.capl_tree.specs.Forms as tree
 use Rattle.capl_meaning.specs.Rule.{E16, E26}
 use Rattle.capl_meaning.specs.Variable.{Form, Number, Array, Message, Timer, Misfit, form_of, parts_of}
 use Rattle.capl_meaning.specs.Names.{Callee, Function, Names, OfLanguage, OfProgram, Unknown, Scope, callee, inside_function, names_of}
-use Rattle.capl_meaning.specs.Calls.{called_by, called_by_number, calls_in, calls_in_declarator, calls_in_field, calls_in_init, calls_in_item, calls_in_labels, calls_in_part, calls_in_row, calls_of, calls_of_arms, calls_of_else, calls_of_groups, calls_of_row, function_numbered, number_of_callee, reaches}
+use Rattle.capl_meaning.specs.Calls.{called_by, called_by_number, calls_in, calls_in_declarator, calls_in_field, calls_in_init, calls_in_item, calls_in_labels, calls_in_part, calls_in_row, names_called, calls_of_arms, calls_of_else, calls_of_groups, calls_of_row, function_numbered, number_of_callee, reaches}
 use Rattle.capl_meaning.specs.Message.{signals_of_type}
 use Rattle.capl_meaning.specs.Sort.{is_recursive, sort_of}
 use Rattle.capl_meaning.specs.ExpressionRules.{call_rules, function_rules, integer_needed, integer_offences, offence, offences, offences_of_field, offences_of_row}
 use Rattle.capl_meaning.specs.InitialiserRules.{array_item_rules, constant_offences, field_item_rules, initialiser_offences, item_offences, many_rules, message_item_rules}
 use Rattle.capl_meaning.specs.DeclarationRules.{const_rule, declaration_offences, declarator_offences, form_rule, size_offences, type_rules}
 use Rattle.capl_meaning.specs.StatementRules as source
-use Rattle.capl_meaning.specs.StatementRules.{alone_offences, in_body, in_loop, label_offences, labels_of, labels_rule, needed_offences, offences_of_arms, offences_of_else, offences_of_groups, offences_of_statements, return_rule, statement_offences}
+use Rattle.capl_meaning.specs.StatementRules.{alone_offences, in_body, in_loop, label_offences, labels_said, labels_rule, needed_offences, offences_of_arms, offences_of_else, offences_of_groups, offences_of_statements, return_rule, statement_offences}
 use Rattle.capl_meaning.specs.Offences.{offences_of}
 use Rattle.typed_laws.proofs.Declared.{all_append}
 use Rattle.sound_programs.specs.Given.{IsReadable}
@@ -175,7 +175,7 @@ module _ (s : Scope) where
   -- ---- statements
 
   mutual
-    statement_forward : (around : source.Around) (x : Stmt) → statement_offences s around x ≡ [] → Forward (calls_of x)
+    statement_forward : (around : source.Around) (x : Stmt) → statement_offences s around x ≡ [] → Forward (names_called x)
     statement_forward around stmt.Empty none = tt
     statement_forward around (stmt.Block' shape body) none = statements_forward around body none
     statement_forward around (stmt.Decl declaration) none = declared_forward declaration.what declaration.items (back (type_rules s declaration.what) _ none)
@@ -183,18 +183,18 @@ module _ (s : Scope) where
     statement_forward around (stmt.If' shape arms other) none =
         joined (calls_of_arms arms) (calls_of_else other) (arms_forward around arms (front (offences_of_arms s around arms) _ none)) (else_forward around other (back (offences_of_arms s around arms) _ none))
     statement_forward around (tree.While given body) none =
-        joined (calls_in given) (calls_of body) (forward given (front (offences s given) _ (front (integer_offences s given) _ none))) (statement_forward in_loop body (back (integer_offences s given) _ none))
+        joined (calls_in given) (names_called body) (forward given (front (offences s given) _ (front (integer_offences s given) _ none))) (statement_forward in_loop body (back (integer_offences s given) _ none))
     statement_forward around (tree.Do body given) none =
-        joined (calls_of body) (calls_in given) (statement_forward in_loop body (front (statement_offences s in_loop body) _ none)) (forward given (front (offences s given) _ (back (statement_offences s in_loop body) _ none)))
+        joined (names_called body) (calls_in given) (statement_forward in_loop body (front (statement_offences s in_loop body) _ none)) (forward given (front (offences s given) _ (back (statement_offences s in_loop body) _ none)))
     statement_forward around (tree.For init given step body) none =
         let rules = back (alone_offences s init) _ none in
         let last = back (needed_offences s given) _ rules in
-        joined (calls_in_part init) (calls_in_part given ++ (calls_in_part step ++ calls_of body)) (alone_forward init (front (alone_offences s init) _ none))
-        (joined (calls_in_part given) (calls_in_part step ++ calls_of body) (needed_forward given (front (needed_offences s given) _ rules))
-        (joined (calls_in_part step) (calls_of body) (alone_forward step (front (alone_offences s step) _ last)) (statement_forward in_loop body (back (alone_offences s step) _ last))))
+        joined (calls_in_part init) (calls_in_part given ++ (calls_in_part step ++ names_called body)) (alone_forward init (front (alone_offences s init) _ none))
+        (joined (calls_in_part given) (calls_in_part step ++ names_called body) (needed_forward given (front (needed_offences s given) _ rules))
+        (joined (calls_in_part step) (names_called body) (alone_forward step (front (alone_offences s step) _ last)) (statement_forward in_loop body (back (alone_offences s step) _ last))))
     statement_forward around (stmt.Switch' on shape groups) none =
         joined (calls_in on) (calls_of_groups groups) (forward on (front (offences s on) _ (front (integer_offences s on) _ none)))
-        (groups_forward (source.in_switch around) groups (back (labels_rule s (sort_of s on) (labels_of groups)) _ (back (integer_offences s on) _ none)))
+        (groups_forward (source.in_switch around) groups (back (labels_rule s (sort_of s on) (labels_said groups)) _ (back (integer_offences s on) _ none)))
     statement_forward around (stmt.Break at) none = tt
     statement_forward around (stmt.Continue at) none = tt
     statement_forward around (stmt.Return value at) none = needed_forward value (back (return_rule s at s.gives value) _ none)
@@ -202,14 +202,14 @@ module _ (s : Scope) where
     statements_forward : (around : source.Around) {m : Count} (row : Row_of-Stmt m) → offences_of_statements s around row ≡ [] → Forward (calls_of_row row)
     statements_forward around end_of-Stmt none = tt
     statements_forward around (more_of-Stmt first rest) none =
-        joined (calls_of first) (calls_of_row rest) (statement_forward around first (front (statement_offences s around first) _ none)) (statements_forward around rest (back (statement_offences s around first) _ none))
+        joined (names_called first) (calls_of_row rest) (statement_forward around first (front (statement_offences s around first) _ none)) (statements_forward around rest (back (statement_offences s around first) _ none))
 
     arms_forward : (around : source.Around) {m : Count} (arms : Row_of-Arm m) → offences_of_arms s around arms ≡ [] → Forward (calls_of_arms arms)
     arms_forward around end_of-Arm none = tt
     arms_forward around (more_of-Arm given body rest) none =
         let rules = back (integer_offences s given) _ none in
-        joined (calls_in given) (calls_of body ++ calls_of_arms rest) (forward given (front (offences s given) _ (front (integer_offences s given) _ none)))
-        (joined (calls_of body) (calls_of_arms rest) (statement_forward around body (front (statement_offences s around body) _ rules)) (arms_forward around rest (back (statement_offences s around body) _ rules)))
+        joined (calls_in given) (names_called body ++ calls_of_arms rest) (forward given (front (offences s given) _ (front (integer_offences s given) _ none)))
+        (joined (names_called body) (calls_of_arms rest) (statement_forward around body (front (statement_offences s around body) _ rules)) (arms_forward around rest (back (statement_offences s around body) _ rules)))
 
     else_forward : (around : source.Around) (other : Held-Stmt-If-1) → offences_of_else s around other ≡ [] → Forward (calls_of_else other)
     else_forward around tree.NoElse none = tt
@@ -222,10 +222,10 @@ module _ (s : Scope) where
         joined (calls_in_labels labels) (calls_of_row body ++ calls_of_groups rest) (labels_forward labels (front (flat_map (label_offences s) labels) (offences_of_statements s around body ++ offences_of_groups s around rest) none))
         (joined (calls_of_row body) (calls_of_groups rest) (statements_forward around body (front (offences_of_statements s around body) _ rules)) (groups_forward around rest (back (offences_of_statements s around body) _ rules)))
 
-  body_forward : (body : List Stmt) → flat_map (statement_offences s in_body) body ≡ [] → Forward (flat_map calls_of body)
+  body_forward : (body : List Stmt) → flat_map (statement_offences s in_body) body ≡ [] → Forward (flat_map names_called body)
   body_forward [] none = tt
   body_forward (first ∷ rest) none =
-      joined (calls_of first) (flat_map calls_of rest) (statement_forward in_body first (front (statement_offences s in_body first) _ none)) (body_forward rest (back (statement_offences s in_body first) _ none))
+      joined (names_called first) (flat_map names_called rest) (statement_forward in_body first (front (statement_offences s in_body first) _ none)) (body_forward rest (back (statement_offences s in_body first) _ none))
 
   -- the numbers of the functions that are called
   numbers_forward : (called : List (List ℕ)) → Forward called → AllByRecursion (λ number. reaches s.names number s.owner ≡ false) (filter_map (λ name. number_of_callee (callee s.names name)) called)
@@ -259,4 +259,4 @@ none_back base program readable none number = All-from_recursion (λ called. rea
     go (Some f) is =
         let good = numbered_good base program readable (parts_clean base program none) number f is in
         subst (λ n. AllByRecursion (λ called. reaches (names_of base program) called n ≡ false) (called_by (names_of base program) f)) (numbered (names_of base program).functions f is)
-        (numbers_forward (inside_function (names_of base program) f) (flat_map calls_of f.body) (body_forward (inside_function (names_of base program) f) f.body good.body.no_offence))
+        (numbers_forward (inside_function (names_of base program) f) (flat_map names_called f.body) (body_forward (inside_function (names_of base program) f) f.body good.body.no_offence))

@@ -5,7 +5,7 @@ use Rattle.int_kinds.specs.declared.kinds.Kind.{Kind}
 use Rattle.int_kinds.specs.declared.operators.BinOp.{BinOp}
 use Rattle.capl_meaning.specs.declared.sort.Sort.{Sort}
 use Rattle.capl_meaning.specs.declared.sort.Sort.TheVariants as sort
-use Rattle.capl_meaning.specs.ExpressionRules.{is_array, is_message, is_timer}
+use Rattle.capl_meaning.specs.ExpressionRules.{is_array, is_message_sort, is_timer_sort}
 use Rattle.capl_meaning.specs.Sort.{is_bad, is_number, number_from, sort_given, sort_of_binary, sort_of_choice, sort_of_element}
 use Rattle.typed_source.specs.Sound.{IsOfNumber}
 
@@ -60,7 +60,7 @@ of_array sort.Nothing is = absurd (let f : false ≡ true = is in cc)
 of_array sort.Bad is = absurd (let f : false ≡ true = is in cc)
 
 -- a message is
-pub of_message : (g : Sort) → is_message g ≡ true → g ≡ sort.Message
+pub of_message : (g : Sort) → is_message_sort g ≡ true → g ≡ sort.Message
 of_message sort.Message is = refl
 of_message (sort.Number k) is = absurd (let f : false ≡ true = is in cc)
 of_message (sort.Array k) is = absurd (let f : false ≡ true = is in cc)
@@ -70,7 +70,7 @@ of_message sort.Nothing is = absurd (let f : false ≡ true = is in cc)
 of_message sort.Bad is = absurd (let f : false ≡ true = is in cc)
 
 -- a timer is
-pub of_timer : (g : Sort) → is_timer g ≡ true → g ≡ sort.Timer
+pub of_timer : (g : Sort) → is_timer_sort g ≡ true → g ≡ sort.Timer
 of_timer sort.Timer is = refl
 of_timer (sort.Number k) is = absurd (let f : false ≡ true = is in cc)
 of_timer (sort.Array k) is = absurd (let f : false ≡ true = is in cc)

@@ -39,14 +39,14 @@ use Rattle.capl_meaning.specs.declared.field.MessageField.{MessageField}
 use Rattle.capl_meaning.specs.declared.field.MessageField.TheVariants.{Id, Dlc, Rtr, Can, Dir, Time}
 use Rattle.capl_meaning.specs.Variable.{Form, Number, Array, Message, MessageType, ByIdentifier, ByName, Timer, Misfit, Variable}
 use Rattle.capl_meaning.specs.Names.{Names, Scope, ThisFrame, names_of}
-use Rattle.capl_meaning.specs.Format.{text_in}
-use Rattle.capl_meaning.specs.Message.{Member, IsField, IsSignal, IsUnusable, IsUnknown, member_named, signals_of_type}
+use Rattle.capl_meaning.specs.Format.{quoted_text}
+use Rattle.capl_meaning.specs.Message.{NamedMember, IsField, IsSignal, IsUnusable, IsUnknown, member_named, signals_of_type}
 use Rattle.capl_meaning.specs.Sort.{sort_of_member}
 use Rattle.capl_meaning.specs.Constant.{Constant, constant, elements_of, first_number, known_before, length_at, scope_of}
 use Rattle.capl_meaning.specs.ExpressionRules.{offences}
 use Rattle.capl_meaning.specs.InitialiserRules.{initialiser_offences, one_for_array, one_rules}
 use Rattle.capl_meaning.specs.Offences.{offences_of}
-use Rattle.capl_meaning.specs.Initial.{declared_message, element_of_form, first_element, first_message, first_store, items_of, message_of_form, number_at, number_of_form, number_of_item, number_of_text, plain_message, with_bytes_at, with_field_item, with_item, with_member}
+use Rattle.capl_meaning.specs.Initial.{declared_message, element_of_form, first_element, first_message, first_store, initial_items, message_of_form, constant_number, number_of_form, number_of_item, number_of_text, plain_message, with_bytes_at, with_field_item, with_item, with_member}
 use Rattle.capl_meaning.specs.Store.{MessageRecord, byte_after, event_kinds, kinds_by, laid_kinds, lay, message_cells, payload, row, with_bytes, with_field, with_payload, with_signal}
 use Rattle.typed_laws.specs.Laid.{HasForm, IsAmong}
 use Rattle.typed_laws.specs.Starts.{first_by_form, first_cells_of}
@@ -91,7 +91,7 @@ held_number known s k (Some (One e)) = go (constant known s e)
 
 held_item : (s : Scope) (token : ℕ) (k : Kind) (o : Option Item) → Holds k (number_of_item s token k o)
 held_item s token k None = holds_zero k
-held_item s token k (Some (Plain value)) = Holds-wrap k (number_at s token value)
+held_item s token k (Some (Plain value)) = Holds-wrap k (constant_number s token value)
 held_item s token k (Some (Set field value)) = holds_zero k
 
 -- a text for an array that breaks no rule is of characters
@@ -106,7 +106,7 @@ text_for s at kind.Long elements text none = absurd (full _ _ none)
 text_for s at kind.Int64 elements text none = absurd (full _ _ none)
 
 -- the bytes of a small text
-text_bytes : (e : Expr) (text : List ℕ) → IsSmallExpr e → text_in e ≡ Some text → AreBytes text
+text_bytes : (e : Expr) (text : List ℕ) → IsSmallExpr e → quoted_text e ≡ Some text → AreBytes text
 text_bytes (tree.Paren inner at) text few is = text_bytes inner text few is
 text_bytes (expr.Str bytes at) text few is =
     let same : bytes ≡ text = let f : Some bytes ≡ Some text = is in cc in
@@ -123,9 +123,9 @@ held_element : (s : Scope) (token : ℕ) (names : Names) (k : Kind) (fixed : Boo
     (t : Scope) → option_map_or (initialiser_offences t token (Array k fixed size)) init [] ≡ [] → Holds k (first_element s token k init i)
 held_element s token names k fixed size None i few t none = holds_zero k
 held_element s token names k fixed size (Some (Many items at)) i few t none = held_item s token k (slice_get items i)
-held_element s token names k fixed size (Some (One e)) i few t none = go (text_in e) refl (back (offences t e) _ none)
+held_element s token names k fixed size (Some (One e)) i few t none = go (quoted_text e) refl (back (offences t e) _ none)
   where
-    go : (o : Option (List ℕ)) → text_in e ≡ o → one_for_array t (expression_place e) k (length_at t token size) o ≡ [] → Holds k (number_of_text i o)
+    go : (o : Option (List ℕ)) → quoted_text e ≡ o → one_for_array t (expression_place e) k (length_at t token size) o ≡ [] → Holds k (number_of_text i o)
     go None is rules = holds_zero k
     go (Some text) is rules = held_text k i text (text_for t (expression_place e) k (length_at t token size) text rules) (text_bytes e text few is)
 
@@ -199,7 +199,7 @@ module _ (names : Names) (typed : Typed) (tables : HasTables names typed) where
   held_member : (signals : Option (List DbcSignal)) (name : _) (n : ℤ) (m : MessageRecord) → IsHeldRecord m → IsHeldRecord (with_member (member_named signals name) n m)
   held_member signals name n m h = go (member_named signals name) refl
     where
-      go : (x : Member) → member_named signals name ≡ x → IsHeldRecord (with_member x n m)
+      go : (x : NamedMember) → member_named signals name ≡ x → IsHeldRecord (with_member x n m)
       go (IsField f) is = held_field f n m h
       go (IsSignal layout) is = held_signal layout n m (usable signals name layout is) h
       go IsUnusable is = h
@@ -211,8 +211,8 @@ module _ (names : Names) (typed : Typed) (tables : HasTables names typed) where
 
   held_with : (s : Scope) (token : ℕ) (signals : Option (List DbcSignal)) (m : MessageRecord) (item : Item) → IsHeldRecord m → IsHeldRecord (with_item s token signals m item)
   held_with s token signals m (Plain value) h = h
-  held_with s token signals m (Set (Named name at) value) h = held_member signals name (number_at s token value) m h
-  held_with s token signals m (Set (tree.Bytes k index at) value) h = held_bytes k (number_at s token index) (number_at s token value) m h
+  held_with s token signals m (Set (Named name at) value) h = held_member signals name (constant_number s token value) m h
+  held_with s token signals m (Set (tree.Bytes k index at) value) h = held_bytes k (constant_number s token index) (constant_number s token value) m h
 
   held_items : (s : Scope) (token : ℕ) (signals : Option (List DbcSignal)) (items : List Item) (m : MessageRecord) → IsHeldRecord m → IsHeldRecord (fold (with_item s token signals) m items)
   held_items s token signals [] m h = h
@@ -220,7 +220,7 @@ module _ (names : Names) (typed : Typed) (tables : HasTables names typed) where
 
   -- the first value of a message
   held_message : (s : Scope) (token : ℕ) (type_ : MessageType) (init : Option Init) → IsHeldType (Message type_) → IsHeldRecord (first_message s token type_ init)
-  held_message s token type_ init h = held_items s token (signals_of_type type_) (items_of init) (declared_message type_) (held_declared type_ h)
+  held_message s token type_ init h = held_items s token (signals_of_type type_) (initial_items init) (declared_message type_) (held_declared type_ h)
 
 -- ---- cells
 

@@ -12,7 +12,7 @@ use Rattle.capl_tree.specs.declared.statement.Stmt.TheBlock.{Row_of-Arm, end_of-
 use Rattle.capl_tree.specs.declared.statement.Stmt.TheVariants as stmt
 use Rattle.capl_tree.specs.declared.statement.Label.{Label}
 use Rattle.capl_tree.specs.Forms as tree
-use Rattle.capl_tree.specs.Grammar.{AreArms, AreGroups, AreStatements, IsBodyPart, IsElse, IsExpression, IsPart, IsStatement}
+use Rattle.capl_tree.specs.Grammar.{AreArms, AreGroups, AreStatements, IsBodyPart, IsElse, IsExpression, IsOptional, IsStatement}
 use Rattle.typed_tree.specs.declared.expression.TExpr.{TExpr}
 use Rattle.typed_tree.specs.declared.program.Typed.{Typed}
 use Rattle.typed_tree.specs.declared.statement.TStmt.{TStmt, items-the_row-TStmt}
@@ -24,12 +24,12 @@ use Rattle.capl_meaning.specs.declared.sort.Sort.{Sort}
 use Rattle.capl_meaning.specs.declared.sort.Sort.TheVariants as sort
 use Rattle.capl_meaning.specs.Rule.{E22, E24}
 use Rattle.capl_meaning.specs.Names.{Scope}
-use Rattle.capl_meaning.specs.Calls.{calls_in, calls_in_labels, calls_in_part, calls_of, calls_of_arms, calls_of_else, calls_of_groups, calls_of_row}
+use Rattle.capl_meaning.specs.Calls.{calls_in, calls_in_labels, calls_in_part, names_called, calls_of_arms, calls_of_else, calls_of_groups, calls_of_row}
 use Rattle.capl_meaning.specs.Sort.{kind_in, sort_of}
 use Rattle.capl_meaning.specs.Constant.{prefix_kind}
 use Rattle.capl_meaning.specs.ExpressionRules.{integer_offences, offences}
 use Rattle.capl_meaning.specs.StatementRules as source
-use Rattle.capl_meaning.specs.StatementRules.{alone_offences, in_loop, label_offences, labels_of, labels_rule, needed_offences, offences_of_arms, offences_of_else, offences_of_groups, offences_of_statements, return_rule, statement_offences}
+use Rattle.capl_meaning.specs.StatementRules.{alone_offences, in_loop, label_offences, labels_said, labels_rule, needed_offences, offences_of_arms, offences_of_else, offences_of_groups, offences_of_statements, return_rule, statement_offences}
 use Rattle.typed_source.specs.Expression.{expression_of}
 use Rattle.typed_source.specs.Statement.{StandFrom, arms_of, else_of, formats_of, formats_of_alone, formats_of_arms, formats_of_else, formats_of_groups, formats_of_part, formats_of_row, groups_of, part_of, returned, statement_of, statements_of}
 use Rattle.typed_source.specs.Sound.{HasTables, IsOfNumber}
@@ -112,12 +112,12 @@ module _ (typed : Typed) (number : ℕ) (s : Scope) (order : List ℕ) (tables :
       sound typed number s order tables e (is_number s forms e none) (made typed number s order e formed few (front (offences s e) _ none) called)
 
   -- the same of one that may be missing
-  needed_part : (part : Option Expr) → IsPart part → IfSome part IsSmallExpr → needed_offences s part ≡ [] → Callable (calls_in_part part) → IsSoundOption typed number (option_map (expression_of s order) part)
+  needed_part : (part : Option Expr) → IsOptional part → IfSome part IsSmallExpr → needed_offences s part ≡ [] → Callable (calls_in_part part) → IsSoundOption typed number (option_map (expression_of s order) part)
   needed_part None formed few none called = tt
   needed_part (Some e) formed few none called = needed e (formed e refl) few (front (integer_offences s e) [] none) (callable_front (calls_in e) [] called)
 
   -- the first or third part of a `for`
-  part : (around : Around) (is : around.number ≡ number) (before : ℕ) (o : Option Expr) → IsPart o → IfSome o IsSmallExpr → alone_offences s o ≡ [] → Callable (calls_in_part o) →
+  part : (around : Around) (is : around.number ≡ number) (before : ℕ) (o : Option Expr) → IsOptional o → IfSome o IsSmallExpr → alone_offences s o ≡ [] → Callable (calls_in_part o) →
       StandFrom before (formats_of_part s o) typed.formats → IsSoundPart typed around (part_of s order before o) × IsPlainPart (part_of s order before o)
   part around is before None formed few none called formats = (tt, tt)
   part around is before (Some e) formed few none called formats =
@@ -167,7 +167,7 @@ module _ (typed : Typed) (number : ℕ) (s : Scope) (order : List ℕ) (tables :
     (record { names_exist = tt; constant_in_range = tt; operation = tt; calls_earlier = tt; few_arguments = tt; can_give_back = tt }, subst (λ n. IsSoundExpr typed n (t e)) (sym is) (good e refl)),
   )
 
-  value_sound : (value : Option Expr) → IsPart value → IfSome value IsSmallExpr → needed_offences s value ≡ [] → AreCallable s.names order typed number (calls_in_part value) →
+  value_sound : (value : Option Expr) → IsOptional value → IfSome value IsSmallExpr → needed_offences s value ≡ [] → AreCallable s.names order typed number (calls_in_part value) →
       (e : Expr) → value ≡ Some e → IsSoundExpr typed number (expression_of s order e)
   value_sound None formed few none called e is = absurd (let f : None ≡ Some e = is in cc)
   value_sound (Some other) formed few none called e is =
@@ -177,14 +177,14 @@ module _ (typed : Typed) (number : ℕ) (s : Scope) (order : List ℕ) (tables :
   -- ---- `switch`
 
   -- the labels of a `switch` over a number
-  switched : (on : Expr) (before : ℕ) {m : Count} (groups : Row_of-Group m) → IsOfNumber (sort_of s on) → labels_rule s (sort_of s on) (labels_of groups) ≡ [] →
+  switched : (on : Expr) (before : ℕ) {m : Count} (groups : Row_of-Group m) → IsOfNumber (sort_of s on) → labels_rule s (sort_of s on) (labels_said groups) ≡ [] →
       (k : Kind) × (sort_of s on ≡ sort.Number k) × (prefix_kind s on ≡ join k k)
   switched on before groups is none =
       let kind = number_kind (sort_of s on) is in (kind.0, kind.1, ap (λ g. join (kind_in g) (kind_in g)) kind.1)
 
   mutual
     -- each statement
-    pub statement : (around : source.Around) (before : ℕ) (x : Stmt) → IsBodyPart x → IsSmallStmt x → statement_offences s around x ≡ [] → AreCallable s.names order typed number (calls_of x) →
+    pub statement : (around : source.Around) (before : ℕ) (x : Stmt) → IsBodyPart x → IsSmallStmt x → statement_offences s around x ≡ [] → AreCallable s.names order typed number (names_called x) →
         StandFrom before (formats_of s x) typed.formats →
         IsSoundStmt typed (record { number = number; gives = is_some s.gives; breakable = around.breakable; continuable = around.continuable }) (statement_of s order before x)
     statement around before stmt.Empty formed few none called formats = tt
@@ -220,22 +220,22 @@ module _ (typed : Typed) (number : ℕ) (s : Scope) (order : List ℕ) (tables :
           (second_part before (formats_of_arms s arms) (formats_of_else s other) typed.formats formats),
     )
     statement around before (tree.While test body) formed few none called formats = (
-      needed test formed.0 few.0 (front (integer_offences s test) _ none) (callable_front (calls_in test) (calls_of body) called),
-      statement in_loop before body (body_part body formed.1) few.1 (back (integer_offences s test) _ none) (callable_back (calls_in test) (calls_of body) called) formats,
+      needed test formed.0 few.0 (front (integer_offences s test) _ none) (callable_front (calls_in test) (names_called body) called),
+      statement in_loop before body (body_part body formed.1) few.1 (back (integer_offences s test) _ none) (callable_back (calls_in test) (names_called body) called) formats,
     )
     statement around before (tree.Do body test) formed few none called formats = (
-      statement in_loop before body (body_part body formed.0) few.0 (front (statement_offences s in_loop body) _ none) (callable_front (calls_of body) (calls_in test) called) formats,
-      needed test formed.1 few.1 (back (statement_offences s in_loop body) _ none) (callable_back (calls_of body) (calls_in test) called),
+      statement in_loop before body (body_part body formed.0) few.0 (front (statement_offences s in_loop body) _ none) (callable_front (names_called body) (calls_in test) called) formats,
+      needed test formed.1 few.1 (back (statement_offences s in_loop body) _ none) (callable_back (names_called body) (calls_in test) called),
     )
     statement around before (tree.For init test step body) formed few none called formats =
         let rules = back (alone_offences s init) _ none in
         let last = back (needed_offences s test) _ rules in
-        let others = callable_back (calls_in_part init) (calls_in_part test ++ (calls_in_part step ++ calls_of body)) called in
-        let ends = callable_back (calls_in_part test) (calls_in_part step ++ calls_of body) others in
+        let others = callable_back (calls_in_part init) (calls_in_part test ++ (calls_in_part step ++ names_called body)) called in
+        let ends = callable_back (calls_in_part test) (calls_in_part step ++ names_called body) others in
         let behind = second_part before (formats_of_part s init) (formats_of_part s step ++ formats_of s body) typed.formats formats in
-        let first = part (standing around) refl before init formed.0 few.0 (front (alone_offences s init) _ none) (callable_front (calls_in_part init) (calls_in_part test ++ (calls_in_part step ++ calls_of body)) called)
+        let first = part (standing around) refl before init formed.0 few.0 (front (alone_offences s init) _ none) (callable_front (calls_in_part init) (calls_in_part test ++ (calls_in_part step ++ names_called body)) called)
         (first_part before (formats_of_part s init) (formats_of_part s step ++ formats_of s body) typed.formats formats) in
-        let third = part (standing around) refl (before + length (formats_of_part s init)) step formed.2 few.2 (front (alone_offences s step) _ last) (callable_front (calls_in_part step) (calls_of body) ends)
+        let third = part (standing around) refl (before + length (formats_of_part s init)) step formed.2 few.2 (front (alone_offences s step) _ last) (callable_front (calls_in_part step) (names_called body) ends)
         (first_part (before + length (formats_of_part s init)) (formats_of_part s step) (formats_of s body) typed.formats behind) in (
           record {
             names_exist = tt;
@@ -248,19 +248,19 @@ module _ (typed : Typed) (number : ℕ) (s : Scope) (order : List ℕ) (tables :
             short_lists = tt;
           },
           first.0,
-          needed_part test formed.1 few.1 (front (needed_offences s test) _ rules) (callable_front (calls_in_part test) (calls_in_part step ++ calls_of body) others),
+          needed_part test formed.1 few.1 (front (needed_offences s test) _ rules) (callable_front (calls_in_part test) (calls_in_part step ++ names_called body) others),
           third.0,
-          statement in_loop (before + length (formats_of_part s init) + length (formats_of_part s step)) body (body_part body formed.3) few.3 (back (alone_offences s step) _ last) (callable_back (calls_in_part step) (calls_of body) ends)
+          statement in_loop (before + length (formats_of_part s init) + length (formats_of_part s step)) body (body_part body formed.3) few.3 (back (alone_offences s step) _ last) (callable_back (calls_in_part step) (names_called body) ends)
               (second_part (before + length (formats_of_part s init)) (formats_of_part s step) (formats_of s body) typed.formats behind),
         )
     statement around before (stmt.Switch' on shape groups) formed few none called formats =
         let rules = back (integer_offences s on) _ none in
         let whole = front (integer_offences s on) _ none in
-        let labels = front (labels_rule s (sort_of s on) (labels_of groups)) _ rules in
+        let labels = front (labels_rule s (sort_of s on) (labels_said groups)) _ rules in
         let kind = switched on before groups (is_number s forms on whole) labels in (
           record {
             names_exist = tt;
-            labels_differ = subst (λ k. AllPairs (λ a b. a ≢ b) (all_labels (groups_of s order k before groups))) (sym kind.2) (labels_differ s order kind.0 before groups (subst (λ g. labels_rule s g (labels_of groups) ≡ []) kind.1 labels));
+            labels_differ = subst (λ k. AllPairs (λ a b. a ≢ b) (all_labels (groups_of s order k before groups))) (sym kind.2) (labels_differ s order kind.0 before groups (subst (λ g. labels_rule s g (labels_said groups) ≡ []) kind.1 labels));
             labels_in_range = labels_in_range s order (prefix_kind s on) before groups;
             plain_parts = tt;
             returns = tt;
@@ -272,7 +272,7 @@ module _ (typed : Typed) (number : ℕ) (s : Scope) (order : List ℕ) (tables :
             record { names_exist = tt; constant_in_range = tt; operation = tt; calls_earlier = tt; few_arguments = tt; can_give_back = tt },
             needed on formed.0 few.1 whole (callable_front (calls_in on) (calls_of_groups groups) called),
           ),
-          groups_sound (source.in_switch around) (prefix_kind s on) before groups (groups_formed groups formed.1) few.2 (back (labels_rule s (sort_of s on) (labels_of groups)) _ rules)
+          groups_sound (source.in_switch around) (prefix_kind s on) before groups (groups_formed groups formed.1) few.2 (back (labels_rule s (sort_of s on) (labels_said groups)) _ rules)
               (callable_back (calls_in on) (calls_of_groups groups) called) formats,
         )
     statement around before (stmt.Break at) formed few none called formats = record {
@@ -306,9 +306,9 @@ module _ (typed : Typed) (number : ℕ) (s : Scope) (order : List ℕ) (tables :
     statements around before end_of-Stmt formed few none called formats = tt
     statements around before (more_of-Stmt first rest) formed few none called formats =
         let parts = row_parts first rest formed in (
-          statement around before first parts.0 few.0 (front (statement_offences s around first) _ none) (callable_front (calls_of first) (calls_of_row rest) called)
+          statement around before first parts.0 few.0 (front (statement_offences s around first) _ none) (callable_front (names_called first) (calls_of_row rest) called)
               (first_part before (formats_of s first) (formats_of_row s rest) typed.formats formats),
-          statements around (before + length (formats_of s first)) rest parts.1 few.1 (back (statement_offences s around first) _ none) (callable_back (calls_of first) (calls_of_row rest) called)
+          statements around (before + length (formats_of s first)) rest parts.1 few.1 (back (statement_offences s around first) _ none) (callable_back (names_called first) (calls_of_row rest) called)
               (second_part before (formats_of s first) (formats_of_row s rest) typed.formats formats),
         )
 
@@ -319,11 +319,11 @@ module _ (typed : Typed) (number : ℕ) (s : Scope) (order : List ℕ) (tables :
     arms_sound around before end_of-Arm formed few none called formats = tt
     arms_sound around before (more_of-Arm test body rest) formed few none called formats =
         let rules = back (integer_offences s test) _ none in
-        let others = callable_back (calls_in test) (calls_of body ++ calls_of_arms rest) called in (
-          needed test formed.0 few.0 (front (integer_offences s test) _ none) (callable_front (calls_in test) (calls_of body ++ calls_of_arms rest) called),
-          statement around before body formed.1 few.1 (front (statement_offences s around body) _ rules) (callable_front (calls_of body) (calls_of_arms rest) others)
+        let others = callable_back (calls_in test) (names_called body ++ calls_of_arms rest) called in (
+          needed test formed.0 few.0 (front (integer_offences s test) _ none) (callable_front (calls_in test) (names_called body ++ calls_of_arms rest) called),
+          statement around before body formed.1 few.1 (front (statement_offences s around body) _ rules) (callable_front (names_called body) (calls_of_arms rest) others)
               (first_part before (formats_of s body) (formats_of_arms s rest) typed.formats formats),
-          arms_sound around (before + length (formats_of s body)) rest formed.2 few.2 (back (statement_offences s around body) _ rules) (callable_back (calls_of body) (calls_of_arms rest) others)
+          arms_sound around (before + length (formats_of s body)) rest formed.2 few.2 (back (statement_offences s around body) _ rules) (callable_back (names_called body) (calls_of_arms rest) others)
               (second_part before (formats_of s body) (formats_of_arms s rest) typed.formats formats),
         )
 

@@ -12,7 +12,7 @@ use Rattle.write_format.specs.declared.code.Conversion.TheVariants as conversion
 use Rattle.write_format.specs.declared.code.Field.{Field}
 use Rattle.write_format.specs.declared.piece.Piece.{Piece}
 use Rattle.write_format.specs.declared.piece.Piece.TheVariants as piece
-use Rattle.write_format.specs.Format.{IsShort, IsShortArgument, IsShortElement, element_of, elements_of as format_elements}
+use Rattle.write_format.specs.Format.{IsShort, IsShortArgument, IsShortElement, element_of, format_elements}
 use Rattle.write_format.specs.Front.{piece_at}
 use Rattle.write_format.specs.Line.{before_zero}
 use Rattle.write_format.specs.Reading.{codes_of, pieces_of, pieces_within}
@@ -23,7 +23,7 @@ use Rattle.capl_meaning.specs.declared.sort.Sort.{Sort}
 use Rattle.capl_meaning.specs.declared.sort.Sort.TheVariants as sort
 use Rattle.capl_meaning.specs.Variable.{Variable}
 use Rattle.capl_meaning.specs.Names.{Scope}
-use Rattle.capl_meaning.specs.Format.{show_all, text_in}
+use Rattle.capl_meaning.specs.Format.{show_all, quoted_text}
 use Rattle.capl_meaning.specs.Message.{array_in}
 use Rattle.capl_meaning.specs.Sort.{sort_of}
 use Rattle.capl_meaning.specs.Statement.{fitting_pieces}
@@ -35,7 +35,7 @@ use Rattle.sound_programs.proofs.Written.{Fits}
 -- ---- small texts
 
 -- a text that an expression is has fewer than 2^32 bytes
-small_text : (e : Expr) (text : List ℕ) → IsSmallExpr e → text_in e ≡ Some text → length text < 2 ^ 32
+small_text : (e : Expr) (text : List ℕ) → IsSmallExpr e → quoted_text e ≡ Some text → length text < 2 ^ 32
 small_text (tree.Paren inner at) text few is = small_text inner text few is
 small_text (expr.Str bytes at) text few is =
     let same : bytes ≡ text = let f : Some bytes ≡ Some text = is in cc in
@@ -44,17 +44,17 @@ small_text e text few is = absurd (let f : None ≡ Some text = is in cc)
 
 -- and so is an argument of `write`
 small_argument : (s : Scope) (e : Expr) → IsSmallExpr e → IsShortArgument (argument_of s e)
-small_argument s e few = by_sort (sort_of s e) (by_text (text_in e) refl)
+small_argument s e few = by_sort (sort_of s e) (by_text (quoted_text e) refl)
   where
     by_array : (o : Option Variable) → IsShortArgument (option_map_or (array_argument s.names) o (argument.Str []))
     by_array None = omega arith
     by_array (Some v) = tt
 
-    by_text : (o : Option (List ℕ)) → text_in e ≡ o → IsShortArgument (text_argument s.names o (array_in s e))
+    by_text : (o : Option (List ℕ)) → quoted_text e ≡ o → IsShortArgument (text_argument s.names o (array_in s e))
     by_text None is = by_array (array_in s e)
     by_text (Some text) is = small_text e text few is
 
-    by_sort : (g : Sort) → IsShortArgument (text_argument s.names (text_in e) (array_in s e)) → IsShortArgument (argument_by g (text_argument s.names (text_in e) (array_in s e)))
+    by_sort : (g : Sort) → IsShortArgument (text_argument s.names (quoted_text e) (array_in s e)) → IsShortArgument (argument_by g (text_argument s.names (quoted_text e) (array_in s e)))
     by_sort (sort.Number k) h = tt
     by_sort (sort.Array k) h = h
     by_sort sort.Message h = h
@@ -145,7 +145,7 @@ module _ (s : Scope) where
   -- the format of a `write` of small expressions
   pub written_short : (format : Expr) (arguments : List Expr) (fit : Fits s format arguments) → IsSmallExpr format → AllByRecursion IsSmallExpr arguments → IsShort (format_of s (text_written format) fit.pieces arguments)
   written_short format arguments fit few others =
-      let text = read (map (sort_of s) arguments) (text_in format) fit.pieces fit.are in
+      let text = read (map (sort_of s) arguments) (quoted_text format) fit.pieces fit.are in
       let parts = all_parts fit.pieces (map (argument_of s) arguments) (small_arguments arguments others) in
       let count : length (format_elements fit.pieces (map (argument_of s) arguments)) ≤ length fit.pieces = parts.0 in
       let bytes : length fit.pieces ≤ length text.0 = pieces_few (length text.0) text.0 fit.pieces text.2 in

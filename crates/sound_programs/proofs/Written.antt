@@ -17,7 +17,7 @@ use Rattle.write_format.specs.declared.code.Field.{Field}
 use Rattle.write_format.specs.declared.piece.Piece.{Piece}
 use Rattle.write_format.specs.declared.piece.Piece.TheVariants as piece
 use Rattle.write_format.specs.Element.{Element}
-use Rattle.write_format.specs.Format.{element_of, elements_of as format_elements, takes_number}
+use Rattle.write_format.specs.Format.{element_of, format_elements, takes_number}
 use Rattle.write_format.specs.Reading.{codes_of, is_fit, pieces_of}
 use Rattle.capl_tree.specs.declared.expr.Expr.{Expr, Row_of-Expr, end_of-Expr, more_of-Expr, items-the_row-Expr}
 use Rattle.capl_tree.specs.Place.{expression_place}
@@ -25,7 +25,7 @@ use Rattle.capl_meaning.specs.declared.sort.Sort.{Sort}
 use Rattle.capl_meaning.specs.declared.sort.Sort.TheVariants as sort
 use Rattle.capl_meaning.specs.Rule.{E17}
 use Rattle.capl_meaning.specs.Names.{Scope}
-use Rattle.capl_meaning.specs.Format.{array_argument, argument_of as sort_argument, format_codes, show_all, shows, text_in}
+use Rattle.capl_meaning.specs.Format.{array_argument, argument_of as sort_argument, format_codes, show_all, shows, quoted_text}
 use Rattle.capl_meaning.specs.Sort.{is_number, sort_of, sorts_of}
 use Rattle.capl_meaning.specs.Statement.{fitting_pieces}
 use Rattle.capl_meaning.specs.ExpressionRules.{format_rules}
@@ -125,10 +125,10 @@ pub record Fits (s : Scope) (format : Expr) (arguments : List Expr) : Type 0 whe
 
 -- a `write` that breaks no rule
 pub fits : (s : Scope) (format : Expr) {m : Count} (row : Row_of-Expr m) → IsFine (sort_of s format) → AllByRecursion IsFine (sorts_of s row) →
-    format_rules s format (text_in format) (items-the_row-Expr m row) ≡ [] → Fits s format (items-the_row-Expr m row)
-fits s format {m} row fine others none = go (text_in format) refl none
+    format_rules s format (quoted_text format) (items-the_row-Expr m row) ≡ [] → Fits s format (items-the_row-Expr m row)
+fits s format {m} row fine others none = go (quoted_text format) refl none
   where
-    read : (text : List ℕ) → text_in format ≡ Some text → (o : Option (List Piece)) → pieces_of text ≡ o →
+    read : (text : List ℕ) → quoted_text format ≡ Some text → (o : Option (List Piece)) → pieces_of text ≡ o →
         option_map_or (λ found. show_all found (sorts_of s row)) (option_map codes_of o) false ≡ true → Fits s format (items-the_row-Expr m row)
     read text is None there all = absurd (let f : false ≡ true = all in cc)
     read text is (Some pieces) there all =
@@ -143,6 +143,6 @@ fits s format {m} row fine others none = go (text_in format) refl none
           shown = parts.1;
         }
 
-    go : (o : Option (List ℕ)) → text_in format ≡ o → format_rules s format o (items-the_row-Expr m row) ≡ [] → Fits s format (items-the_row-Expr m row)
+    go : (o : Option (List ℕ)) → quoted_text format ≡ o → format_rules s format o (items-the_row-Expr m row) ≡ [] → Fits s format (items-the_row-Expr m row)
     go None is none = absurd (fine_good (sort_of s format) fine (unbroken _ s (expression_place format) E17 none))
     go (Some text) is none = read text is (pieces_of text) refl (shown_codes s (expression_place format) (format_codes text) row others none)

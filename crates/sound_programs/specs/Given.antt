@@ -8,7 +8,7 @@ use Rattle.typed_tree.specs.declared.program.Typed.{Typed}
 use Rattle.typed_tree.specs.SoundStatement.{Around}
 use Rattle.capl_meaning.specs.Variable.{Misfit, Variable}
 use Rattle.capl_meaning.specs.Names.{Function, Names, OfProgram, Scope, callee}
-use Rattle.capl_meaning.specs.Calls.{calls_of}
+use Rattle.capl_meaning.specs.Calls.{names_called}
 use Rattle.capl_meaning.specs.StatementRules.{in_body, statement_offences}
 use Rattle.typed_laws.specs.Laid.{HasForm}
 use Rattle.typed_source.specs.Sound.{HasTables, IsCallable}
@@ -36,7 +36,7 @@ pub record StandsIn (s : Scope) (order : List ℕ) (typed : Typed) (number befor
     Type 0 where
   pub well_formed : IsBodyPart statement
   pub small : IsSmallStmt statement
-  pub callable : AreCallable s.names order typed number (calls_of statement)
+  pub callable : AreCallable s.names order typed number (names_called statement)
   pub formats : StandFrom before (formats_of s statement) typed.formats
   pub no_offence : statement_offences s in_body statement ≡ []
 

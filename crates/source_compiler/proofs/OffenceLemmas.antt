@@ -3,7 +3,7 @@ use Rattle.std.proofs.Common.{◌≡◌, List, [], sym, subst, ◌∙◌, arith,
 use Rattle.std.specs.Prelude.{Contains}
 use Rattle.std.proofs.lemmas.List.Elements.{All-contains}
 use Rattle.texts.specs.declared.blame.Blame.{Blame}
-use Rattle.capl_include.specs.Blame.{source_rule}
+use Rattle.texts.specs.Rule.{source_rule}
 use Rattle.capl_include.specs.declared.expanded.SourceFile.{SourceFile}
 use Rattle.capl_meaning.specs.Offences.{IsFirst, IsNoLater, offences_of}
 use Rattle.capl_meaning.specs.declared.offence.Offence.{Offence}

@@ -3,7 +3,7 @@ use Rattle.std.proofs.Common.{◌≡◌, ℕ, zero, suc, ◌+◌, ◌-◌, ◌�
 use Rattle.std.specs.Prelude.{Bool, true, false, ◌==◌, if◌then◌else◌, unwrap_or}
 use Rattle.std.specs.List.{after_last, starts_with}
 use Rattle.capl_include.specs.Text.{IsOfText}
-use Rattle.capl_lexer.specs.Reading.{Piece, Blank, Comment, Lexeme, AreFront, byte_order_mark, column_at, line_at, start_of, tokens_at}
+use Rattle.capl_lexer.specs.Reading.{Piece, Blank, Comment, Lexeme, AreFront, byte_order_mark, column_at, line_at, first_place, tokens_at}
 use Rattle.capl_lexer.specs.declared.token.Tok.{Tok}
 use Rattle.capl_lexer.specs.declared.token.Token.{Token}
 use Rattle.source_compiler.specs.Program.{column_past}
@@ -13,7 +13,7 @@ some_same : (one other : Token) → (let found : Option Token = Some one in foun
 some_same one other is = ap (λ (found : Option Token). unwrap_or found one) is
 
 -- a byte order mark has three bytes
-start_small : (text : List ℕ) → start_of text ≤ 3
+start_small : (text : List ℕ) → first_place text ≤ 3
 start_small text = by_test (starts_with nat_eq text byte_order_mark) where
   by_test : (test : Bool) → (if test then 3 else 0) ≤ 3
   by_test true = omega arith
@@ -54,7 +54,7 @@ pieces_within whole place (Lexeme bytes t ∷ pieces) text rest front (suc n) to
 -- the column past a token of a text fits into 32 bits
 column_fits : (tokens : List Token) → IsOfText tokens → (n : ℕ) (token : Token) → slice_get tokens n ≡ Some token → column_past token < 2 ^ 32
 column_fits tokens of n token is =
-    let start = start_of of.text in
+    let start = first_place of.text in
     let reach = pieces_within of.text start of.reading.0 (drop start of.text) [] of.reading.1 n token
     (subst (λ (list : List Token). slice_get list n ≡ Some token) of.reading.2 is) in
     omega (arith, reach, of.short, start_small of.text, length-drop start of.text)

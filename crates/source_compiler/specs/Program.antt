@@ -4,6 +4,7 @@ use Rattle.std.specs.List.{AllZip}
 use Rattle.std.specs.Option.{option_and_then, option_map}
 use Rattle.texts.specs.declared.blame.Blame.{Blame}
 use Rattle.texts.specs.declared.blame.Rule.{Rule}
+use Rattle.texts.specs.Rule.{source_rule}
 use Rattle.dbc_reader.specs.declared.message.DbcMessage.{DbcMessage}
 use Rattle.capl_lexer.specs.Screening.{Breaks}
 use Rattle.capl_lexer.specs.declared.token.Token.{Token}
@@ -15,7 +16,7 @@ use Rattle.capl_tree.specs.declared.file.FileTree.{FileTree}
 use Rattle.capl_tree.specs.declared.file.Program.{Program}
 use Rattle.capl_parser.specs.Refusal.{nesting_limit}
 use Rattle.viable_prefixes.specs.Prefix.{IsFirstWrong}
-use Rattle.capl_include.specs.Blame.{file_blame, place_blame, source_rule}
+use Rattle.capl_include.specs.Blame.{file_blame, place_blame}
 use Rattle.capl_include.specs.Expansion.{Contents, Expansion, Went, Stopped, IsExpansion}
 use Rattle.capl_include.specs.declared.expanded.SourceFile.{SourceFile}
 use Rattle.capl_meaning.specs.Offences.{IsFirstOffence, offences_of}

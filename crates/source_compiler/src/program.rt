@@ -1,8 +1,9 @@
 // The code of a program, from its files.
 
 ghost use Rattle.std.specs.Prelude.{◌≡◌, ◌≤◌, ◌<◌, ◌-◌, ◌^◌, ◌⊎◌, All, IfOk, length, map, slice_get};
+ghost use Rattle.texts.specs.Rule.{source_rule};
 ghost use Rattle.capl_include.specs.Answer.{token_count};
-ghost use Rattle.capl_include.specs.Blame.{file_blame, source_rule};
+ghost use Rattle.capl_include.specs.Blame.{file_blame};
 ghost use Rattle.capl_include.specs.Expansion.{file_limit};
 ghost use Rattle.capl_include.specs.Text.{AreOfTexts, IsOfText};
 ghost use Rattle.capl_lexer.specs.Reading.{token_limit};

@@ -1,7 +1,7 @@
 // The rules that sources break.
 
 ghost use Rattle.std.specs.Prelude.{◌≡◌};
-ghost use Rattle.capl_include.specs.Blame.{source_rule};
+ghost use Rattle.texts.specs.Rule.{source_rule};
 
 use texts::Rule;
 

@@ -31,15 +31,15 @@ use Rattle.capl_tree.specs.Forms as tree
 use Rattle.capl_meaning.specs.declared.builtin.Builtin.TheVariants as builtin
 use Rattle.capl_meaning.specs.Variable.{Variable}
 use Rattle.capl_meaning.specs.Names.{Callee, OfLanguage, OfProgram, Unknown, callee, means}
-use Rattle.capl_meaning.specs.Format.{text_in}
+use Rattle.capl_meaning.specs.Format.{quoted_text}
 use Rattle.capl_meaning.specs.Message.{Held, HeldVariable, array_in, is_number_place, message_in}
 use Rattle.capl_meaning.specs.Operator.{prefix_value, truth_of}
 use Rattle.capl_meaning.specs.Sort.{is_number, kind_in, sort_of}
 use Rattle.capl_meaning.specs.Constant.{branches_kind, elements_of, operands_kind, prefix_kind}
-use Rattle.capl_meaning.specs.Calls.{calls_in, calls_in_labels, calls_in_part, calls_in_row, calls_of, calls_of_arms, calls_of_else, calls_of_groups, calls_of_row}
+use Rattle.capl_meaning.specs.Calls.{calls_in, calls_in_labels, calls_in_part, calls_in_row, names_called, calls_of_arms, calls_of_else, calls_of_groups, calls_of_row}
 use Rattle.capl_meaning.specs.Store.{MessageRecord, message_cells, timer_number, unit_of}
-use Rattle.capl_meaning.specs.Expression.{InBytes, InElement, InField, InNumber, InSignal, Memory, Nowhere, Setting, Spot, call_value, calling, element_spot, field_spot, gives_or_traps, held_message, indexing, kind_of_elements, operates, part_spot, place_spot, reads, spot_of, step_operator, steps, stores, timer_in, value_of, value_of_name, values_of, with_arguments, with_store}
-use Rattle.capl_meaning.specs.Statement.{alone_of, arms_of, assigns, calls_alone, cancels, drops, else_of, fitting_pieces, for_test, group_for, groups_of, labels_of, numbers_of, part_of, returns, sends, sets, sets_timer, stmt_of, stmts_of, unless_closed, with_line, with_timer, wrapped_to, writes_line}
+use Rattle.capl_meaning.specs.Expression.{InBytes, InElement, InField, InNumber, InSignal, Memory, Nowhere, Setting, Spot, call_value, calling, element_spot, field_spot, gives_or_traps, held_message, indexing, kind_of_elements, operates, part_spot, place_spot, reads, spot_of, step_operator, step_by_one, stores, timer_in, value_of, value_of_name, values_of, with_arguments, with_store}
+use Rattle.capl_meaning.specs.Statement.{alone_of, arms_of, assigns, calls_alone, cancels, drops, else_of, fitting_pieces, for_test, group_for, groups_of, group_labels, numbers_of, part_of, returns, sends, sets, sets_timer, stmt_of, stmts_of, unless_closed, with_line, with_timer, wrapped_to, writes_line}
 use Rattle.capl_meaning.specs.Procedure.{runs}
 
 -- ---- what holds of the names of two lists
@@ -139,7 +139,7 @@ module _ (P : Effect → Type 0) (s : Setting) (call : Calls Memory) (calls : (f
   stores_fine (InBytes held k i) n w fine = fine
   stores_fine (InSignal held l) n w fine = fine
 
-  steps_fine : (operator : BinOp) (behind : Bool) (k : Kind) (spot : Spot) → Keeps P (steps s operator behind k spot)
+  steps_fine : (operator : BinOp) (behind : Bool) (k : Kind) (spot : Spot) → Keeps P (step_by_one s operator behind k spot)
   steps_fine operator behind k spot w fine =
       then_fine P (reads s spot w) (λ old w. and_then (operates operator (join k Long) old (pos 1) w) (λ new w. run_map (λ now. if behind then old else now) (stores s spot new w))) fine
       (λ old w fine. then_fine P (operates operator (join k Long) old (pos 1) w) (λ new w. run_map (λ now. if behind then old else now) (stores s spot new w))
@@ -187,15 +187,15 @@ module _ (P : Effect → Type 0) (s : Setting) (call : Calls Memory) (calls : (f
         (part_fine (message_in s.scope base) (field_spot s call field) (λ held w fine. field_fine field held w fine) w fine) (λ spot w fine. fine)
     value_fine (tree.Cast k inner at) w fine = map_fine P (wrap k) (value_of s call inner w) (value_fine inner w fine)
     value_fine (tree.Unary prefix.Up inner at) w fine =
-        then_fine P (place_spot s inner (spot_of s call inner) w) (steps s op.Add false (kind_in (sort_of s.scope inner)))
+        then_fine P (place_spot s inner (spot_of s call inner) w) (step_by_one s op.Add false (kind_in (sort_of s.scope inner)))
         (place_fine inner (spot_of s call inner) (λ w fine. spot_fine inner w fine) w fine) (steps_fine op.Add false (kind_in (sort_of s.scope inner)))
     value_fine (tree.Unary prefix.Down inner at) w fine =
-        then_fine P (place_spot s inner (spot_of s call inner) w) (steps s op.Sub false (kind_in (sort_of s.scope inner)))
+        then_fine P (place_spot s inner (spot_of s call inner) w) (step_by_one s op.Sub false (kind_in (sort_of s.scope inner)))
         (place_fine inner (spot_of s call inner) (λ w fine. spot_fine inner w fine) w fine) (steps_fine op.Sub false (kind_in (sort_of s.scope inner)))
     value_fine (tree.Unary operator inner at) w fine =
         map_fine P (prefix_value operator (prefix_kind s.scope inner)) (value_of s call inner w) (value_fine inner w fine)
     value_fine (tree.Post up inner at) w fine =
-        then_fine P (place_spot s inner (spot_of s call inner) w) (steps s (step_operator up) true (kind_in (sort_of s.scope inner)))
+        then_fine P (place_spot s inner (spot_of s call inner) w) (step_by_one s (step_operator up) true (kind_in (sort_of s.scope inner)))
         (place_fine inner (spot_of s call inner) (λ w fine. spot_fine inner w fine) w fine) (steps_fine (step_operator up) true (kind_in (sort_of s.scope inner)))
     value_fine (tree.Binary op.AndAlso left right at) w fine =
         deciding_fine P (value_of s call left w) (λ w. run_map truth_of (value_of s call right w)) (Gives (pos 0)) (value_fine left w fine)
@@ -297,7 +297,7 @@ module _ (P : Effect → Type 0) (s : Setting) (call : Calls Memory) (calls : (f
     call_alone_fine : (name : List ℕ) → Q name → (c : Callee) → callee s.scope.names name ≡ c → (args : List Expr) (rest : Does Memory) → Keeps P rest → Keeps P (calls_alone s call c args rest)
     call_alone_fine name own (OfLanguage builtin.Output) is (message ∷ []) rest keeps w fine = sends_fine (sent name own is) (message_in s.scope message) w fine
     call_alone_fine name own (OfLanguage builtin.Write) is (format ∷ arguments) rest keeps w fine =
-        line_fine (fitting_pieces (map (sort_of s.scope) arguments) (text_in format)) arguments w fine
+        line_fine (fitting_pieces (map (sort_of s.scope) arguments) (quoted_text format)) arguments w fine
     call_alone_fine name own (OfLanguage builtin.SetTimer) is (timer ∷ duration ∷ []) rest keeps w fine =
         timer_fine timer (timer_in s.scope timer) refl false (value_of s call duration) (value_fine duration) w fine
     call_alone_fine name own (OfLanguage builtin.SetTimerCyclic) is (timer ∷ duration ∷ []) rest keeps w fine =
@@ -334,7 +334,7 @@ module _ (P : Effect → Type 0) (s : Setting) (call : Calls Memory) (calls : (f
     -- ---- statements
 
     mutual
-      stmt_fine : (n : ℕ) (statement : Stmt) → All Q (calls_of statement) → Keeps P (stmt_of s call n statement)
+      stmt_fine : (n : ℕ) (statement : Stmt) → All Q (names_called statement) → Keeps P (stmt_of s call n statement)
       stmt_fine n stmt.Empty own w fine = fine
       stmt_fine n (stmt.Block' shape body) own w fine = stmts_fine n body own w fine
       stmt_fine n (stmt.Decl declaration) own w fine = fine
@@ -342,21 +342,21 @@ module _ (P : Effect → Type 0) (s : Setting) (call : Calls Memory) (calls : (f
       stmt_fine n (stmt.If' shape arms last) own w fine =
           arms_fine n arms (All-front Q (calls_of_arms arms) (calls_of_else last) own) (else_of s call n last) (λ w fine. else_fine n last (All-back Q (calls_of_arms arms) (calls_of_else last) own) w fine) w fine
       stmt_fine n (tree.While test body) own w fine =
-          let inside = All-back Q (calls_in test) (calls_of body) own in
+          let inside = All-back Q (calls_in test) (names_called body) own in
           loop_fine P (suc n) (value_of s call test) (stmt_of s call n body) nothing (λ w fine. value_fine test w fine) (λ w fine. stmt_fine n body inside w fine) (nothing_fine P) w fine
       stmt_fine n (tree.Do body test) own w fine =
-          let inside = All-front Q (calls_of body) (calls_in test) own in
+          let inside = All-front Q (names_called body) (calls_in test) own in
           round_fine P (stmt_of s call n body) (loop n (value_of s call test) (stmt_of s call n body) nothing) (λ w fine. stmt_fine n body inside w fine)
           (loop_fine P n (value_of s call test) (stmt_of s call n body) nothing (λ w fine. value_fine test w fine) (λ w fine. stmt_fine n body inside w fine) (nothing_fine P)) w fine
       stmt_fine n (tree.For init test step body) own w fine =
-          let first = All-front Q (calls_in_part init) (calls_in_part test ++ (calls_in_part step ++ calls_of body)) own in
-          let rest = All-back Q (calls_in_part test) (calls_in_part step ++ calls_of body) (All-back Q (calls_in_part init) (calls_in_part test ++ (calls_in_part step ++ calls_of body)) own) in
-          let inside = All-back Q (calls_in_part step) (calls_of body) rest in
+          let first = All-front Q (calls_in_part init) (calls_in_part test ++ (calls_in_part step ++ names_called body)) own in
+          let rest = All-back Q (calls_in_part test) (calls_in_part step ++ names_called body) (All-back Q (calls_in_part init) (calls_in_part test ++ (calls_in_part step ++ names_called body)) own) in
+          let inside = All-back Q (calls_in_part step) (names_called body) rest in
           followed_fine P (part_of s call init) (loop (suc n) (for_test s call test) (stmt_of s call n body) (part_of s call step)) (part_of_fine init first)
           (loop_fine P (suc n) (for_test s call test) (stmt_of s call n body) (part_of s call step) (test_fine test) (λ w fine. stmt_fine n body inside w fine)
-          (part_of_fine step (All-front Q (calls_in_part step) (calls_of body) rest))) w fine
+          (part_of_fine step (All-front Q (calls_in_part step) (names_called body) rest))) w fine
       stmt_fine n (stmt.Switch' on shape groups) own w fine =
-          let chosen : ℤ → ℕ = λ v. group_for (wrap (prefix_kind s.scope on) v) (labels_of s.scope (prefix_kind s.scope on) groups) in
+          let chosen : ℤ → ℕ = λ v. group_for (wrap (prefix_kind s.scope on) v) (group_labels s.scope (prefix_kind s.scope on) groups) in
           let inside = All-back Q (calls_in on) (calls_of_groups groups) own in
           then_fine P (value_of s call on w) (λ v w. and_then (groups_of s call n groups (chosen v) w) leaving_switch) (value_fine on w fine)
           (λ v w fine. then_fine P (groups_of s call n groups (chosen v) w) leaving_switch (groups_fine n groups inside (chosen v) w fine) (leaving_fine P))
@@ -367,16 +367,16 @@ module _ (P : Effect → Type 0) (s : Setting) (call : Calls Memory) (calls : (f
       stmts_fine : (n : ℕ) {m : Count} (row : Row_of-Stmt m) → All Q (calls_of_row row) → Keeps P (stmts_of s call n row)
       stmts_fine n end_of-Stmt own w fine = fine
       stmts_fine n (more_of-Stmt first rest) own w fine =
-          let one = All-front Q (calls_of first) (calls_of_row rest) own in
-          let more = All-back Q (calls_of first) (calls_of_row rest) own in
+          let one = All-front Q (names_called first) (calls_of_row rest) own in
+          let more = All-back Q (names_called first) (calls_of_row rest) own in
           followed_fine P (stmt_of s call n first) (stmts_of s call n rest) (λ w fine. stmt_fine n first one w fine) (λ w fine. stmts_fine n rest more w fine) w fine
 
       arms_fine : (n : ℕ) {m : Count} (row : Row_of-Arm m) → All Q (calls_of_arms row) → (last : Does Memory) → Keeps P last → Keeps P (arms_of s call n row last)
       arms_fine n end_of-Arm own last keeps w fine = keeps w fine
       arms_fine n (more_of-Arm test body rest) own last keeps w fine =
-          let behind = All-back Q (calls_in test) (calls_of body ++ calls_of_arms rest) own in
-          let one = All-front Q (calls_of body) (calls_of_arms rest) behind in
-          let more = All-back Q (calls_of body) (calls_of_arms rest) behind in
+          let behind = All-back Q (calls_in test) (names_called body ++ calls_of_arms rest) own in
+          let one = All-front Q (names_called body) (calls_of_arms rest) behind in
+          let more = All-back Q (names_called body) (calls_of_arms rest) behind in
           deciding_fine P (value_of s call test w) (stmt_of s call n body) (arms_of s call n rest last) (value_fine test w fine)
           (λ w fine. stmt_fine n body one w fine) (λ w fine. arms_fine n rest more last keeps w fine)
 
@@ -395,8 +395,8 @@ module _ (P : Effect → Type 0) (s : Setting) (call : Calls Memory) (calls : (f
           let more = All-back Q (calls_of_row body) (calls_of_groups rest) (All-back Q (calls_in_labels labels) (calls_of_row body ++ calls_of_groups rest) own) in groups_fine n rest more k w fine
 
     -- the statements of a procedure
-    pub runs_fine : (n : ℕ) (body : List Stmt) → All Q (flat_map calls_of body) → Keeps P (runs s call n body)
+    pub runs_fine : (n : ℕ) (body : List Stmt) → All Q (flat_map names_called body) → Keeps P (runs s call n body)
     runs_fine n [] own w fine = fine
     runs_fine n (statement ∷ body) own w fine =
-        followed_fine P (stmt_of s call n statement) (runs s call n body) (stmt_fine n statement (All-front Q (calls_of statement) (flat_map calls_of body) own))
-        (runs_fine n body (All-back Q (calls_of statement) (flat_map calls_of body) own)) w fine
+        followed_fine P (stmt_of s call n statement) (runs s call n body) (stmt_fine n statement (All-front Q (names_called statement) (flat_map names_called body) own))
+        (runs_fine n body (All-back Q (names_called statement) (flat_map names_called body) own)) w fine

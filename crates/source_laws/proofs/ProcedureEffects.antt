@@ -14,7 +14,7 @@ use Rattle.capl_tree.specs.declared.statement.Stmt.{Stmt}
 use Rattle.capl_meaning.specs.declared.builtin.Builtin.TheVariants as builtin
 use Rattle.capl_meaning.specs.Variable.{Variable}
 use Rattle.capl_meaning.specs.Names.{Function, OfLanguage, Scope, callee}
-use Rattle.capl_meaning.specs.Calls.{calls_of as calls_in_statement, function_numbered}
+use Rattle.capl_meaning.specs.Calls.{names_called as calls_in_statement, function_numbered}
 use Rattle.capl_meaning.specs.Store.{MessageRecord, message_cells, timer_number, unit_of}
 use Rattle.capl_meaning.specs.Expression.{Memory, Setting, timer_in}
 use Rattle.capl_meaning.specs.Procedure.{calls_of, ending, function_runs, in_function, runs, runs_numbered}

@@ -21,12 +21,12 @@ use Rattle.stack_vm.specs.Frame.{message_of}
 use Rattle.node_rounds.specs.declared.occurrence.Occurrence.{Occurrence}
 use Rattle.node_rounds.specs.declared.occurrence.Occurrence.TheVariants as happens
 use Rattle.node_rounds.specs.declared.round.Seen.{Seen}
-use Rattle.node_rounds.specs.Procedures.{else_other, first_where, is_any_key, is_key, is_message, is_pre_start, is_start, is_stop, is_timer, key_procedure, message_procedure, numbers_where, procedures_for}
+use Rattle.node_rounds.specs.Procedures.{else_other, first_where, is_any_key, is_key, is_for_message, is_pre_start, is_start, is_stop, is_for_timer, key_procedure, message_procedure, numbers_where, procedures_for}
 use Rattle.node_run.specs.Code.{cells_with_this}
 use Rattle.capl_meaning.specs.Variable.{Form, Number, Array, Message, Timer, Misfit, Part, Globals, Procedure, Variable}
 use Rattle.capl_meaning.specs.Names.{Names, NoThis, ThisForm, ThisFrame, ThisKey, inside, this_form}
 use Rattle.capl_meaning.specs.Constant.{elements_of}
-use Rattle.capl_meaning.specs.Store.{Key, Store, This, cells_by, cells_of, event_cells, event_kinds, key_of, kinds_by, laid_kinds, lay, message_cells, row}
+use Rattle.capl_meaning.specs.Store.{Key, Store, This, cells_by, cells_of, event_cells, event_kinds, variable_key, kinds_by, laid_kinds, lay, message_cells, row}
 use Rattle.capl_meaning.specs.Procedure.{Handler, event_of, handlers_of_part}
 use Rattle.source_laws.specs.Reaction.{seen_message, this_of}
 use Rattle.typed_laws.specs.Seen.{SameSeen}
@@ -158,7 +158,7 @@ stop_sees : (now : ℕ) (t : This) (e : Event) → is_stop e ≡ true → Sees h
 stop_sees now t event.Stop holds form is = none_seen _ _ form is
 stop_sees now t _ holds form is = absurd (true≢false (sym holds))
 
-timer_sees : (timer now : ℕ) (t : This) (e : Event) → is_timer timer e ≡ true → Sees (happens.Timer timer) now t e
+timer_sees : (timer now : ℕ) (t : This) (e : Event) → is_for_timer timer e ≡ true → Sees (happens.Timer timer) now t e
 timer_sees timer now t (event.Timer own) holds form is = none_seen _ _ form is
 timer_sees timer now t _ holds form is = absurd (true≢false (sym holds))
 
@@ -173,7 +173,7 @@ any_key_sees : (key now : ℕ) (t : This) (e : Event) → is_any_key e ≡ true 
 any_key_sees key now t (event.Key own) holds form is = key_form_sees key now t form is
 any_key_sees key now t _ holds form is = absurd (true≢false (sym holds))
 
-message_sees : (seen : Seen) (now rank : ℕ) (t : This) (e : Event) → is_message rank (selection_key seen.frame.ident) e ≡ true → Sees (happens.Frame seen) now t e
+message_sees : (seen : Seen) (now rank : ℕ) (t : This) (e : Event) → is_for_message rank (selection_key seen.frame.ident) e ≡ true → Sees (happens.Frame seen) now t e
 message_sees seen now rank t (event.Message selectors) holds form is =
     subst (λ f. SameSeen f (this_seen (happens.Frame seen) now t) (this_of (happens.Frame seen) now)) (sym is.1) refl
 message_sees seen now rank t _ holds form is = absurd (true≢false (sym holds))
@@ -192,14 +192,14 @@ procedure_sees events happens.Start now t number among = seen_by is_start _ even
 procedure_sees events happens.Stop now t number among = seen_by is_stop _ events number (stop_sees now t) (numbers_at is_stop events number among)
 procedure_sees events (happens.Frame seen) now t number among =
     let key : ℕ = selection_key seen.frame.ident in
-    let by : (rank : ℕ) → first_where (is_message rank key) events ≡ Some number → EventAt (Sees (happens.Frame seen) now t) events number =
-    λ rank is. seen_by (is_message rank key) _ events number (message_sees seen now rank t) (first_at (is_message rank key) events number is) in
-    elim (else_either (first_where (is_message 0 key) events) _ number (only_one (message_procedure events key) number among)) [
+    let by : (rank : ℕ) → first_where (is_for_message rank key) events ≡ Some number → EventAt (Sees (happens.Frame seen) now t) events number =
+    λ rank is. seen_by (is_for_message rank key) _ events number (message_sees seen now rank t) (first_at (is_for_message rank key) events number is) in
+    elim (else_either (first_where (is_for_message 0 key) events) _ number (only_one (message_procedure events key) number among)) [
       | inl is ↦ by 0 is
-      | inr other ↦ elim (else_either (first_where (is_message 1 key) events) _ number other) [ inl is ↦ by 1 is | inr is ↦ by 2 is ]
+      | inr other ↦ elim (else_either (first_where (is_for_message 1 key) events) _ number other) [ inl is ↦ by 1 is | inr is ↦ by 2 is ]
     ]
 procedure_sees events (happens.Timer timer) now t number among =
-    seen_by (is_timer timer) _ events number (timer_sees timer now t) (first_at (is_timer timer) events number (only_one (first_where (is_timer timer) events) number among))
+    seen_by (is_for_timer timer) _ events number (timer_sees timer now t) (first_at (is_for_timer timer) events number (only_one (first_where (is_for_timer timer) events) number among))
 procedure_sees events (happens.Key key) now t number among =
     elim (else_either (first_where (is_key key) events) _ number (only_one (key_procedure events key) number among)) [
       | inl is ↦ seen_by (is_key key) _ events number (key_sees key now t) (first_at (is_key key) events number is)
@@ -272,7 +272,7 @@ form_long s k elements Misfit = refl
 lay_long : (names : Names) (s : Store) (vs : List Variable) → length (flat_map (cells_of names s) vs) ≡ length (flat_map (λ v. kinds_by (elements_of names v) v.form) vs)
 lay_long names s [] = refl
 lay_long names s (v ∷ vs) =
-    let one = form_long s (key_of v) (elements_of names v) v.form in
+    let one = form_long s (variable_key v) (elements_of names v) v.form in
     let more = lay_long names s vs in
     let a : length (cells_of names s v ++ flat_map (cells_of names s) vs) ≡ length (cells_of names s v) + length (flat_map (cells_of names s) vs) = length-append (cells_of names s v) (flat_map (cells_of names s) vs) in
     let b = length-append (kinds_by (elements_of names v) v.form) (flat_map (λ v. kinds_by (elements_of names v) v.form) vs) in

@@ -11,7 +11,7 @@ use Rattle.node_rounds.specs.declared.round.Round.TheVariants as round_of
 use Rattle.node_rounds.specs.Reaction.{Done, Reacts}
 use Rattle.node_rounds.specs.Round.{Doing, DoesNext, IsDone, IsPart, PartOf, Task, at_begin, task_of}
 use Rattle.run_meaning.specs.Moments.{keys_at}
-use Rattle.run_meaning.specs.Run.{AreInstants, AreParts, IsBegun, IsEnded, IsInstant, IsRound, IsRun, IsSecond, Passed, RunState, finished, quiet_round, seen_by}
+use Rattle.run_meaning.specs.Run.{AreInstants, AreParts, HasBegun, IsEnded, IsInstant, IsRound, IsRun, IsSecond, Passed, RunState, finished, quiet_round, seen_by}
 use Rattle.replay_laws.specs.Tasks.{AllTasks}
 use Rattle.replay_laws.proofs.Projection.{rounds_of}
 
@@ -94,7 +94,7 @@ module _ {S B : Type 0} (r : Reacts S) (bus : BusMeaning B) (sound : S → Type 
       let more = instants_each until is.0 instants after one.1 is.2 in
       (both_rounds rounds (rounds_of instants) one.0 more.0, more.1)
 
-  begun_each : (before : RunState S B) (rounds : List Passed) (after : RunState S B) → AllByRecursion sound before.nodes → IsBegun r bus before rounds after → RoundsHeld rounds after.nodes
+  begun_each : (before : RunState S B) (rounds : List Passed) (after : RunState S B) → AllByRecursion sound before.nodes → HasBegun r bus before rounds after → RoundsHeld rounds after.nodes
   begun_each before rounds after held is =
       let pre = round_each round_of.PreStart None [] before is.before_start is.between held is.pre_starts in
       let start = round_each round_of.Start None (keys_at 0 before.keys) is.between is.start is.end pre.1 is.starts in (

@@ -10,7 +10,7 @@ use Rattle.log_line.specs.Written.{IsLoggable}
 use Rattle.timer_queue.specs.Timers.{active_timers}
 use Rattle.node_rounds.specs.declared.occurrence.Occurrence.{Occurrence}
 use Rattle.node_rounds.specs.declared.occurrence.Trigger.{Trigger}
-use Rattle.node_rounds.specs.Effects.{requests_of, stops_of}
+use Rattle.node_rounds.specs.Effects.{requested_frames, stops_of}
 use Rattle.node_rounds.specs.Reaction.{Done, DoesProcedure, NodeState, RunEnd, is_closed, timers_at_begin, without_procedure}
 use Rattle.node_rounds.specs.Round.{task_of}
 use Rattle.node_run.proofs.SentFrames.{IsFrame-frame_of}
@@ -131,15 +131,15 @@ AsksNone Stop = ⊥
 AsksNone (Set timer micros cyclic) = ⊤
 AsksNone (Cancel timer) = ⊤
 
-requests_logged : (effects : List Effect) → All CanBeLogged effects → All IsLoggable (requests_of effects)
+requests_logged : (effects : List Effect) → All CanBeLogged effects → All IsLoggable (requested_frames effects)
 requests_logged [] all = All-nil _
 requests_logged (Line text ∷ effects) all = requests_logged effects (All-tail CanBeLogged (Line text) effects all)
-requests_logged (Send frame ∷ effects) all = All-cons IsLoggable frame (requests_of effects) (All-head CanBeLogged (Send frame) effects all) (requests_logged effects (All-tail CanBeLogged (Send frame) effects all))
+requests_logged (Send frame ∷ effects) all = All-cons IsLoggable frame (requested_frames effects) (All-head CanBeLogged (Send frame) effects all) (requests_logged effects (All-tail CanBeLogged (Send frame) effects all))
 requests_logged (Stop ∷ effects) all = requests_logged effects (All-tail CanBeLogged Stop effects all)
 requests_logged (Set timer micros cyclic ∷ effects) all = requests_logged effects (All-tail CanBeLogged (Set timer micros cyclic) effects all)
 requests_logged (Cancel timer ∷ effects) all = requests_logged effects (All-tail CanBeLogged (Cancel timer) effects all)
 
-nothing_asked : (effects : List Effect) → All AsksNone effects → (requests_of effects ≡ []) × (stops_of effects ≡ false)
+nothing_asked : (effects : List Effect) → All AsksNone effects → (requested_frames effects ≡ []) × (stops_of effects ≡ false)
 nothing_asked [] all = (refl, refl)
 nothing_asked (Line text ∷ effects) all = nothing_asked effects (All-tail AsksNone (Line text) effects all)
 nothing_asked (Send frame ∷ effects) all = absurd (All-head AsksNone (Send frame) effects all)

@@ -3,7 +3,7 @@ use Rattle.std.specs.Prelude.{ℕ, ◌≢◌, List, [], All, codes}
 use Rattle.std.specs.List.{flat_map}
 use Rattle.capl_tree.specs.declared.file.Program.{Program}
 use Rattle.capl_tree.specs.declared.statement.Stmt.{Stmt}
-use Rattle.capl_meaning.specs.Calls.{calls_of}
+use Rattle.capl_meaning.specs.Calls.{names_called}
 use Rattle.capl_meaning.specs.Variable.{Globals, Part, Procedure, parts_of}
 
 -- the statements of a part of a program, if it is a procedure
@@ -13,7 +13,7 @@ body_of (Procedure number file procedure) = procedure.body
 
 -- the names that a part of a program calls, if it is a procedure
 abbrev pub called_by_part : Part → List (List ℕ)
-called_by_part part = flat_map calls_of (body_of part)
+called_by_part part = flat_map names_called (body_of part)
 
 -- the names that the procedures of a program call
 abbrev pub called_in : Program → List (List ℕ)

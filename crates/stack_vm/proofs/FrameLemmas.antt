@@ -11,7 +11,7 @@ use Rattle.can_frame.specs.Frame.{FrameFields, IsFrame, IsIdent, data_len, data_
 use Rattle.int_kinds.specs.declared.kinds.Kind.TheVariants.{Byte, Word, Dword}
 use Rattle.int_kinds.specs.Arithmetic.{residue}
 use Rattle.int_kinds.specs.Kind.{Holds}
-use Rattle.message_cells.specs.Message.{field, frame_of, id_of, ident_of, is_remote, message_kinds, payload_of, written_dlc, written_id, written_rtr}
+use Rattle.message_cells.specs.Message.{field_number, frame_of, id_of, ident_of, is_remote, message_kinds, payload_of, written_dlc, written_id, written_rtr}
 use Rattle.message_cells.proofs.Identifiers.{ident_of-written_id}
 use Rattle.bytecode.specs.Runs.{HoldKinds}
 use Rattle.stack_vm.specs.Frame.{message_of}
@@ -56,25 +56,25 @@ HoldKinds-message f sent now is =
 -- ---- the frame of a message
 
 -- how many data bytes a frame with a message's remote bit and length has
-pub data_len_same : (f : FrameFields) (message : List ℤ) → f.remote ≡ is_remote message → f.dlc ≡ written_dlc (field message 1) →
-    data_len f ≡ data_len_of (is_remote message) (written_dlc (field message 1))
+pub data_len_same : (f : FrameFields) (message : List ℤ) → f.remote ≡ is_remote message → f.dlc ≡ written_dlc (field_number message 1) →
+    data_len f ≡ data_len_of (is_remote message) (written_dlc (field_number message 1))
 data_len_same f message r d =
     ap (λ (b : Bool). data_len_of b f.dlc) r ∙ ap (λ (n : ℕ). data_len_of (is_remote message) n) d
 
 -- a frame with the fields of a message is the message's frame
-pub frame_same : (f : FrameFields) (message : List ℤ) → f.ident ≡ ident_of (written_id (field message 0)) →
-    f.remote ≡ is_remote message → f.dlc ≡ written_dlc (field message 1) →
+pub frame_same : (f : FrameFields) (message : List ℤ) → f.ident ≡ ident_of (written_id (field_number message 0)) →
+    f.remote ≡ is_remote message → f.dlc ≡ written_dlc (field_number message 1) →
     f.payload ≡ padded (data_len f) (payload_of message) → f.can ≡ 1 → f ≡ frame_of message
 frame_same f message i r d p c =
-    let p' : f.payload ≡ padded (data_len_of (is_remote message) (written_dlc (field message 1))) (payload_of message) = p ∙ ap (λ (n : ℕ). padded n (payload_of message)) (data_len_same f message r d) in
+    let p' : f.payload ≡ padded (data_len_of (is_remote message) (written_dlc (field_number message 1))) (payload_of message) = p ∙ ap (λ (n : ℕ). padded n (payload_of message)) (data_len_same f message r d) in
     ap (λ (ident : Ident). record f { ident = ident }) i
-    ∙ ap (λ (b : Bool). record f { ident = ident_of (written_id (field message 0)); remote = b }) r
+    ∙ ap (λ (b : Bool). record f { ident = ident_of (written_id (field_number message 0)); remote = b }) r
     ∙ ap (λ (n : ℕ). record (frame_of message) { dlc = n; payload = f.payload; can = f.can }) d
     ∙ ap (λ (bytes : List ℕ). record (frame_of message) { payload = bytes; can = f.can }) p'
     ∙ ap (λ (n : ℕ). record (frame_of message) { can = n }) c
 
 -- the number in a message's cell is the number in one of the cells
-pub field_at : (cells : List ℤ) (at i : ℕ) → i < 14 → get_or cells (at + i) (pos 0) ≡ field (take 14 (drop at cells)) i
+pub field_at : (cells : List ℤ) (at i : ℕ) → i < 14 → get_or cells (at + i) (pos 0) ≡ field_number (take 14 (drop at cells)) i
 field_at cells at i h = sym (get_or-take 14 (drop at cells) i (pos 0) h ∙ get_or-drop at cells i (pos 0))
 
 -- ---- the frame of a frame's message

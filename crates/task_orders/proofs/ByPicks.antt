@@ -12,7 +12,7 @@ use Rattle.node_rounds.specs.declared.round.Round.TheVariants as rounds_of
 use Rattle.node_rounds.specs.Reaction.{Reacts}
 use Rattle.node_rounds.specs.Round.{IsDone, Task}
 use Rattle.run_meaning.specs.Moments.{keys_at}
-use Rattle.run_meaning.specs.Order.{in_order, picks_after, task_count}
+use Rattle.run_meaning.specs.Order.{tasks_in_order, picks_after, task_count}
 use Rattle.run_meaning.specs.Run.{AreInstants, AreParts, IsEnded, IsRound, IsRun, IsSecond, Passed, RunState, after_round, finished, new_run, quiet_round, settled}
 use Rattle.run_meaning.specs.Steps.{Step, ended_steps, round_steps, steps, task_done, task_steps}
 use Rattle.run_meaning.proofs.Counts.{by_order}
@@ -74,7 +74,7 @@ module _ {S B : Type 0} (r : Reacts S) (bus : BusMeaning B) (until : ℕ) where
       }
 
   -- in the order of picks
-  tasks_made : RequestsCommute bus → (tasks : List (List Task)) (picks : List ℕ) → CanBeMade tasks (in_order tasks picks)
+  tasks_made : RequestsCommute bus → (tasks : List (List Task)) (picks : List ℕ) → CanBeMade tasks (tasks_in_order tasks picks)
   tasks_made commute tasks picks = by_order CanBeMade made_none (made_more commute) tasks picks
 
   -- ---- a round from its beginning on

@@ -19,7 +19,7 @@ use Rattle.node_rounds.specs.Reaction.{Reacts}
 use Rattle.node_rounds.specs.Round.{IsDone, Task}
 use Rattle.run_meaning.specs.Moments.{keys_at}
 use Rattle.run_meaning.specs.Order.{first_tasks, nodes_with_tasks, picked, picks_after}
-use Rattle.run_meaning.specs.Run.{AreParts, GoesOn, IsRun, IsSecond, Passed, RunState, after_round, finished, new_run, quiet_round, settled}
+use Rattle.run_meaning.specs.Run.{AreParts, RunsOn, IsRun, IsSecond, Passed, RunState, after_round, finished, new_run, quiet_round, settled}
 use Rattle.run_meaning.specs.Steps.{Step, steps, task_done, task_steps}
 use Rattle.run_meaning.proofs.OrderLemmas.{picks_put, put_task, steps_put}
 use Rattle.task_orders.specs.Moves.{BeginsAfter, BeginsInstant, BeginsNext, BeginsSecond, BeginsStop, DoesTask, IsInterleaving, IsPossible, Move, MoveAll, closes, does_task}
@@ -107,7 +107,7 @@ module _ {S B : Type 0} (r : Reacts S) (bus : BusMeaning B) (until many : ℕ) (
   -- ---- a round is closed
 
   -- a further instant, or the round of the stop
-  next_instant : (s : RunState S B) (happened : List Step) (between : World S B) → BeginsInstant r bus until s happened between → Comes between → Follow many (GoesOn r bus until s) happened end
+  next_instant : (s : RunState S B) (happened : List Step) (between : World S B) → BeginsInstant r bus until s happened between → Comes between → Follow many (RunsOn r bus until s) happened end
   next_instant s happened between begins comes =
       let now : ℕ = begins.moment in
       let next : RunState S B = finished bus now s in
@@ -149,7 +149,7 @@ module _ {S B : Type 0} (r : Reacts S) (bus : BusMeaning B) (until many : ℕ) (
         few = by.few;
       }
 
-  the_stop : (s : RunState S B) (happened : List Step) (between : World S B) → BeginsStop r bus until s happened between → Comes between → Follow many (GoesOn r bus until s) happened end
+  the_stop : (s : RunState S B) (happened : List Step) (between : World S B) → BeginsStop r bus until s happened between → Comes between → Follow many (RunsOn r bus until s) happened end
   the_stop s happened between begins comes =
       let next : RunState S B = record s { moment = begins.moment } in
       let by = begun in_stop None [] next happened (subst Comes begins.stands comes) in
@@ -168,7 +168,7 @@ module _ {S B : Type 0} (r : Reacts S) (bus : BusMeaning B) (until many : ℕ) (
         few = by.few;
       }
 
-  next_follows : (s : RunState S B) (happened : List Step) (between : World S B) → BeginsNext r bus until s happened between → Comes between → Follow many (GoesOn r bus until s) happened end
+  next_follows : (s : RunState S B) (happened : List Step) (between : World S B) → BeginsNext r bus until s happened between → Comes between → Follow many (RunsOn r bus until s) happened end
   next_follows s happened between begins comes = elim begins [
     | inl instant ↦ next_instant s happened between instant comes
     | inr stop ↦ the_stop s happened between stop comes
@@ -177,7 +177,7 @@ module _ {S B : Type 0} (r : Reacts S) (bus : BusMeaning B) (until many : ℕ) (
   -- a second round of an instant, or none
   second_follows : (ended : Option Ended) (s : RunState S B) (happened : List Step) (between : World S B) → BeginsSecond r bus until ended s happened between → Comes between
       → (more : List Passed) × (over : RunState S B) × IsSecond r bus ended s more over
-      × Follow many (λ rounds last. (others : List Passed) × GoesOn r bus until (settled bus over) others last × (rounds ≡ more ++ others)) happened end
+      × Follow many (λ rounds last. (others : List Passed) × RunsOn r bus until (settled bus over) others last × (rounds ≡ more ++ others)) happened end
   second_follows None s happened between begins comes =
       let on = next_follows (settled bus s) happened between begins comes in
       ([], s, (refl, refl), record { rounds = on.rounds; picks = on.picks; is = (on.rounds, on.is, refl); happens = on.happens; few = on.few })

@@ -4,7 +4,7 @@ use Rattle.std.specs.List.{sum_by}
 use Rattle.std.proofs.lemmas.List.Sums.{sum_by-cons}
 use Rattle.stack_vm.specs.declared.meter.MeterRow.{MeterRow}
 use Rattle.stack_vm.specs.Meter.{row_after}
-use Rattle.run_meaning.specs.Counts.{AddsSteps, adds_to, row_with, turns_of}
+use Rattle.run_meaning.specs.Counts.{AddsSteps, adds_to, row_with, step_turns}
 use Rattle.run_meaning.specs.Run.{Passed}
 use Rattle.run_meaning.specs.Steps.{Step, steps}
 use Rattle.run_meaning.proofs.Counts.{steps_sum}
@@ -15,7 +15,7 @@ module _ (first_rows : List ℕ) (number : ℕ) where
   runs_in step = cond (adds_to first_rows number step) 1 0
 
   abbrev turns_in : Step → ℕ
-  turns_in step = cond (adds_to first_rows number step) (turns_of step) 0
+  turns_in step = cond (adds_to first_rows number step) (step_turns step) 0
 
   -- a row with so many more runs and turns
   abbrev added : MeterRow → ℕ → ℕ → MeterRow
@@ -42,9 +42,9 @@ module _ (first_rows : List ℕ) (number : ℕ) where
     | inr some ↦ inr (omega arith, some.1 ∙ added_more row more runs turns)
   ]
 
-  by_step : (row : MeterRow) (step : Step) (runs turns : ℕ) (after : MeterRow) (b : Bool) → IsSummed (cond b (row_after (turns_of step) row) row) runs turns after
-      → IsSummed row (cond b 1 0 + runs) (cond b (turns_of step) 0 + turns) after
-  by_step row step runs turns after true known = one_more row (turns_of step) runs turns after known
+  by_step : (row : MeterRow) (step : Step) (runs turns : ℕ) (after : MeterRow) (b : Bool) → IsSummed (cond b (row_after (step_turns step) row) row) runs turns after
+      → IsSummed row (cond b 1 0 + runs) (cond b (step_turns step) 0 + turns) after
+  by_step row step runs turns after true known = one_more row (step_turns step) runs turns after known
   by_step row step runs turns after false known =
       let no_run : runs ≡ 0 + runs = omega arith in
       let no_turn : turns ≡ 0 + turns = omega arith in
@@ -54,7 +54,7 @@ module _ (first_rows : List ℕ) (number : ℕ) where
   summed : (row : MeterRow) (list : List Step) → IsSummed row (sum_by runs_in list) (sum_by turns_in list) (row_with first_rows number row list)
   summed row [] = inl (refl, refl, refl)
   summed row (step ∷ list) =
-      let next : MeterRow = cond (adds_to first_rows number step) (row_after (turns_of step) row) row in
+      let next : MeterRow = cond (adds_to first_rows number step) (row_after (step_turns step) row) row in
       subst (λ t. IsSummed row (sum_by runs_in (step ∷ list)) t (row_with first_rows number next list)) (sym (sum_by-cons turns_in step list))
       (subst (λ n. IsSummed row n (turns_in step + sum_by turns_in list) (row_with first_rows number next list)) (sym (sum_by-cons runs_in step list))
       (by_step row step (sum_by runs_in list) (sum_by turns_in list) (row_with first_rows number next list) (adds_to first_rows number step) (summed next list)))

@@ -7,7 +7,7 @@ use Rattle.std.proofs.lemmas.List.{append-nil}
 use Rattle.std.proofs.lemmas.List.Elements.{filter-append}
 use Rattle.can_bus.specs.declared.bus.Ended.{Ended}
 use Rattle.node_rounds.specs.Round.{Task}
-use Rattle.run_meaning.specs.Order.{in_order, picks_after}
+use Rattle.run_meaning.specs.Order.{tasks_in_order, picks_after}
 use Rattle.run_meaning.specs.Run.{Passed}
 use Rattle.run_meaning.specs.Steps.{Step, ended_steps, steps, task_done, task_steps}
 use Rattle.run_meaning.proofs.Counts.{order_parts}
@@ -33,7 +33,7 @@ same_frames (passed ∷ rounds) picks =
     filter-append is_frame (ended ++ tasks) (steps rounds rest)
     ∙ ap (λ (l : List Step). l ++ frames_in (steps rounds rest))
     (filter-append is_frame ended tasks ∙ ap (λ (l : List Step). l ++ frames_in tasks) (ended_frames passed.moment passed.ended)
-    ∙ ap (λ (l : List Step). ended ++ l) (no_frames passed.moment (in_order passed.tasks picks)) ∙ append-nil ended)
+    ∙ ap (λ (l : List Step). ended ++ l) (no_frames passed.moment (tasks_in_order passed.tasks picks)) ∙ append-nil ended)
     ∙ ap (λ (l : List Step). ended ++ l) (same_frames rounds rest)
 
 -- ---- the steps of a node
@@ -67,7 +67,7 @@ same_own number (passed ∷ rounds) picks =
     filter-append (is_of number) (ended ++ tasks) (steps rounds rest)
     ∙ ap (λ (l : List Step). l ++ steps_in number (steps rounds rest))
     (filter-append (is_of number) ended tasks ∙ ap (λ (l : List Step). l ++ steps_in number tasks) (no_own number now passed.ended)
-    ∙ own_tasks number now (in_order passed.tasks picks)
+    ∙ own_tasks number now (tasks_in_order passed.tasks picks)
     ∙ ap (λ (ts : List Task). map (λ (task : Task). task_done now number task) ts) (order_parts passed.tasks picks number))
     ∙ ap (λ (l : List Step). own_steps number passed ++ l) (same_own number rounds rest)
 

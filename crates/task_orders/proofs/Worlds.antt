@@ -13,7 +13,7 @@ use Rattle.node_rounds.specs.Round.{Doing, IsDone, Task, next_of}
 use Rattle.run_meaning.specs.Bus.{after_all_tasks}
 use Rattle.run_meaning.specs.Moments.{keys_at}
 use Rattle.run_meaning.specs.Order.{picks_after, task_count}
-use Rattle.run_meaning.specs.Run.{GoesOn, IsRound, IsSecond, Passed, RunState, after_round, ask_stop, finished, quiet_round, settled}
+use Rattle.run_meaning.specs.Run.{RunsOn, IsRound, IsSecond, Passed, RunState, after_round, ask_stop, finished, quiet_round, settled}
 use Rattle.run_meaning.specs.Steps.{Step, ended_steps, steps, task_steps}
 use Rattle.run_meaning.proofs.OrderLemmas.{bus_put, put_task, stop_put}
 use Rattle.task_orders.specs.World.{Stage, at_round, in_first, in_pre_start, in_second, in_start, in_stop, is_last, round_of, run_in}
@@ -87,7 +87,7 @@ pub record FromPreStart {S B : Type 0} (r : Reacts S) (bus : BusMeaning B) (unti
   pub between : RunState S B
   pub more : List Passed
   pub is_round : IsRound r bus round.Start None (keys_at s.moment s.keys) s tasks between
-  pub goes_on : GoesOn r bus until (settled bus between) more end
+  pub goes_on : RunsOn r bus until (settled bus between) more end
   pub are : rounds ≡ quiet_round s.moment tasks ∷ more
 
 -- what follows the first round of an instant: the second, where there is one, and what comes after it
@@ -96,15 +96,15 @@ pub record FromFirst {S B : Type 0} (r : Reacts S) (bus : BusMeaning B) (until :
   pub between : RunState S B
   pub others : List Passed
   pub second : IsSecond r bus (bus.ended s.bus s.moment) (finished bus s.moment s) more between
-  pub goes_on : GoesOn r bus until (settled bus between) others end
+  pub goes_on : RunsOn r bus until (settled bus between) others end
   pub are : rounds ≡ more ++ others
 
 -- what follows each round at whose end the run stands so
 abbrev pub From : {S B : Type 0} → Reacts S → BusMeaning B → ℕ → Stage → RunState S B → List Passed → RunState S B → Type 0
 From {S} {B} r bus until in_pre_start s rounds end = FromPreStart r bus until s rounds end
-From {S} {B} r bus until in_start s rounds end = GoesOn r bus until (settled bus s) rounds end
+From {S} {B} r bus until in_start s rounds end = RunsOn r bus until (settled bus s) rounds end
 From {S} {B} r bus until in_first s rounds end = FromFirst r bus until s rounds end
-From {S} {B} r bus until in_second s rounds end = GoesOn r bus until (settled bus s) rounds end
+From {S} {B} r bus until in_second s rounds end = RunsOn r bus until (settled bus s) rounds end
 From {S} {B} r bus until in_stop s rounds end = (rounds ≡ []) × (end ≡ s)
 
 -- ---- where no move is possible

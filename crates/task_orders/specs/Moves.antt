@@ -6,7 +6,7 @@ use Rattle.can_bus.specs.Meaning.{BusMeaning}
 use Rattle.node_rounds.specs.Reaction.{Reacts}
 use Rattle.node_rounds.specs.Round.{Doing, DoesNext, IsDone, Task, next_of}
 use Rattle.run_meaning.specs.Moments.{keys_at}
-use Rattle.run_meaning.specs.Run.{EndsAt, RunState, finished, next_moment, settled}
+use Rattle.run_meaning.specs.Run.{EndsAt, RunState, finished, next_instant, settled}
 use Rattle.run_meaning.specs.Steps.{Step}
 use Rattle.task_orders.specs.World.{Stage, World, after_task, at_round, first_world, in_first, in_pre_start, in_second, in_start, in_stop, is_last, run_in}
 
@@ -41,7 +41,7 @@ pub record BeginsInstant {S B : Type 0} (r : Reacts S) (bus : BusMeaning B) (unt
     (happened : List Step) (after : World S B) : Type 0 where
   pub moment : ℕ
   pub not_stopped : s.stops ≡ false
-  pub is_next : next_moment r bus s ≡ Some moment
+  pub is_next : next_instant r bus s ≡ Some moment
   pub in_time : moment ≤ until
   pub stands : after ≡ at_round r in_first (bus.ended s.bus moment) (keys_at moment s.keys)
       (finished bus moment s) happened
@@ -50,7 +50,7 @@ pub record BeginsInstant {S B : Type 0} (r : Reacts S) (bus : BusMeaning B) (unt
 pub record BeginsStop {S B : Type 0} (r : Reacts S) (bus : BusMeaning B) (until : ℕ) (s : RunState S B)
     (happened : List Step) (after : World S B) : Type 0 where
   pub moment : ℕ
-  pub ends : EndsAt s.stops s.moment (next_moment r bus s) until moment
+  pub ends : EndsAt s.stops s.moment (next_instant r bus s) until moment
   pub stands : after ≡ at_round r in_stop None [] (record s { moment = moment }) happened
 
 -- an instant is over, and so the run stands: the next one begins, or the round of the stop

@@ -1,10 +1,10 @@
 -- The first line of a text, up to its first line feed.
 use Rattle.std.proofs.Common.{◌≡◌, ℕ, Bool, zero, suc, ◌<◌, true, false, List, [], ◌∷◌, take, drop, length, get_or, refl, arith, ◌==◌}
-use Rattle.text_parts.specs.Line.{lines_of}
+use Rattle.text_parts.specs.Line.{text_lines}
 
 -- a text with a line feed: what stands before the first one, and the lines behind it
 pub lines_of-at : (text : List ℕ) (k : ℕ) → k < length text → ((j : ℕ) → j < k → (get_or text j 0 == 10) ≡ false)
-    → (get_or text k 0 == 10) ≡ true → lines_of text ≡ take k text ∷ lines_of (drop (suc k) text)
+    → (get_or text k 0 == 10) ≡ true → text_lines text ≡ take k text ∷ text_lines (drop (suc k) text)
 lines_of-at [] k within before at = absurd (omega (arith, within))
 lines_of-at (byte ∷ bytes) zero within before at = rw at refl
 lines_of-at (byte ∷ bytes) (suc k) within before at =
@@ -14,7 +14,7 @@ lines_of-at (byte ∷ bytes) (suc k) within before at =
 
 -- a text without one is its only line
 pub lines_of-one : (text : List ℕ) → 0 < length text → ((j : ℕ) → j < length text → (get_or text j 0 == 10) ≡ false)
-    → lines_of text ≡ text ∷ []
+    → text_lines text ≡ text ∷ []
 lines_of-one [] some before = absurd (omega (arith, some))
 lines_of-one (byte ∷ []) some before = let other : (byte == 10) ≡ false = before 0 (omega arith) in rw other refl
 lines_of-one (byte ∷ next ∷ bytes) some before =

@@ -2,7 +2,7 @@
 
 ghost use Rattle.std.specs.Prelude.{◌≡◌, ◌≢◌, ◌<◌, ◌∷◌, ◌++◌, ◌↔◌, [], length, All, IsNone, IfSome};
 ghost use Rattle.std.specs.Bool.{OnFalse};
-ghost use Rattle.text_parts.specs.Line.{lines_of, line_end};
+ghost use Rattle.text_parts.specs.Line.{text_lines, line_end};
 
 use memchr::memchr;
 
@@ -20,7 +20,8 @@ pub struct FirstLine<'a> {
 /// The first line of a text, or None where the text is empty. Takes time linear in the line.
 pub fn first_line(text: &[u8]) -> Option<FirstLine<'_>>
     ensures none { IsNone result ↔ (text.now ≡ []) }
-    ensures lines { IfSome result (λ first. lines_of text.now ≡ first.line.now ∷ lines_of first.rest.now) }
+    ensures lines { IfSome result (λ first.
+        text_lines text.now ≡ first.line.now ∷ text_lines first.rest.now) }
     ensures whole { IfSome result (λ first.
         text.now ≡ first.line.now ++ line_end first.is_ended ++ first.rest.now) }
     ensures no_end_inside { IfSome result (λ first. All (λ byte. byte ≢ 10) first.line.now) }

@@ -6,7 +6,7 @@ use Rattle.std.proofs.lemmas.Bool.{ltb-true, ltb-false}
 use Rattle.capl_meaning.specs.Variable.{Form, Number, Array, Message, Timer, Misfit, Variable, is_timer}
 use Rattle.capl_meaning.specs.Names.{Names}
 use Rattle.capl_meaning.specs.Constant.{elements_of}
-use Rattle.capl_meaning.specs.Store.{key_of, same_key, timer_number}
+use Rattle.capl_meaning.specs.Store.{variable_key, same_key, timer_number}
 use Rattle.typed_laws.specs.Laid.{AreDistinct, IsAmong, cell_count, cells_before, slot}
 use Rattle.typed_laws.proofs.Parts.{fresh, key_other, key_self}
 use Rattle.type_expressions.specs.declared.layout.Laid.{Laid}
@@ -18,7 +18,7 @@ abbrev timers_in : List Variable → List Variable
 timers_in vs = filter (λ u. is_timer u.form) vs
 
 abbrev place_of : Variable → List Variable → ℕ
-place_of v vs = position_or_len (λ u. same_key (key_of v) (key_of u)) vs
+place_of v vs = position_or_len (λ u. same_key (variable_key v) (variable_key u)) vs
 
 -- a variable of a list stands in it
 pub stands : (vs : List Variable) (i : ℕ) (v : Variable) → slice_get vs i ≡ Some v → IsAmong v vs
@@ -35,9 +35,9 @@ first_is_none : (u : Variable) (us : List Variable) → is_timer u.form ≡ fals
 first_is_none u us is = ap (λ b. cond b (u ∷ timers_in us) (timers_in us)) is
 
 own_place : (u : Variable) (us : List Variable) → place_of u (u ∷ us) ≡ 0
-own_place u us = rw (key_self (key_of u)) refl
+own_place u us = rw (key_self (variable_key u)) refl
 
-later_place : (v u : Variable) (us : List Variable) → same_key (key_of v) (key_of u) ≡ false → place_of v (u ∷ us) ≡ 1 + place_of v us
+later_place : (v u : Variable) (us : List Variable) → same_key (variable_key v) (variable_key u) ≡ false → place_of v (u ∷ us) ≡ 1 + place_of v us
 later_place v u us apart = rw apart refl
 
 -- the first variable's number is that of the timers before it
@@ -52,7 +52,7 @@ first_timer u us timers (Message type_) is = refl
 first_timer u us timers Misfit is = refl
 
 -- a later one's number counts the first one, where that is a timer
-later_timer : (v u : Variable) (us : List Variable) (timers : ℕ) (form : Form) → u.form ≡ form → same_key (key_of v) (key_of u) ≡ false →
+later_timer : (v u : Variable) (us : List Variable) (timers : ℕ) (form : Form) → u.form ≡ form → same_key (variable_key v) (variable_key u) ≡ false →
     timers_with timers form + place_of v (timers_in us) ≡ timers + place_of v (timers_in (u ∷ us))
 later_timer v u us timers (Timer unit) is apart =
     let next : place_of v (timers_in (u ∷ us)) ≡ 1 + place_of v (timers_in us) = ap (place_of v) (first_is_timer u us unit is) ∙ later_place v u (timers_in us) apart in
@@ -71,23 +71,23 @@ timer_inside v unit is (u ∷ us) (inl e) =
     (subst (λ l. place_of v l < length l) (sym (first_is_timer v us unit is)) (rw (own_place v (timers_in us)) (omega arith)))
 timer_inside v unit is (u ∷ us) (inr s) = go (is_timer u.form) (timer_inside v unit is us s)
   where
-    by : (b : Bool) → same_key (key_of v) (key_of u) ≡ b → place_of v (timers_in us) < length (timers_in us) →
+    by : (b : Bool) → same_key (variable_key v) (variable_key u) ≡ b → place_of v (timers_in us) < length (timers_in us) →
         place_of v (u ∷ timers_in us) < suc (length (timers_in us))
     by true same h = rw same (omega arith)
     by false apart h = let next = later_place v u (timers_in us) apart in omega (arith, h, next)
 
     go : (b : Bool) → place_of v (timers_in us) < length (timers_in us) →
         place_of v (cond b (u ∷ timers_in us) (timers_in us)) < length (cond b (u ∷ timers_in us) (timers_in us))
-    go true h = by (same_key (key_of v) (key_of u)) refl h
+    go true h = by (same_key (variable_key v) (variable_key u)) refl h
     go false h = h
 
 -- what has another key than all is not among their timers
-none_among : (v : Variable) (us : List Variable) → AllByRecursion (λ x. same_key (key_of x) (key_of v) ≡ false) us →
+none_among : (v : Variable) (us : List Variable) → AllByRecursion (λ x. same_key (variable_key x) (variable_key v) ≡ false) us →
     place_of v (timers_in us) ≡ length (timers_in us)
 none_among v [] all = refl
-none_among v (u ∷ us) all = go (is_timer u.form) (key_other (key_of u) (key_of v) all.0) (none_among v us all.1)
+none_among v (u ∷ us) all = go (is_timer u.form) (key_other (variable_key u) (variable_key v) all.0) (none_among v us all.1)
   where
-    go : (b : Bool) → same_key (key_of v) (key_of u) ≡ false → place_of v (timers_in us) ≡ length (timers_in us) →
+    go : (b : Bool) → same_key (variable_key v) (variable_key u) ≡ false → place_of v (timers_in us) ≡ length (timers_in us) →
         place_of v (cond b (u ∷ timers_in us) (timers_in us)) ≡ length (cond b (u ∷ timers_in us) (timers_in us))
     go true apart h = later_place v u (timers_in us) apart ∙ omega (arith, h)
     go false apart h = h
@@ -99,11 +99,11 @@ no_timer_outside v is [] distinct among = elim among [ ]
 no_timer_outside v is (u ∷ us) distinct (inl e) =
     subst (λ x. place_of v (timers_in (x ∷ us)) ≡ length (timers_in (x ∷ us))) (sym e)
     (subst (λ l. place_of v l ≡ length l) (sym (first_is_none v us is))
-    (none_among v us (subst (λ y. AllByRecursion (λ x. same_key (key_of x) (key_of y) ≡ false) us) e distinct.0)))
+    (none_among v us (subst (λ y. AllByRecursion (λ x. same_key (variable_key x) (variable_key y) ≡ false) us) e distinct.0)))
 no_timer_outside v is (u ∷ us) distinct (inr s) =
     go (is_timer u.form) (fresh u v us distinct.0 s) (no_timer_outside v is us distinct.1 s)
   where
-    go : (b : Bool) → same_key (key_of v) (key_of u) ≡ false → place_of v (timers_in us) ≡ length (timers_in us) →
+    go : (b : Bool) → same_key (variable_key v) (variable_key u) ≡ false → place_of v (timers_in us) ≡ length (timers_in us) →
         place_of v (cond b (u ∷ timers_in us) (timers_in us)) ≡ length (cond b (u ∷ timers_in us) (timers_in us))
     go true apart h = later_place v u (timers_in us) apart ∙ omega (arith, h)
     go false apart h = h
@@ -126,15 +126,15 @@ no_place p vs same = by (nat_lt (position_or_len p vs) (length vs)) refl
 number_of_timer : (names : Names) (v : Variable) (form : Form) → v.form ≡ form → AreDistinct names.variables → IsAmong v names.variables →
     timer_at (place_of v (timers_in names.variables)) form ≡ timer_number names v
 number_of_timer names v (Timer unit) is distinct among =
-    sym (found_place (λ u. same_key (key_of v) (key_of u)) (timers_in names.variables) (timer_inside v unit is names.variables among))
+    sym (found_place (λ u. same_key (variable_key v) (variable_key u)) (timers_in names.variables) (timer_inside v unit is names.variables among))
 number_of_timer names v (Number k fixed) is distinct among =
-    sym (no_place (λ u. same_key (key_of v) (key_of u)) (timers_in names.variables) (no_timer_outside v (ap is_timer is) names.variables distinct among))
+    sym (no_place (λ u. same_key (variable_key v) (variable_key u)) (timers_in names.variables) (no_timer_outside v (ap is_timer is) names.variables distinct among))
 number_of_timer names v (Array k fixed size) is distinct among =
-    sym (no_place (λ u. same_key (key_of v) (key_of u)) (timers_in names.variables) (no_timer_outside v (ap is_timer is) names.variables distinct among))
+    sym (no_place (λ u. same_key (variable_key v) (variable_key u)) (timers_in names.variables) (no_timer_outside v (ap is_timer is) names.variables distinct among))
 number_of_timer names v (Message type_) is distinct among =
-    sym (no_place (λ u. same_key (key_of v) (key_of u)) (timers_in names.variables) (no_timer_outside v (ap is_timer is) names.variables distinct among))
+    sym (no_place (λ u. same_key (variable_key v) (variable_key u)) (timers_in names.variables) (no_timer_outside v (ap is_timer is) names.variables distinct among))
 number_of_timer names v Misfit is distinct among =
-    sym (no_place (λ u. same_key (key_of v) (key_of u)) (timers_in names.variables) (no_timer_outside v (ap is_timer is) names.variables distinct among))
+    sym (no_place (λ u. same_key (variable_key v) (variable_key u)) (timers_in names.variables) (no_timer_outside v (ap is_timer is) names.variables distinct among))
 
 -- ---- what lies where
 
@@ -156,10 +156,10 @@ elements_there names (u ∷ vs) (suc i) v at cell timers =
     elements_there names vs i v at (cell + cell_count names u) (timers_with timers u.form)
 
 first_there : (names : Names) (u : Variable) (us : List Variable) (cell timers : ℕ) →
-    There names u (cell + cells_before names (u ∷ us) (key_of u)) (timers + place_of u (timers_in (u ∷ us)))
+    There names u (cell + cells_before names (u ∷ us) (variable_key u)) (timers + place_of u (timers_in (u ∷ us)))
     (slice_get (laid_from names cell timers (u ∷ us)) 0)
 first_there names u us cell timers =
-    let none : cells_before names (u ∷ us) (key_of u) ≡ zero = rw (key_self (key_of u)) refl in
+    let none : cells_before names (u ∷ us) (variable_key u) ≡ zero = rw (key_self (variable_key u)) refl in
     record {
       there = record { slot = cell; elements = elements_of names u; timer = timer_at timers u.form };
       is = refl;
@@ -170,16 +170,16 @@ first_there names u us cell timers =
 
 -- each variable has its first cell, and its number among the timers
 pub all_there : (names : Names) (vs : List Variable) → AreDistinct vs → (i : ℕ) (v : Variable) → slice_get vs i ≡ Some v → (cell timers : ℕ) →
-    There names v (cell + cells_before names vs (key_of v)) (timers + place_of v (timers_in vs)) (slice_get (laid_from names cell timers vs) i)
+    There names v (cell + cells_before names vs (variable_key v)) (timers + place_of v (timers_in vs)) (slice_get (laid_from names cell timers vs) i)
 all_there names [] distinct i v at cell timers = absurd (let f : None ≡ Some v = at in cc)
 all_there names (u ∷ us) distinct zero v at cell timers =
     let e : u ≡ v = let f : Some u ≡ Some v = at in cc in
-    subst (λ x. There names x (cell + cells_before names (u ∷ us) (key_of x)) (timers + place_of x (timers_in (u ∷ us)))
+    subst (λ x. There names x (cell + cells_before names (u ∷ us) (variable_key x)) (timers + place_of x (timers_in (u ∷ us)))
     (slice_get (laid_from names cell timers (u ∷ us)) 0)) e (first_there names u us cell timers)
 all_there names (u ∷ us) distinct (suc i) v at cell timers =
     let apart = fresh u v us distinct.0 (stands us i v at) in
-    let later : cells_before names (u ∷ us) (key_of v) ≡ cell_count names u + cells_before names us (key_of v) =
-    rw (key_other (key_of v) (key_of u) apart) refl in
+    let later : cells_before names (u ∷ us) (variable_key v) ≡ cell_count names u + cells_before names us (variable_key v) =
+    rw (key_other (variable_key v) (variable_key u) apart) refl in
     let rest = all_there names us distinct.1 i v at (cell + cell_count names u) (timers_with timers u.form) in
     record {
       there = rest.there;
@@ -192,7 +192,7 @@ all_there names (u ∷ us) distinct (suc i) v at cell timers =
 -- what a layout has at the number of a variable
 pub laid_there : (names : Names) (layout : Layout) (i : ℕ) (v : Variable) (laid : Laid) → IsLayoutOf names layout →
     AreDistinct names.variables → slice_get names.variables i ≡ Some v → slice_get layout.all.items i ≡ Some laid →
-    (laid.slot ≡ slot names (key_of v)) × (laid.timer ≡ timer_number names v)
+    (laid.slot ≡ slot names (variable_key v)) × (laid.timer ≡ timer_number names v)
 laid_there names layout i v laid of distinct at is =
     let t = all_there names names.variables distinct i v at 15 0 in
     let e : t.there ≡ laid = let f : Some t.there ≡ Some laid = sym t.is ∙ ap (λ all. slice_get all i) (sym of.laid) ∙ is in cc in

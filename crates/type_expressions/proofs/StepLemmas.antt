@@ -11,7 +11,7 @@ use Rattle.capl_meaning.specs.Names.{Names}
 use Rattle.capl_meaning.specs.Constant.{elements_of}
 use Rattle.capl_meaning.specs.Size.{size_of_form}
 use Rattle.capl_meaning.specs.Message.{Held, HeldFrame, HeldVariable}
-use Rattle.capl_meaning.specs.Store.{Key, key_of, kinds_by, same_key, unit_of}
+use Rattle.capl_meaning.specs.Store.{Key, variable_key, kinds_by, same_key, unit_of}
 use Rattle.typed_laws.specs.Laid.{cell_count, cells_before, cells_by_form, message_slot}
 use Rattle.check_names.specs.declared.variable.Declared.{Declared}
 use Rattle.check_names.specs.Variable.{variables_in}
@@ -154,7 +154,7 @@ split_size elements timers Misfit = omega arith
 -- the cells before those of a key are no more than the size
 before_few : (names : Names) (vs : List Variable) (k : Key) → cells_before names vs k ≤ size_in names vs
 before_few names [] k = omega arith
-before_few names (v ∷ vs) k = by (same_key (key_of v) k) (before_few names vs k)
+before_few names (v ∷ vs) k = by (same_key (variable_key v) k) (before_few names vs k)
   where
     by : (b : Bool) → cells_before names vs k ≤ size_in names vs → (if b then 0 else cell_count names v + cells_before names vs k) ≤ size_in names (v ∷ vs)
     by true rest = omega arith
@@ -169,4 +169,4 @@ before_few names (v ∷ vs) k = by (same_key (key_of v) k) (before_few names vs 
 -- a message of a program with few cells has a low first cell
 pub message_low : (names : Names) (held : Held) → size_in names names.variables ≤ 1000000 → message_slot names held ≤ 1000015
 message_low names (HeldFrame signals) few = omega arith
-message_low names (HeldVariable v signals) few = omega (arith, few, before_few names names.variables (key_of v))
+message_low names (HeldVariable v signals) few = omega (arith, few, before_few names names.variables (variable_key v))

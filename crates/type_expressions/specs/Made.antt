@@ -10,7 +10,7 @@ use Rattle.typed_tree.specs.declared.expression.TExpr.{TExpr}
 use Rattle.typed_tree.specs.Forms.{Unary}
 use Rattle.capl_meaning.specs.declared.sort.Sort.{Sort}
 use Rattle.capl_meaning.specs.Names.{Names}
-use Rattle.capl_meaning.specs.Format.{text_in}
+use Rattle.capl_meaning.specs.Format.{quoted_text}
 use Rattle.capl_meaning.specs.Sort.{kind_in, working_kind}
 use Rattle.typed_laws.specs.Laid.{AreDistinct}
 use Rattle.typed_source.specs.Expression.{loaded, stepping, storing, updating}
@@ -57,4 +57,4 @@ assigning (Some op) left right place value =
 -- the bytes of the first of expressions, where it is a text
 abbrev pub text_of_first : List Expr → Option (List ℕ)
 text_of_first [] = None
-text_of_first (e ∷ es) = text_in e
+text_of_first (e ∷ es) = quoted_text e

@@ -4,7 +4,7 @@ ghost use Rattle.std.specs.Prelude.{◌≡◌, ◌+◌, ◌<◌, ◌^◌, ℕ, I
 ghost use Rattle.capl_meaning.specs.Constant.{elements_of};
 ghost use Rattle.capl_meaning.specs.Names.{Names};
 ghost use Rattle.capl_meaning.specs.Size.{size_of_form};
-ghost use Rattle.capl_meaning.specs.Store.{key_of, timer_number};
+ghost use Rattle.capl_meaning.specs.Store.{variable_key, timer_number};
 ghost use Rattle.capl_meaning.specs.Variable.{Variable};
 ghost use Rattle.typed_laws.specs.Laid.{AreDistinct, cells_by_form, slot};
 ghost use Rattle.check_sorts.specs.Constant.{AreConstantsOf};
@@ -155,7 +155,7 @@ impl Layout {
     /// The first cell of the variable of a number.
     pub fn slot(&self, number: u32) -> u32
         ensures { (names : Names) (v : Variable) → IsLayoutOf names self.now → AreDistinct names.variables →
-            slice_get names.variables number ≡ Some v → result ≡ slot names (key_of v) }
+            slice_get names.variables number ≡ Some v → result ≡ slot names (variable_key v) }
     {
         self.at(number).slot
     }

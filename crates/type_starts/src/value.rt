@@ -3,7 +3,7 @@
 ghost use Rattle.std.specs.Prelude.{◌≡◌, fold, slice_get};
 ghost use Rattle.std.specs.Option.{option_copied};
 ghost use Rattle.int_kinds.specs.Kind.{IsNumber};
-ghost use Rattle.capl_meaning.specs.Initial.{declared_message, first_element, first_message, items_of, number_at, number_of_item, number_of_text, with_field_item, with_item};
+ghost use Rattle.capl_meaning.specs.Initial.{declared_message, first_element, first_message, initial_items, constant_number, number_of_item, number_of_text, with_field_item, with_item};
 ghost use Rattle.capl_meaning.specs.Constant.{first_number, known_before};
 ghost use Rattle.capl_meaning.specs.Message.{signals_of_type};
 ghost use Rattle.capl_meaning.specs.Store.{MessageRecord};
@@ -32,7 +32,7 @@ pub(crate) struct Spot<'c, 'a, 'p> {
 /// The number of a constant, 0 where it is none.
 fn number_at(spot: &Spot, e: &Expr) -> i128
     requires { AreConstantsOf spot.now.scope.names.now spot.now.constants.now }
-    ensures same { result ≡ number_at (scope_in spot.now.scope) spot.now.token e.now }
+    ensures same { result ≡ constant_number (scope_in spot.now.scope) spot.now.token e.now }
     ensures number { IsNumber result }
 {
     match spot.constants.constant_at(spot.scope, spot.token, e) {
@@ -182,7 +182,7 @@ fn with_items(spot: &Spot, signals: DeclaredSignals, items: &[Item], message: Me
 
 /// The items of an initialiser.
 fn items_of(init: Option<&Init>) -> &[Item]
-    ensures { result.now ≡ items_of (option_copied init.entry) }
+    ensures { result.now ≡ initial_items (option_copied init.entry) }
 {
     match init {
         Some(Init::Many { items, .. }) => items.as_slice(),

@@ -19,7 +19,7 @@ use Rattle.capl_tree.specs.declared.expr.Expr.{Expr}
 use Rattle.capl_meaning.specs.declared.sort.Sort.{Sort}
 use Rattle.capl_meaning.specs.declared.sort.Sort.TheVariants as sort
 use Rattle.capl_meaning.specs.Format as meant
-use Rattle.capl_meaning.specs.Format.{array_argument, format_codes, show_all, shows, text_in}
+use Rattle.capl_meaning.specs.Format.{array_argument, format_codes, show_all, shows, quoted_text}
 use Rattle.capl_meaning.specs.Message.{array_in}
 use Rattle.capl_meaning.specs.Names.{Names, Scope}
 use Rattle.capl_meaning.specs.Sort.{sort_of}
@@ -52,12 +52,12 @@ shows_made : (s : Scope) (code : Code) (e : Expr) → shows code (sort_of s e) �
 shows_made s code e is = by code.conversion (sort_of s e) is
   where
     text : ArgKind
-    text = text_argument s.names (text_in e) (array_in s e)
+    text = text_argument s.names (quoted_text e) (array_in s e)
 
     by : (c : Conversion) (given : Sort) → option_map_or (is_fit c) (meant.argument_of given) false ≡ true → is_fit c (argument_by given text) ≡ true
     by c (sort.Number k) is = is
-    by c (sort.Array k) is = shows_texts s.names (text_in e) (array_in s e) c (as_text c k is)
-    by c sort.Text is = shows_texts s.names (text_in e) (array_in s e) c is
+    by c (sort.Array k) is = shows_texts s.names (quoted_text e) (array_in s e) c (as_text c k is)
+    by c sort.Text is = shows_texts s.names (quoted_text e) (array_in s e) c is
     by c given is = absurd (let f : false ≡ true = is in cc)
 
 both : (a b : Bool) → a && b ≡ true → (a ≡ true) × (b ≡ true)

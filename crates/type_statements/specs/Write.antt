@@ -2,7 +2,7 @@
 use Rattle.std.specs.Prelude.{◌≡◌, ℕ, List, Some, None, length}
 use Rattle.write_format.specs.declared.argument.ArgKind.{ArgKind}
 use Rattle.write_format.specs.declared.piece.Piece.{Piece}
-use Rattle.write_format.specs.Format.{FormatText, elements_of}
+use Rattle.write_format.specs.Format.{FormatText, format_elements}
 use Rattle.write_format.specs.Reading.{codes_of, first_unfit, pieces_of}
 
 -- a text has a code for each argument, which shows it
@@ -19,5 +19,5 @@ pub record IsRead (text : List ℕ) (arguments : List ArgKind) (format : FormatT
   pub same : format ≡ record {
     text = text;
     arguments = arguments;
-    elements = elements_of pieces arguments;
+    elements = format_elements pieces arguments;
   }

@@ -1,7 +1,7 @@
 // Writes.
 
 ghost use Rattle.std.specs.Prelude.{◌≡◌, ◌<◌, ◌^◌, [], ◌∷◌, ◌++◌, IfOk, OnOk, length, map};
-ghost use Rattle.capl_meaning.specs.Format.{text_in};
+ghost use Rattle.capl_meaning.specs.Format.{quoted_text};
 ghost use Rattle.capl_meaning.specs.Message.{array_in};
 ghost use Rattle.capl_meaning.specs.Sort.{sort_of};
 ghost use Rattle.typed_source.specs.Statement.{argument_by, argument_of, formats_written, numbers_of, pieces_written, text_argument, text_written, writing};
@@ -41,7 +41,7 @@ fn text_argument(
 ) -> Result<ArgKind, NoMemory>
     requires { AreTables scope.names.now tables.now }
     ensures { let s = scope_in scope.entry in
-        IfOk result (λ kind. kind ≡ text_argument s.names (text_in e.now) (array_in s e.now)) }
+        IfOk result (λ kind. kind ≡ text_argument s.names (quoted_text e.now) (array_in s e.now)) }
 {
     if let Some(bytes) = text_in(e) {
         let text = Text::make(alloc, bytes)?;
@@ -69,7 +69,7 @@ fn argument(
 ) -> Result<ArgKind, NoMemory>
     requires { AreTables scope.names.now tables.now }
     ensures { let s = scope_in scope.entry in IfOk result (λ kind.
-        kind ≡ argument_by sort (text_argument s.names (text_in e.now) (array_in s e.now))) }
+        kind ≡ argument_by sort (text_argument s.names (quoted_text e.now) (array_in s e.now))) }
 {
     match sort {
         Sort::Number(kind) => Ok(ArgKind::Number(kind)),

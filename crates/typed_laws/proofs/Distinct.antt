@@ -18,7 +18,7 @@ use Rattle.capl_meaning.specs.Names.{Names, inside, names_of}
 use Rattle.capl_meaning.specs.Offences.{offences_of, part_offences}
 use Rattle.capl_meaning.specs.ProcedureRules.{Declared, head_offences, inner_name_offences, inner_names, name_offence, names_declared, outer_name_offences, outer_names, same_name}
 use Rattle.capl_meaning.specs.StatementRules.{repeated}
-use Rattle.capl_meaning.specs.Store.{key_of, same_key}
+use Rattle.capl_meaning.specs.Store.{variable_key, same_key}
 use Rattle.typed_laws.specs.Laid.{AreDistinct, IsAmong}
 use Rattle.typed_laws.proofs.Declared.{all_append}
 
@@ -122,13 +122,13 @@ abbrev names_in : List Variable → List (List ℕ)
 names_in vs = map (λ (v : Variable). v.name) vs
 
 -- no variable has the name of one of its owner, where none of that owner has it
-other_keys : (v : Variable) (us : List Variable) → AllByRecursion (λ m. bytes_eq m v.name ≡ false) (names_in (own v.owner us)) → AllByRecursion (λ u. same_key (key_of u) (key_of v) ≡ false) us
+other_keys : (v : Variable) (us : List Variable) → AllByRecursion (λ m. bytes_eq m v.name ≡ false) (names_in (own v.owner us)) → AllByRecursion (λ u. same_key (variable_key u) (variable_key v) ≡ false) us
 other_keys v [] all = tt
 other_keys v (u ∷ us) all = go (u.owner == v.owner) refl all (other_keys v us)
   where
     go : (b : Bool) → u.owner == v.owner ≡ b → AllByRecursion (λ m. bytes_eq m v.name ≡ false) (names_in (cond b (u ∷ own v.owner us) (own v.owner us))) →
-        (AllByRecursion (λ m. bytes_eq m v.name ≡ false) (names_in (own v.owner us)) → AllByRecursion (λ u. same_key (key_of u) (key_of v) ≡ false) us) →
-        AllByRecursion (λ u. same_key (key_of u) (key_of v) ≡ false) (u ∷ us)
+        (AllByRecursion (λ m. bytes_eq m v.name ≡ false) (names_in (own v.owner us)) → AllByRecursion (λ u. same_key (variable_key u) (variable_key v) ≡ false) us) →
+        AllByRecursion (λ u. same_key (variable_key u) (variable_key v) ≡ false) (u ∷ us)
     go true is all further = (rw (is, all.0) refl, further all.1)
     go false is all further = (rw is refl, further all)
 

@@ -6,7 +6,7 @@ use Rattle.std.specs.Option.{option_map_or}
 use Rattle.texts.specs.declared.text.Text.{Text}
 use Rattle.write_format.specs.declared.argument.ArgKind.{ArgKind}
 use Rattle.write_format.specs.declared.piece.Piece.{Piece}
-use Rattle.write_format.specs.Format.{FormatText, elements_of as format_elements}
+use Rattle.write_format.specs.Format.{FormatText, format_elements}
 use Rattle.write_format.specs.Line.{line_of}
 use Rattle.run_effects.specs.Duration.{micros}
 use Rattle.run_effects.specs.Effect as effect
@@ -24,10 +24,10 @@ use Rattle.typed_tree.specs.Statement as typed_statement
 use Rattle.capl_meaning.specs.declared.builtin.Builtin.TheVariants as builtin
 use Rattle.capl_meaning.specs.Variable.{Variable}
 use Rattle.capl_meaning.specs.Names.{Callee, OfLanguage, Scope, callee}
-use Rattle.capl_meaning.specs.Format.{text_in}
+use Rattle.capl_meaning.specs.Format.{quoted_text}
 use Rattle.capl_meaning.specs.Message.{Held, HeldVariable, message_in}
 use Rattle.capl_meaning.specs.Sort.{is_number, sort_of}
-use Rattle.capl_meaning.specs.Store.{key_of, message_cells, timer_number, unit_of}
+use Rattle.capl_meaning.specs.Store.{variable_key, message_cells, timer_number, unit_of}
 use Rattle.capl_meaning.specs.Expression.{held_message, timer_in, with_store}
 use Rattle.capl_meaning.specs.Expression as source
 use Rattle.capl_meaning.specs.Statement.{alone_of, arguments_of, assigns, calls_alone, cancels, copies, drops, fitting_pieces, sends, sets, sets_timer, with_line, writes_line}
@@ -191,7 +191,7 @@ module _ (scope : Scope) (order : List ℕ) (formats : List FormatText) where
   -- ---- lines
 
   pub write_as : (name : Text) (format : Expr) (arguments : List Expr) (at : ℕ) (pieces : List Piece) (kinds : List ArgKind) (text : FormatText) (number : ℕ) (us : List TExpr) →
-      callee scope.names name ≡ OfLanguage builtin.Write → fitting_pieces (map (sort_of scope) arguments) (text_in format) ≡ Some pieces →
+      callee scope.names name ≡ OfLanguage builtin.Write → fitting_pieces (map (sort_of scope) arguments) (quoted_text format) ≡ Some pieces →
       AllZip (IsArgument scope) arguments kinds → text.elements ≡ format_elements pieces kinds → slice_get formats number ≡ Some text →
       AllZip (GivesAs scope order) (filter (λ e. is_number (sort_of scope e)) arguments) us → AloneDoesAs scope order formats (expr.Call name (format ∷ arguments) at) (t.Write number us)
   write_as name format arguments at pieces kinds text number us is fitting argued made there f = record {
@@ -208,7 +208,7 @@ module _ (scope : Scope) (order : List ℕ) (formats : List FormatText) where
 
   -- a line whose format does not fit is not written, and nothing is evaluated for it
   pub no_write_as : (name : Text) (format : Expr) (arguments : List Expr) (at : ℕ) → callee scope.names name ≡ OfLanguage builtin.Write →
-      fitting_pieces (map (sort_of scope) arguments) (text_in format) ≡ None → AloneDoesAs scope order formats (expr.Call name (format ∷ arguments) at) t.Empty
+      fitting_pieces (map (sort_of scope) arguments) (quoted_text format) ≡ None → AloneDoesAs scope order formats (expr.Call name (format ∷ arguments) at) t.Empty
   no_write_as name format arguments at is fitting = record {
     same = λ b stand n w. ap (laid_run scope.names b.this) (sym (call_alone b name (format ∷ arguments) at (OfLanguage builtin.Write) w is
         ∙ ap (λ o. writes_line (source_setting b scope) b.call o arguments w) fitting));
@@ -217,7 +217,7 @@ module _ (scope : Scope) (order : List ℕ) (formats : List FormatText) where
   -- ---- copies
 
   pub copy_as : (left right : Expr) (at : ℕ) (v : Variable) (signals : _) (from : Held) (to_cell from_cell : ℕ) → message_in scope left ≡ Some (HeldVariable v signals) → message_in scope right ≡ Some from →
-      (AreDistinct scope.names.variables → to_cell ≡ slot scope.names (key_of v)) → (AreDistinct scope.names.variables → from_cell ≡ message_slot scope.names from) →
+      (AreDistinct scope.names.variables → to_cell ≡ slot scope.names (variable_key v)) → (AreDistinct scope.names.variables → from_cell ≡ message_slot scope.names from) →
       AloneDoesAs scope order formats (tree.Assign None left right at) (t.Copy to_cell from_cell)
   copy_as left right at v signals from to_cell from_cell to_is from_is to_at from_at = record {
     same = λ b stand n w.
@@ -231,8 +231,8 @@ module _ (scope : Scope) (order : List ℕ) (formats : List FormatText) where
         ∙ ap (λ o. assigns s (Some (HeldVariable v signals)) o (drops s b.call (tree.Assign None left right at)) w) from_is in
         ap (λ all. Gives GoesOn (cells.with_cells all (laid names b.this w)))
         (ap (λ c. with_message_at c (message_of from_cell all) all) (to_at b.plain.distinct)
-        ∙ ap (λ c. with_message_at (slot names (key_of v)) (message_of c all) all) (from_at b.plain.distinct)
-        ∙ ap (λ cells. with_message_at (slot names (key_of v)) cells all) (message_laid names b.plain.distinct b.this w.memory.store from (message_named scope right from from_is))
+        ∙ ap (λ c. with_message_at (slot names (variable_key v)) (message_of c all) all) (from_at b.plain.distinct)
+        ∙ ap (λ cells. with_message_at (slot names (variable_key v)) cells all) (message_laid names b.plain.distinct b.this w.memory.store from (message_named scope right from from_is))
         ∙ copy_laid names b.plain.distinct b.this w.memory.store v to_real.0 to_real.1 m)
         ∙ ap (laid_run names b.this) (sym whole);
   }

@@ -31,7 +31,7 @@ use Rattle.capl_meaning.specs.Sort.{kind_in, sort_of}
 use Rattle.capl_meaning.specs.Operator.{prefix_value, truth_of}
 use Rattle.capl_meaning.specs.Constant.{branches_kind, number_value, operands_kind, prefix_kind}
 use Rattle.capl_meaning.specs.Store.{This}
-use Rattle.capl_meaning.specs.Expression.{Nowhere, InNumber, builtin_value, call_value, calling, gives_or_traps, operates, place_spot, reads, spot_of, step_operator, steps, stores, timer_in, value_of, value_of_this, values_of, with_arguments, with_store}
+use Rattle.capl_meaning.specs.Expression.{Nowhere, InNumber, builtin_value, call_value, calling, gives_or_traps, operates, place_spot, reads, spot_of, step_operator, step_by_one, stores, timer_in, value_of, value_of_this, values_of, with_arguments, with_store}
 use Rattle.capl_meaning.specs.Expression as source
 use Rattle.typed_laws.specs.Laid.{GivesOnly, IsOpen, IsReal, laid, laid_run, laid_spot}
 use Rattle.typed_laws.specs.Agreement.{AssignsAs, Beside, GivesAs, StandsAs, source_setting, typed_setting}
@@ -334,7 +334,7 @@ module _ (scope : Scope) (order : List ℕ) where
 
   steps_same : (b : Beside scope.names order) (e : Expr) (place : Place) (up behind : Bool) (k : Kind) (w : World source.Memory) → AssignsAs scope order e (Some place) →
       typed.value_of (typed_setting b) b.typed_call (Bump place (join k kind.Long) up behind) (laid scope.names b.this w) ≡
-      laid_run scope.names b.this (and_then (place_spot (source_setting b scope) e (spot_of (source_setting b scope) b.call e) w) (steps (source_setting b scope) (step_operator up) behind k))
+      laid_run scope.names b.this (and_then (place_spot (source_setting b scope) e (spot_of (source_setting b scope) b.call e) w) (step_by_one (source_setting b scope) (step_operator up) behind k))
   steps_same b e place up behind k w f =
       let names = scope.names in
       let s = source_setting b scope in
@@ -367,13 +367,13 @@ module _ (scope : Scope) (order : List ℕ) where
 
   -- where there is no place 1 is added to 0, or taken from it, and behind it gives 0
   nowhere_steps : (b : Beside scope.names order) (e : Expr) (up behind : Bool) (k : Kind) (w : World source.Memory) → AssignsAs scope order e None →
-      and_then (place_spot (source_setting b scope) e (spot_of (source_setting b scope) b.call e) w) (steps (source_setting b scope) (step_operator up) behind k) ≡
+      and_then (place_spot (source_setting b scope) e (spot_of (source_setting b scope) b.call e) w) (step_by_one (source_setting b scope) (step_operator up) behind k) ≡
       and_then (operates (step_operator up) (join k kind.Long) (pos 0) (pos 1) w) (λ new w. Gives (if behind then pos 0 else new) w)
-  nowhere_steps b e up behind k w f = ap (λ r. and_then r (steps (source_setting b scope) (step_operator up) behind k)) (f.same b w)
+  nowhere_steps b e up behind k w f = ap (λ r. and_then r (step_by_one (source_setting b scope) (step_operator up) behind k)) (f.same b w)
 
   nowhere_step : (b : Beside scope.names order) (e : Expr) (up : Bool) (k : Kind) (w : World source.Memory) → AssignsAs scope order e None →
       typed.operates (step_operator up) (join k kind.Long) (pos 0) (pos 1) (laid scope.names b.this w) ≡
-      laid_run scope.names b.this (and_then (place_spot (source_setting b scope) e (spot_of (source_setting b scope) b.call e) w) (steps (source_setting b scope) (step_operator up) false k))
+      laid_run scope.names b.this (and_then (place_spot (source_setting b scope) e (spot_of (source_setting b scope) b.call e) w) (step_by_one (source_setting b scope) (step_operator up) false k))
   nowhere_step b e up k w f =
       operates_same scope.names b.this (step_operator up) (join k kind.Long) (pos 0) (pos 1) w
       ∙ ap (laid_run scope.names b.this) (sym (nowhere_steps b e up false k w f ∙ gives_all (operates (step_operator up) (join k kind.Long) (pos 0) (pos 1) w)))

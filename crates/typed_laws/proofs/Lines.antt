@@ -11,8 +11,8 @@ use Rattle.write_format.specs.declared.code.Field.{Field}
 use Rattle.write_format.specs.declared.piece.Piece.{Piece}
 use Rattle.write_format.specs.declared.piece.Piece.TheVariants as piece
 use Rattle.write_format.specs.Element.{Element}
-use Rattle.write_format.specs.Format.{element_of, elements_of as format_elements}
-use Rattle.write_format.specs.Line.{before_zero, character_of, filled, first_of, line_of, number_text}
+use Rattle.write_format.specs.Format.{element_of, format_elements}
+use Rattle.write_format.specs.Line.{before_zero, character_of, filled, first_argument, line_of, number_text}
 use Rattle.control_flow.specs.World.{World, and_then, run_map}
 use Rattle.capl_tree.specs.declared.expr.Expr.{Expr}
 use Rattle.typed_tree.specs.declared.expression.TExpr.{TExpr}
@@ -24,7 +24,7 @@ use Rattle.capl_meaning.specs.Names.{Scope}
 use Rattle.capl_meaning.specs.Message.{array_in}
 use Rattle.capl_meaning.specs.Sort.{is_number, sort_of}
 use Rattle.capl_meaning.specs.Constant.{elements_of}
-use Rattle.capl_meaning.specs.Store.{Store, This, key_of}
+use Rattle.capl_meaning.specs.Store.{Store, This, variable_key}
 use Rattle.capl_meaning.specs.Expression as source
 use Rattle.capl_meaning.specs.Statement as source_statement
 use Rattle.capl_meaning.specs.Statement.{argument_by, arguments_of, characters_of, text_of}
@@ -53,7 +53,7 @@ module _ (s : source.Setting) (distinct : AreDistinct s.scope.names.variables) (
   cells_now = all_cells s.scope.names this store
 
   -- the characters of an array are those in its cells
-  characters_laid : (e : Expr) (v : Variable) → array_in s.scope e ≡ Some v → map unsigned_abs (take (elements_of s.scope.names v) (drop (slot s.scope.names (key_of v)) cells_now)) ≡ characters_of s store v
+  characters_laid : (e : Expr) (v : Variable) → array_in s.scope e ≡ Some v → map unsigned_abs (take (elements_of s.scope.names v) (drop (slot s.scope.names (variable_key v)) cells_now)) ≡ characters_of s store v
   characters_laid e v is =
       let array = array_named s.scope e v is in
       ap (map unsigned_abs) (array_laid s.scope.names distinct this store v array.kind array.fixed array.size_given array.form)
@@ -65,8 +65,8 @@ module _ (s : source.Setting) (distinct : AreDistinct s.scope.names.variables) (
       go c ∙ ap (λ a. line_of (element_of field c a ++ rest') ns []) (sym (ap (argument_by (text_of s store e)) is))
     where
       go : (c : Conversion) → line_of (element_of field c (argument.Number given) ++ rest) ns cells_now ≡ line_of (element_of field c (argument.Number given) ++ rest') ns []
-      go (conversion.Number kind digits) = ap (λ l. number_text field kind digits (first_of ns) ++ l) (same (drop 1 ns))
-      go conversion.Character = ap (λ l. filled field (character_of (first_of ns)) ++ l) (same (drop 1 ns))
+      go (conversion.Number kind digits) = ap (λ l. number_text field kind digits (first_argument ns) ++ l) (same (drop 1 ns))
+      go conversion.Character = ap (λ l. filled field (character_of (first_argument ns)) ++ l) (same (drop 1 ns))
       go conversion.Text = same ns
   shown_same field c e (argument.Str text) is rest rest' same ns =
       go c ∙ ap (λ a. line_of (element_of field c a ++ rest') ns []) (sym (text_argument (text_of s store e) (sort_of s.scope e) is.0 ∙ ap argument.Str known))

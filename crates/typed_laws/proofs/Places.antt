@@ -26,9 +26,9 @@ use Rattle.capl_meaning.specs.declared.field.MessageField.{MessageField}
 use Rattle.capl_meaning.specs.declared.field.MessageField.TheVariants.{Id, Dlc, Rtr, Can, Dir, Time}
 use Rattle.capl_meaning.specs.Variable.{Form, Number, Array, Message, Timer, Misfit, Variable}
 use Rattle.capl_meaning.specs.Names.{Names, Scope, ThisForm, NoThis, ThisFrame, ThisKey, global, is_global, is_local, means}
-use Rattle.capl_meaning.specs.Message.{Held, HeldFrame, HeldVariable, Member, IsField, IsSignal, IsUnusable, IsUnknown, array_by, array_in, held_by, held_this, is_number_place, is_open_array, is_open_member, is_open_number, is_open_part, is_variable, member_named, message_in, signals_of, signals_of_type}
+use Rattle.capl_meaning.specs.Message.{Held, HeldFrame, HeldVariable, NamedMember, IsField, IsSignal, IsUnusable, IsUnknown, array_by, array_in, held_by, held_this, is_number_place, is_open_array, is_open_member, is_open_number, is_open_part, is_variable, member_named, message_in, signals_of, signals_of_type}
 use Rattle.capl_meaning.specs.Constant.{elements_of}
-use Rattle.capl_meaning.specs.Store.{This, key_of}
+use Rattle.capl_meaning.specs.Store.{This, variable_key}
 use Rattle.capl_meaning.specs.Expression.{Nowhere, InNumber, InElement, InField, InBytes, InSignal, element_spot, field_spot, indexing, kind_of_elements, part_spot, place_spot, spot_of, spot_of_form, spot_of_member, spot_of_name, value_of}
 use Rattle.capl_meaning.specs.Expression as source
 use Rattle.typed_laws.specs.Laid.{AreDistinct, GivesOnly, HasForm, IsAmong, IsHeld, IsOpen, IsReal, laid, laid_field, laid_run, laid_spot, mapped, message_slot, slot}
@@ -148,7 +148,7 @@ module _ (scope : Scope) (order : List ℕ) where
 
   -- a number variable
   pub number_place : (name : Text) (at : ℕ) (v : Variable) (k : Kind) (fixed : Bool) (cell : ℕ) → means scope name at ≡ Some v → v.form ≡ Number k fixed →
-      (AreDistinct scope.names.variables → cell ≡ slot scope.names (key_of v)) → StandsAs scope order (expr.Name name at) (Some (Cell cell))
+      (AreDistinct scope.names.variables → cell ≡ slot scope.names (variable_key v)) → StandsAs scope order (expr.Name name at) (Some (Cell cell))
   number_place name at v k fixed cell is form where_ = record {
     same = λ b w.
         let e : spot_of_name (means scope name at) ≡ InNumber k v = ap spot_of_name is ∙ ap (spot_of_form v) form in (
@@ -163,7 +163,7 @@ module _ (scope : Scope) (order : List ℕ) where
 
   -- an element of an array
   pub element_place : (base index : Expr) (at : ℕ) (v : Variable) (cell len : ℕ) (i : TExpr) → array_in scope base ≡ Some v →
-      (AreDistinct scope.names.variables → cell ≡ slot scope.names (key_of v)) → len ≡ elements_of scope.names v → GivesAs scope order index i →
+      (AreDistinct scope.names.variables → cell ≡ slot scope.names (variable_key v)) → len ≡ elements_of scope.names v → GivesAs scope order index i →
       StandsAs scope order (tree.Index base index at) (Some (Elem cell len i))
   element_place base index at v cell len i is where_ long f = record {
     same = λ b w.
@@ -294,7 +294,7 @@ open_element : (s : source.Setting) (o : Option Variable) (index : Computes sour
 open_element s None index w h = absurd (let e : false ≡ true = h in cc)
 open_element s (Some v) index w h = indexed_only IsOpen (elements_of s.scope.names v) (index w) (InElement (kind_of_elements v.form) v) (λ j. tt)
 
-open_member : (held : Held) (m : Member) → is_variable held ≡ true → is_open_member m ≡ true → IsOpen (spot_of_member held m)
+open_member : (held : Held) (m : NamedMember) → is_variable held ≡ true → is_open_member m ≡ true → IsOpen (spot_of_member held m)
 open_member held (IsField f) v h = (v, h)
 open_member held (IsSignal layout) v h = v
 open_member held IsUnusable v h = absurd (let e : false ≡ true = h in cc)

@@ -19,12 +19,12 @@ use Rattle.capl_tree.specs.declared.expr.Field.TheVariants.{Named}
 use Rattle.capl_tree.specs.Forms as tree
 use Rattle.capl_meaning.specs.Variable.{Form, Number, Array, Message, Timer, Misfit, Variable}
 use Rattle.capl_meaning.specs.Names.{Callee, OfLanguage, OfProgram, Unknown, Scope, ThisForm, NoThis, ThisFrame, ThisKey, callee, means}
-use Rattle.capl_meaning.specs.Message.{Held, HeldFrame, HeldVariable, Member, IsField, IsSignal, IsUnusable, IsUnknown, array_in, held_by, held_this, is_number_place, member_named, message_in, signals_of}
+use Rattle.capl_meaning.specs.Message.{Held, HeldFrame, HeldVariable, NamedMember, IsField, IsSignal, IsUnusable, IsUnknown, array_in, held_by, held_this, is_number_place, member_named, message_in, signals_of}
 use Rattle.capl_meaning.specs.Sort.{kind_in, sort_of}
 use Rattle.capl_meaning.specs.Operator.{prefix_value, truth_of}
 use Rattle.capl_meaning.specs.Constant.{branches_kind, elements_of, operands_kind, prefix_kind}
 use Rattle.capl_meaning.specs.Store.{Store, This}
-use Rattle.capl_meaning.specs.Expression.{InBytes, InElement, InField, InNumber, InSignal, Memory, Nowhere, Setting, Spot, call_value, calling, element_spot, field_spot, held_message, indexing, kind_of_elements, operates, part_spot, place_spot, read, reads, spot_of, spot_of_form, spot_of_member, spot_of_name, step_operator, steps, stores, value_of, value_of_name, value_of_this, values_of, with_store, write}
+use Rattle.capl_meaning.specs.Expression.{InBytes, InElement, InField, InNumber, InSignal, Memory, Nowhere, Setting, Spot, call_value, calling, element_spot, field_spot, held_message, indexing, kind_of_elements, operates, part_spot, place_spot, read, reads, spot_of, spot_of_form, spot_of_member, spot_of_name, step_operator, step_by_one, stores, value_of, value_of_name, value_of_this, values_of, with_store, write}
 use Rattle.typed_laws.specs.Laid.{GivesOnly}
 use Rattle.typed_laws.specs.Seen.{SameSeen}
 use Rattle.typed_laws.proofs.Places.{indexed_only}
@@ -84,7 +84,7 @@ module _ (scope : Scope) (a b : This) (h : SameSeen scope.this a b) (closed : Bo
   element_is_seen None index w = λ store. refl
   element_is_seen (Some v) index w = indexed_only IsSeen (elements_of scope.names v) (index w) (InElement (kind_of_elements v.form) v) (λ j store. refl)
 
-  member_is_seen : (held : Held) → ((store : Store) → held_message a store held ≡ held_message b store held) → (m : Member) → IsSeen (spot_of_member held m)
+  member_is_seen : (held : Held) → ((store : Store) → held_message a store held ≡ held_message b store held) → (m : NamedMember) → IsSeen (spot_of_member held m)
   member_is_seen held same (IsField f) store = ap (Rattle.capl_meaning.specs.Store.read_field f) (same store)
   member_is_seen held same (IsSignal layout) store = ap (Rattle.capl_meaning.specs.Store.read_signal layout) (same store)
   member_is_seen held same IsUnusable store = refl
@@ -132,7 +132,7 @@ module _ (scope : Scope) (a b : This) (h : SameSeen scope.this a b) (closed : Bo
   stores_seen (InBytes held k i) n w seen = ap (λ m. Gives m (with_store (write (InBytes held k i) n w.memory.store) w)) (seen (write (InBytes held k i) n w.memory.store))
   stores_seen (InSignal held l) n w seen = ap (λ m. Gives m (with_store (write (InSignal held l) n w.memory.store) w)) (seen (write (InSignal held l) n w.memory.store))
 
-  steps_seen : (operator : BinOp) (behind : Bool) (k : Kind) (spot : Spot) (w : World Memory) → IsSeen spot → steps one operator behind k spot w ≡ steps other operator behind k spot w
+  steps_seen : (operator : BinOp) (behind : Bool) (k : Kind) (spot : Spot) (w : World Memory) → IsSeen spot → step_by_one one operator behind k spot w ≡ step_by_one other operator behind k spot w
   steps_seen operator behind k spot w seen = λ i. and_then (reads_seen spot w seen i) (λ old w. and_then (operates operator (join k kind.Long) old (pos 1) w) (λ new w.
       run_map (λ now. if behind then old else now) (stores_seen spot new w seen i)))
 
@@ -170,15 +170,15 @@ module _ (scope : Scope) (a b : This) (h : SameSeen scope.this a b) (closed : Bo
         (part_is_seen field (message_in scope base) (λ held is store. message_seen base held is store) w) reads_seen
     value_seen (tree.Cast k inner at) w = λ i. run_map (wrap k) (value_seen inner w i)
     value_seen (tree.Unary prefix.Up inner at) w =
-        then_seen (place_spot one inner (spot_of one call inner) w) (place_spot other inner (spot_of other call inner) w) (steps one op.Add false (kind_in (sort_of scope inner))) (steps other op.Add false (kind_in (sort_of scope inner)))
+        then_seen (place_spot one inner (spot_of one call inner) w) (place_spot other inner (spot_of other call inner) w) (step_by_one one op.Add false (kind_in (sort_of scope inner))) (step_by_one other op.Add false (kind_in (sort_of scope inner)))
         (λ i. place_spot one inner (λ w. spot_seen inner w i) w) (place_is_seen inner w) (steps_seen op.Add false (kind_in (sort_of scope inner)))
     value_seen (tree.Unary prefix.Down inner at) w =
-        then_seen (place_spot one inner (spot_of one call inner) w) (place_spot other inner (spot_of other call inner) w) (steps one op.Sub false (kind_in (sort_of scope inner))) (steps other op.Sub false (kind_in (sort_of scope inner)))
+        then_seen (place_spot one inner (spot_of one call inner) w) (place_spot other inner (spot_of other call inner) w) (step_by_one one op.Sub false (kind_in (sort_of scope inner))) (step_by_one other op.Sub false (kind_in (sort_of scope inner)))
         (λ i. place_spot one inner (λ w. spot_seen inner w i) w) (place_is_seen inner w) (steps_seen op.Sub false (kind_in (sort_of scope inner)))
     value_seen (tree.Unary operator inner at) w = λ i. run_map (prefix_value operator (prefix_kind scope inner)) (value_seen inner w i)
     value_seen (tree.Post up inner at) w =
-        then_seen (place_spot one inner (spot_of one call inner) w) (place_spot other inner (spot_of other call inner) w) (steps one (step_operator up) true (kind_in (sort_of scope inner)))
-        (steps other (step_operator up) true (kind_in (sort_of scope inner)))
+        then_seen (place_spot one inner (spot_of one call inner) w) (place_spot other inner (spot_of other call inner) w) (step_by_one one (step_operator up) true (kind_in (sort_of scope inner)))
+        (step_by_one other (step_operator up) true (kind_in (sort_of scope inner)))
         (λ i. place_spot one inner (λ w. spot_seen inner w i) w) (place_is_seen inner w) (steps_seen (step_operator up) true (kind_in (sort_of scope inner)))
     value_seen (tree.Binary op.AndAlso left right at) w = λ i. deciding (value_seen left w i) (λ w. run_map truth_of (value_seen right w i)) (Gives (pos 0))
     value_seen (tree.Binary op.OrElse left right at) w = λ i. deciding (value_seen left w i) (Gives (pos 1)) (λ w. run_map truth_of (value_seen right w i))

@@ -19,14 +19,14 @@ use Rattle.capl_meaning.specs.declared.builtin.Builtin.TheVariants as builtin
 use Rattle.capl_meaning.specs.Variable.{Variable}
 use Rattle.capl_meaning.specs.Names.{Callee, Function, OfLanguage, Scope, callee, inside_function}
 use Rattle.capl_meaning.specs.Calls.{function_numbered}
-use Rattle.capl_meaning.specs.Format.{text_in}
+use Rattle.capl_meaning.specs.Format.{quoted_text}
 use Rattle.capl_meaning.specs.Message.{Held, HeldVariable, message_in}
 use Rattle.capl_meaning.specs.Sort.{is_number, sort_of}
 use Rattle.capl_meaning.specs.Constant.{prefix_kind}
-use Rattle.capl_meaning.specs.Store.{This, key_of, message_cells, with_message}
+use Rattle.capl_meaning.specs.Store.{This, variable_key, message_cells, with_message}
 use Rattle.capl_meaning.specs.Expression.{Memory, Setting, held_message, timer_in, value_of, with_store}
 use Rattle.capl_meaning.specs.Procedure.{Handler, calls_of, ending, ending_of, function_runs, runs, runs_numbered}
-use Rattle.capl_meaning.specs.Statement.{alone_of, arms_of, assigns, calls_alone, drops, else_of, fitting_pieces, for_test, group_for, groups_of, labels_of, numbers_of, part_of, returns, sends, sets, sets_timer, stmt_of, stmts_of, with_line, wrapped_to, writes_line}
+use Rattle.capl_meaning.specs.Statement.{alone_of, arms_of, assigns, calls_alone, drops, else_of, fitting_pieces, for_test, group_for, groups_of, group_labels, numbers_of, part_of, returns, sends, sets, sets_timer, stmt_of, stmts_of, with_line, wrapped_to, writes_line}
 use Rattle.typed_laws.specs.Seen.{SameSeen}
 use Rattle.typed_laws.proofs.Seen.{message_seen, value_seen}
 
@@ -66,7 +66,7 @@ module _ (scope : Scope) (a b : This) (h : SameSeen scope.this a b) (closed : Bo
 
   call_alone_seen : (c : Callee) (args : List Expr) (rest rest' : Does Memory) → ((w : World Memory) → rest w ≡ rest' w) → (w : World Memory) → calls_alone one call c args rest w ≡ calls_alone other call c args rest' w
   call_alone_seen (OfLanguage builtin.Output) (message ∷ []) rest rest' e w = sends_seen (message_in scope message) (message_same message) w
-  call_alone_seen (OfLanguage builtin.Write) (format ∷ arguments) rest rest' e w = line_seen (fitting_pieces (map (sort_of scope) arguments) (text_in format)) arguments w
+  call_alone_seen (OfLanguage builtin.Write) (format ∷ arguments) rest rest' e w = line_seen (fitting_pieces (map (sort_of scope) arguments) (quoted_text format)) arguments w
   call_alone_seen (OfLanguage builtin.SetTimer) (timer ∷ duration ∷ []) rest rest' e w = timer_seen (timer_in scope timer) false (value_of one call duration) (value_of other call duration) (value_same duration) w
   call_alone_seen (OfLanguage builtin.SetTimerCyclic) (timer ∷ duration ∷ []) rest rest' e w = timer_seen (timer_in scope timer) true (value_of one call duration) (value_of other call duration) (value_same duration) w
   call_alone_seen (OfLanguage builtin.CancelTimer) (timer ∷ []) rest rest' e w = refl
@@ -75,7 +75,7 @@ module _ (scope : Scope) (a b : This) (h : SameSeen scope.this a b) (closed : Bo
 
   assigns_seen : (l r : Option Held) → ((held : Held) → r ≡ Some held → (w : World Memory) → held_message a w.memory.store held ≡ held_message b w.memory.store held) → (rest rest' : Does Memory) → ((w : World Memory) → rest w ≡ rest' w) → (w : World Memory) →
       assigns one l r rest w ≡ assigns other l r rest' w
-  assigns_seen (Some (HeldVariable v signals)) (Some from) same rest rest' e w = λ i. Gives GoesOn (with_store (with_message (key_of v) (same from refl w i) w.memory.store) w)
+  assigns_seen (Some (HeldVariable v signals)) (Some from) same rest rest' e w = λ i. Gives GoesOn (with_store (with_message (variable_key v) (same from refl w i) w.memory.store) w)
   assigns_seen l r same rest rest' e w = e w
 
   alone_seen : (e : Expr) (w : World Memory) → alone_of one call e w ≡ alone_of other call e w
@@ -110,7 +110,7 @@ module _ (scope : Scope) (a b : This) (h : SameSeen scope.this a b) (closed : Bo
     stmt_seen n (tree.While test body) w = λ i. while_loop n (λ w. value_same test w i) (λ w. stmt_seen n body w i) w
     stmt_seen n (tree.Do body test) w = λ i. do_loop n (λ w. stmt_seen n body w i) (λ w. value_same test w i) w
     stmt_seen n (tree.For init test step body) w = λ i. for_loop n (λ w. part_seen init w i) (λ w. test_seen test w i) (λ w. part_seen step w i) (λ w. stmt_seen n body w i) w
-    stmt_seen n (stmt.Switch' on shape groups) w = λ i. and_then (value_same on w i) (λ v w. and_then (groups_seen n groups (group_for (wrap (prefix_kind scope on) v) (labels_of scope (prefix_kind scope on) groups)) w i) leaving_switch)
+    stmt_seen n (stmt.Switch' on shape groups) w = λ i. and_then (value_same on w i) (λ v w. and_then (groups_seen n groups (group_for (wrap (prefix_kind scope on) v) (group_labels scope (prefix_kind scope on) groups)) w i) leaving_switch)
     stmt_seen n (stmt.Break at) w = refl
     stmt_seen n (stmt.Continue at) w = refl
     stmt_seen n (stmt.Return value at) w = returns_seen value w

@@ -6,32 +6,32 @@ use Rattle.capl_meaning.specs.Variable.{Form, Number, Array, Message, Timer, Mis
 use Rattle.capl_meaning.specs.Names.{Names}
 use Rattle.capl_meaning.specs.Constant.{elements_of}
 use Rattle.capl_meaning.specs.Initial.{element_of_form, first_store, message_of_form, number_of_form, plain_message, variable_of}
-use Rattle.capl_meaning.specs.Store.{cells_by, cells_of, key_of, lay, message_cells, same_key}
+use Rattle.capl_meaning.specs.Store.{cells_by, cells_of, variable_key, lay, message_cells, same_key}
 use Rattle.typed_laws.specs.Laid.{AreDistinct, IsAmong}
 use Rattle.typed_laws.specs.Starts.{first_by_form, first_cells_of, started}
 use Rattle.typed_laws.proofs.Lists.{row_same}
 use Rattle.typed_laws.proofs.Parts.{fresh, key_self}
 
 -- the variable of a key
-key_found : (vs : List Variable) (v : Variable) → AreDistinct vs → IsAmong v vs → find (λ u. same_key (key_of v) (key_of u)) vs ≡ Some v
+key_found : (vs : List Variable) (v : Variable) → AreDistinct vs → IsAmong v vs → find (λ u. same_key (variable_key v) (variable_key u)) vs ≡ Some v
 key_found [] v distinct among = elim among [ ]
 key_found (u ∷ us) v distinct (inl e) =
-    let same : same_key (key_of v) (key_of u) ≡ true = subst (λ x. same_key (key_of v) (key_of x) ≡ true) (sym e) (key_self (key_of v)) in
-    ap (λ b. cond b (Some u) (find (λ u. same_key (key_of v) (key_of u)) us)) same ∙ ap (λ x. Some x) e
+    let same : same_key (variable_key v) (variable_key u) ≡ true = subst (λ x. same_key (variable_key v) (variable_key x) ≡ true) (sym e) (key_self (variable_key v)) in
+    ap (λ b. cond b (Some u) (find (λ u. same_key (variable_key v) (variable_key u)) us)) same ∙ ap (λ x. Some x) e
 key_found (u ∷ us) v distinct (inr s) =
-    ap (λ b. cond b (Some u) (find (λ u. same_key (key_of v) (key_of u)) us)) (fresh u v us distinct.0 s) ∙ key_found us v distinct.1 s
+    ap (λ b. cond b (Some u) (find (λ u. same_key (variable_key v) (variable_key u)) us)) (fresh u v us distinct.0 s) ∙ key_found us v distinct.1 s
 
 -- the first cells of a variable
 first_own : (names : Names) → AreDistinct names.variables → (v : Variable) → IsAmong v names.variables → cells_of names (first_store names) v ≡ first_cells_of names v
 first_own names distinct v among = by_form v.form refl
   where
-    found : variable_of names (key_of v) ≡ Some v
+    found : variable_of names (variable_key v) ≡ Some v
     found = key_found names.variables v distinct among
 
-    by_form : (form : Form) → v.form ≡ form → cells_by (first_store names) (key_of v) (elements_of names v) form ≡ first_by_form names v (elements_of names v) form
+    by_form : (form : Form) → v.form ≡ form → cells_by (first_store names) (variable_key v) (elements_of names v) form ≡ first_by_form names v (elements_of names v) form
     by_form (Number k fixed) is = ap (λ o. option_map_or (λ v. number_of_form names v v.form) o (pos 0) ∷ []) found ∙ ap (λ form. number_of_form names v form ∷ []) is
     by_form (Array k fixed size) is =
-        row_same (λ i. element_of_form names v i (Array k fixed size)) ((first_store names).element (key_of v)) 0 (elements_of names v)
+        row_same (λ i. element_of_form names v i (Array k fixed size)) ((first_store names).element (variable_key v)) 0 (elements_of names v)
         (λ m _ _. ap (λ o. option_map_or (λ v. element_of_form names v m v.form) o (pos 0)) found ∙ ap (element_of_form names v m) is)
     by_form (Message type_) is =
         ap (λ o. message_cells (option_map_or (λ v. message_of_form names v v.form) o (plain_message 0 8))) found ∙ ap (λ form. message_cells (message_of_form names v form)) is

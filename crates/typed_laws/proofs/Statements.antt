@@ -152,7 +152,7 @@ module _ (scope : Scope) (order : List ℕ) (formats : List FormatText) where
 
   -- the labels of groups
   labels_same : (k : Kind) {m m' : Count} (row : Row_of-Group m) (row' : Row_of-TGroup m') → AllZip (GroupDoesAs scope order formats k) (items-the_row-Group m row) (items-the_row-TGroup m' row') →
-      typed_statement.labels_of row' ≡ source_statement.labels_of scope k row
+      typed_statement.labels_of row' ≡ source_statement.group_labels scope k row
   labels_same k end_of-Group end_of-TGroup h = refl
   labels_same k end_of-Group (more_of-TGroup labels' shape' body' rest') h = elim h [ ]
   labels_same k (more_of-Group labels shape body rest) end_of-TGroup h = elim h [ ]
@@ -287,14 +287,14 @@ module _ (scope : Scope) (order : List ℕ) (formats : List FormatText) where
             let value = source.value_of s b.call on w in
             let labels = typed_statement.labels_of row'.1 in
             let going : Kind → ℤ → World source.Memory → Run source.Memory End =
-            λ j v w. and_then (source_statement.groups_of s b.call n row.1 (source_statement.group_for (wrap j v) (source_statement.labels_of scope j row.1)) w) leaving_switch in
+            λ j v w. and_then (source_statement.groups_of s b.call n row.1 (source_statement.group_for (wrap j v) (source_statement.group_labels scope j row.1)) w) leaving_switch in
             let typed_going : ℤ → World cells.Memory → Run cells.Memory End =
             λ v w. and_then (typed_statement.groups_of (typed_setting b) b.typed_call n row'.1 (typed_statement.group_for v labels) w) leaving_switch in
             wrapped_first k (typed.value_of (typed_setting b) b.typed_call u (laid names b.this w)) typed_going
             ∙ then_same names b.this (λ v. v) (λ end. end) value (typed.value_of (typed_setting b) b.typed_call u (laid names b.this w)) (going k) (λ v. typed_going (wrap k v)) (f.same b w) (λ v w.
-            then_same names b.this (λ end. end) (λ end. end) (source_statement.groups_of s b.call n row.1 (source_statement.group_for (wrap k v) (source_statement.labels_of scope k row.1)) w) _ _ _
+            then_same names b.this (λ end. end) (λ end. end) (source_statement.groups_of s b.call n row.1 (source_statement.group_for (wrap k v) (source_statement.group_labels scope k row.1)) w) _ _ _
             (ap (λ i. typed_statement.groups_of (typed_setting b) b.typed_call n row'.1 i (laid names b.this w)) (found (wrap k v) labels ∙ ap (source_statement.group_for (wrap k v)) (labels_same k row.1 row'.1 zipped))
-            ∙ groups_same b stand n k row.1 row'.1 (source_statement.group_for (wrap k v) (source_statement.labels_of scope k row.1)) zipped w)
+            ∙ groups_same b stand n k row.1 row'.1 (source_statement.group_for (wrap k v) (source_statement.group_labels scope k row.1)) zipped w)
             (leaving_same names b.this))
             ∙ ap (λ j. laid_run names b.this (and_then value (going j))) kind;
       }

@@ -9,7 +9,7 @@ use Rattle.capl_tree.specs.declared.expr.Expr.TheVariants as expr
 use Rattle.capl_tree.specs.Forms as tree
 use Rattle.capl_meaning.specs.Variable.{Form, Number, Array, Message, Timer, Misfit, Variable, is_timer}
 use Rattle.capl_meaning.specs.Names.{Names, Scope, means}
-use Rattle.capl_meaning.specs.Store.{key_of, same_key, timer_number, timer_units, unit_of}
+use Rattle.capl_meaning.specs.Store.{variable_key, same_key, timer_number, timer_units, unit_of}
 use Rattle.capl_meaning.specs.Expression.{timer_by, timer_in}
 use Rattle.typed_laws.specs.Laid.{AreDistinct, HasForm, IsAmong}
 use Rattle.typed_laws.proofs.Parts.{fresh, key_self}
@@ -25,22 +25,22 @@ units vs = filter_map (λ u. unit_of u.form) vs
 -- where a timer stands among the timers, its unit stands among the units
 record Found (v : Variable) (unit : ℕ) (vs : List Variable) : Type 0 where
   place : ℕ
-  is : position_or_len (λ u. same_key (key_of v) (key_of u)) (timers vs) ≡ place
+  is : position_or_len (λ u. same_key (variable_key v) (variable_key u)) (timers vs) ≡ place
   inside : place < length (timers vs)
   unit_there : slice_index_or (units vs) place 0 ≡ unit
 
 found_first : (v : Variable) (unit : ℕ) (us : List Variable) → v.form ≡ Timer unit → Found v unit (v ∷ us)
 found_first v unit us form =
     let all : timers (v ∷ us) ≡ v ∷ timers us = ap (λ f. cond (is_timer f) (v ∷ timers us) (timers us)) form in
-    let first : position_or_len (λ u. same_key (key_of v) (key_of u)) (v ∷ timers us) ≡ 0 = rw (key_self (key_of v)) refl in
+    let first : position_or_len (λ u. same_key (variable_key v) (variable_key u)) (v ∷ timers us) ≡ 0 = rw (key_self (variable_key v)) refl in
     record {
       place = 0;
-      is = ap (position_or_len (λ u. same_key (key_of v) (key_of u))) all ∙ first;
+      is = ap (position_or_len (λ u. same_key (variable_key v) (variable_key u))) all ∙ first;
       inside = subst (λ l. 0 < length l) (sym all) (omega arith);
       unit_there = rw form refl;
     }
 
-found_later : (v u : Variable) (unit : ℕ) (us : List Variable) → same_key (key_of v) (key_of u) ≡ false → Found v unit us → Found v unit (u ∷ us)
+found_later : (v u : Variable) (unit : ℕ) (us : List Variable) → same_key (variable_key v) (variable_key u) ≡ false → Found v unit us → Found v unit (u ∷ us)
 found_later v u unit us apart f = by_form u.form refl
   where
     skipped : (form : Form) → u.form ≡ form → is_timer form ≡ false → unit_of form ≡ None → Found v unit (u ∷ us)
@@ -48,7 +48,7 @@ found_later v u unit us apart f = by_form u.form refl
         let all : timers (u ∷ us) ≡ timers us = ap (λ f. cond (is_timer f) (u ∷ timers us) (timers us)) is ∙ ap (λ b. cond b (u ∷ timers us) (timers us)) no_timer in
         record {
           place = f.place;
-          is = ap (position_or_len (λ u. same_key (key_of v) (key_of u))) all ∙ f.is;
+          is = ap (position_or_len (λ u. same_key (variable_key v) (variable_key u))) all ∙ f.is;
           inside = subst (λ l. f.place < length l) (sym all) f.inside;
           unit_there = rw (is, no_unit) f.unit_there;
         }
@@ -56,10 +56,10 @@ found_later v u unit us apart f = by_form u.form refl
     by_form : (form : Form) → u.form ≡ form → Found v unit (u ∷ us)
     by_form (Timer other) is =
         let all : timers (u ∷ us) ≡ u ∷ timers us = ap (λ f. cond (is_timer f) (u ∷ timers us) (timers us)) is in
-        let next : 1 + position_or_len (λ u. same_key (key_of v) (key_of u)) (timers us) ≡ suc f.place = omega (arith, f.is) in
+        let next : 1 + position_or_len (λ u. same_key (variable_key v) (variable_key u)) (timers us) ≡ suc f.place = omega (arith, f.is) in
         record {
           place = suc f.place;
-          is = ap (position_or_len (λ u. same_key (key_of v) (key_of u))) all ∙ rw apart next;
+          is = ap (position_or_len (λ u. same_key (variable_key v) (variable_key u))) all ∙ rw apart next;
           inside = subst (λ l. suc f.place < length l) (sym all) (omega (arith, f.inside));
           unit_there = rw is f.unit_there;
         }

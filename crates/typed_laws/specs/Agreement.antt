@@ -36,11 +36,11 @@ use Rattle.capl_meaning.specs.declared.sort.Sort.TheVariants as sort
 use Rattle.capl_meaning.specs.Variable.{Variable, variable_of_parameter}
 use Rattle.capl_meaning.specs.Names.{Callee, Function, Names, OfLanguage, OfProgram, Scope, callee, inside_function, names_of}
 use Rattle.capl_meaning.specs.Calls.{function_numbered}
-use Rattle.capl_meaning.specs.Format.{text_in}
+use Rattle.capl_meaning.specs.Format.{quoted_text}
 use Rattle.capl_meaning.specs.Message.{Held, HeldVariable, array_in}
 use Rattle.capl_meaning.specs.Sort.{is_number, sort_of}
 use Rattle.capl_meaning.specs.Constant.{elements_of}
-use Rattle.capl_meaning.specs.Store.{This, event_kinds, key_of, laid_kinds, timer_units}
+use Rattle.capl_meaning.specs.Store.{This, event_kinds, variable_key, laid_kinds, timer_units}
 use Rattle.capl_meaning.specs.Expression as source
 use Rattle.capl_meaning.specs.Procedure.{Handler, handlers_of}
 use Rattle.capl_meaning.specs.Procedure as source_procedure
@@ -226,10 +226,10 @@ pub record GroupDoesAs (scope : Scope) (order : List ℕ) (formats : List Format
 abbrev pub IsArgument : Scope → Expr → ArgKind → Type 0
 IsArgument scope e (argument.Number k) = sort_of scope e ≡ sort.Number k
 IsArgument scope e (argument.Chars base len) = (v : Variable) × (array_in scope e ≡ Some v) ×
-    (is_number (sort_of scope e) ≡ false) × (text_in e ≡ None) ×
-    (AreDistinct scope.names.variables → base ≡ slot scope.names (key_of v)) ×
+    (is_number (sort_of scope e) ≡ false) × (quoted_text e ≡ None) ×
+    (AreDistinct scope.names.variables → base ≡ slot scope.names (variable_key v)) ×
     (len ≡ elements_of scope.names v)
-IsArgument scope e (argument.Str text) = (is_number (sort_of scope e) ≡ false) × (text_in e ≡ Some text)
+IsArgument scope e (argument.Str text) = (is_number (sort_of scope e) ≡ false) × (quoted_text e ≡ Some text)
 
 -- ---- programs
 

@@ -10,7 +10,7 @@ use Rattle.capl_meaning.specs.Variable.{Form, Number, Array, Message, MessageTyp
 use Rattle.capl_meaning.specs.Names.{Names}
 use Rattle.capl_meaning.specs.Message.{Held, HeldFrame, HeldVariable, is_assignable_field, is_variable}
 use Rattle.capl_meaning.specs.Constant.{elements_of}
-use Rattle.capl_meaning.specs.Store.{Key, This, event_cells, key_of, lay, same_key}
+use Rattle.capl_meaning.specs.Store.{Key, This, event_cells, variable_key, lay, same_key}
 use Rattle.capl_meaning.specs.Expression.{InBytes, InElement, InField, InNumber, InSignal, Nowhere}
 use Rattle.capl_meaning.specs.Expression as source
 use Rattle.typed_tree.specs.Memory as typed
@@ -33,7 +33,7 @@ cell_count names v = cells_by_form (elements_of names v) v.form
 abbrev pub cells_before : Names → List Variable → Key → ℕ
 cells_before names [] k = 0
 cells_before names (v ∷ vs) k =
-    if same_key (key_of v) k then 0 else cell_count names v + cells_before names vs k
+    if same_key (variable_key v) k then 0 else cell_count names v + cells_before names vs k
 
 -- the first cell of the variable with a key: behind the event's 15, and those of the variables before it
 abbrev pub slot : Names → Key → ℕ
@@ -47,7 +47,8 @@ IsAmong x (y ∷ ys) = (y ≡ x) ⊎ IsAmong x ys
 -- no two variables are of one procedure, or global, and have one name
 abbrev pub AreDistinct : List Variable → Type 0
 AreDistinct [] = ⊤
-AreDistinct (v ∷ vs) = AllByRecursion (λ u. same_key (key_of u) (key_of v) ≡ false) vs × AreDistinct vs
+AreDistinct (v ∷ vs) =
+    AllByRecursion (λ u. same_key (variable_key u) (variable_key v) ≡ false) vs × AreDistinct vs
 
 -- ---- memories, worlds and runs
 
@@ -74,7 +75,7 @@ laid_run names this run = mapped names this (λ a. a) run
 -- the first cell of a message: of the frame that `this` is, or of a variable
 abbrev pub message_slot : Names → Held → ℕ
 message_slot names (HeldFrame signals) = 0
-message_slot names (HeldVariable v signals) = slot names (key_of v)
+message_slot names (HeldVariable v signals) = slot names (variable_key v)
 
 -- the place of a field of the message at a cell; direction and time, which have no write rule, are cells
 abbrev pub laid_field : ℕ → MessageField → typed.Spot
@@ -88,8 +89,8 @@ laid_field at Time = typed.InCell (at + 5)
 -- the place in cells of a place
 abbrev pub laid_spot : Names → source.Spot → typed.Spot
 laid_spot names Nowhere = typed.InCell 0
-laid_spot names (InNumber k v) = typed.InCell (slot names (key_of v))
-laid_spot names (InElement k v i) = typed.InCell (slot names (key_of v) + i)
+laid_spot names (InNumber k v) = typed.InCell (slot names (variable_key v))
+laid_spot names (InElement k v i) = typed.InCell (slot names (variable_key v) + i)
 laid_spot names (InField held f) = laid_field (message_slot names held) f
 laid_spot names (InBytes held k i) = typed.InBytes (message_slot names held) k i
 laid_spot names (InSignal held layout) = typed.InSignal (message_slot names held) layout

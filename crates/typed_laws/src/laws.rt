@@ -26,11 +26,11 @@ ghost use Rattle.capl_meaning.specs.declared.builtin.Builtin.{Builtin};
 ghost use Rattle.capl_meaning.specs.declared.builtin.Builtin.TheVariants as builtin;
 ghost use Rattle.capl_meaning.specs.Variable.{Message, MessageType, Variable, variables_of};
 ghost use Rattle.capl_meaning.specs.Names.{Names, OfLanguage, Scope, Unknown, callee, means, names_of};
-ghost use Rattle.capl_meaning.specs.Format.{text_in};
+ghost use Rattle.capl_meaning.specs.Format.{quoted_text};
 ghost use Rattle.capl_meaning.specs.Message.{Held, array_in, is_number_place, message_in};
 ghost use Rattle.capl_meaning.specs.Sort.{kind_in, sort_of};
 ghost use Rattle.capl_meaning.specs.Constant.{operands_kind};
-ghost use Rattle.capl_meaning.specs.Store.{Store, This, event_cells, event_kinds, key_of, laid_kinds, lay, with_message};
+ghost use Rattle.capl_meaning.specs.Store.{Store, This, event_cells, event_kinds, variable_key, laid_kinds, lay, with_message};
 ghost use Rattle.capl_meaning.specs.Expression.{spot_of_name, step_operator, timer_in};
 ghost use Rattle.capl_meaning.specs.Expression as source;
 ghost use Rattle.capl_meaning.specs.Initial.{first_store};
@@ -92,11 +92,11 @@ pub fn cells_hold_the_store()
     ensures copies { (names : Names) → AreDistinct names.variables → (this : This) (s : Store)
         (v : Variable) (type_ : MessageType) (from : Held) →
         HasForm names v (Message type_) → IsHeld names from →
-        with_message_at (slot names (key_of v)) (message_of (message_slot names from)
+        with_message_at (slot names (variable_key v)) (message_of (message_slot names from)
         (laid_memory names this (record { store = s; active = [] })).cells)
         (laid_memory names this (record { store = s; active = [] })).cells ≡
         (laid_memory names this (record {
-          store = with_message (key_of v) (source.held_message this s from) s;
+          store = with_message (variable_key v) (source.held_message this s from) s;
           active = [];
         })).cells }
     ensures first { (names : Names) → AreDistinct names.variables →
@@ -139,7 +139,7 @@ pub fn broken_statements_have_trees()
     ensures no_format { (scope : Scope) (order : List ℕ) (formats : List FormatText) (name : Text)
         (format : Expr) (arguments : List Expr) (at : ℕ) →
         callee scope.names name ≡ OfLanguage builtin.Write →
-        fitting_pieces (map (sort_of scope) arguments) (text_in format) ≡ None →
+        fitting_pieces (map (sort_of scope) arguments) (quoted_text format) ≡ None →
         AloneDoesAs scope order formats (expr.Call name (format ∷ arguments) at) typed_stmt.Empty }
     ensures no_timer { (scope : Scope) (order : List ℕ) (formats : List FormatText) (name : Text)
         (timer duration : Expr) (at : ℕ) →

@@ -17,7 +17,7 @@ use Rattle.typed_tree.specs.declared.statement.TStmt.TheVariants as t
 use Rattle.capl_meaning.specs.declared.builtin.Builtin.TheVariants as builtin
 use Rattle.capl_meaning.specs.Variable.{Variable}
 use Rattle.capl_meaning.specs.Names.{Callee, OfLanguage, Scope, callee}
-use Rattle.capl_meaning.specs.Format.{text_in}
+use Rattle.capl_meaning.specs.Format.{quoted_text}
 use Rattle.capl_meaning.specs.Message.{Held, HeldVariable, message_in}
 use Rattle.capl_meaning.specs.Sort.{is_number, sort_of}
 use Rattle.capl_meaning.specs.Store.{timer_number}
@@ -99,7 +99,7 @@ module _ (scope : Scope) (order : List ℕ) (each : HasEach scope.names order) (
   writes before name format arguments at is (Some pieces) fitting there =
       let first : before + 0 ≡ before = omega arith in
       write_as scope order formats name format arguments at pieces (map (argument_of scope) arguments) (format_of scope (text_written format) pieces arguments) before _ is fitting
-      (arguments_are scope (text_in format) arguments pieces fitting) refl (ap (slice_get formats) (sym first) ∙ there 0 _ refl)
+      (arguments_are scope (quoted_text format) arguments pieces fitting) refl (ap (slice_get formats) (sym first) ∙ there 0 _ refl)
       (zip_map (GivesAs scope order) (expression_of scope order) (gives scope order each) (filter (λ e. is_number (sort_of scope e)) arguments))
 
   -- a call, by what it is of and its arguments

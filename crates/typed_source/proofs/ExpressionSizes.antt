@@ -29,7 +29,7 @@ use Rattle.capl_meaning.specs.declared.field.MessageField.{MessageField}
 use Rattle.capl_meaning.specs.declared.field.MessageField.TheVariants.{Id, Dlc, Rtr, Can, Dir, Time}
 use Rattle.capl_meaning.specs.Variable.{Form, Number, Array, Message, Timer, Misfit, Variable}
 use Rattle.capl_meaning.specs.Names.{Callee, OfLanguage, OfProgram, Scope, ThisForm, NoThis, ThisFrame, ThisKey, Unknown, callee, means}
-use Rattle.capl_meaning.specs.Message.{Held, Member, IsField, IsSignal, IsUnusable, IsUnknown, array_in, is_number_place, member_named, message_in, signals_of}
+use Rattle.capl_meaning.specs.Message.{Held, NamedMember, IsField, IsSignal, IsUnusable, IsUnknown, array_in, is_number_place, member_named, message_in, signals_of}
 use Rattle.capl_meaning.specs.Sort.{kind_in, sort_of}
 use Rattle.capl_meaning.specs.Constant.{branches_kind, elements_of, operands_kind}
 use Rattle.capl_meaning.specs.Store.{timer_number}
@@ -167,7 +167,7 @@ module _ (typed : Typed) (number : ℕ) where
   light_field at Dir = omega arith
   light_field at Time = omega arith
 
-  light_member : (at : ℕ) (m : Member) → IsLightPlace (place_of_member at m) 8
+  light_member : (at : ℕ) (m : NamedMember) → IsLightPlace (place_of_member at m) 8
   light_member at (IsField f) = light_field at f
   light_member at (IsSignal layout) = omega arith
   light_member at IsUnusable = tt

@@ -25,7 +25,7 @@ use Rattle.capl_meaning.specs.declared.field.MessageField.{MessageField}
 use Rattle.capl_meaning.specs.declared.field.MessageField.TheVariants.{Id, Dlc, Rtr, Can, Dir, Time}
 use Rattle.capl_meaning.specs.Variable.{Form, Number, Array, Message, Timer, Misfit, Variable}
 use Rattle.capl_meaning.specs.Names.{Callee, Function, OfLanguage, OfProgram, Scope, ThisForm, NoThis, ThisFrame, ThisKey, Unknown, callee, means}
-use Rattle.capl_meaning.specs.Message.{Held, Member, IsField, IsSignal, IsUnusable, IsUnknown, array_in, is_number_place, member_named, message_in, signals_of}
+use Rattle.capl_meaning.specs.Message.{Held, NamedMember, IsField, IsSignal, IsUnusable, IsUnknown, array_in, is_number_place, member_named, message_in, signals_of}
 use Rattle.capl_meaning.specs.Sort.{kind_in, sort_of}
 use Rattle.capl_meaning.specs.Constant.{elements_of, operands_kind}
 use Rattle.capl_meaning.specs.Store.{timer_number}
@@ -90,7 +90,7 @@ module _ (scope : Scope) (order : List ℕ) where
   loads_element base index at None f = no_element_as scope order base index at f
   loads_element base index at (Some place) f = element_as scope order base index at place f
 
-  stands_member : (base : Expr) (name : Text) (at here : ℕ) (held : Held) → message_in scope base ≡ Some held → (m : Member) → member_named (signals_of held) name ≡ m →
+  stands_member : (base : Expr) (name : Text) (at here : ℕ) (held : Held) → message_in scope base ≡ Some held → (m : NamedMember) → member_named (signals_of held) name ≡ m →
       StandsAs scope order (tree.Member base (Named name at) here) (place_of_member (message_slot scope.names held) m)
   stands_member base name at here held is (IsField f) member =
       subst (λ p. StandsAs scope order (tree.Member base (Named name at) here) (Some p)) (same_field (message_slot scope.names held) f)

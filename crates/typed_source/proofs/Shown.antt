@@ -25,8 +25,8 @@ use Rattle.capl_meaning.specs.declared.sort.Sort.{Sort}
 use Rattle.capl_meaning.specs.declared.sort.Sort.TheVariants as sort
 use Rattle.capl_meaning.specs.Variable.{Form, Number, Array, Message, Timer, Misfit, Variable}
 use Rattle.capl_meaning.specs.Names.{Callee, OfLanguage, OfProgram, Unknown, Scope, ThisForm, NoThis, ThisFrame, ThisKey, callee, direction, means}
-use Rattle.capl_meaning.specs.Format.{first_text, format_codes, show_all, shows, text_in}
-use Rattle.capl_meaning.specs.Message.{Held, Member, IsField, IsSignal, IsUnusable, IsUnknown, array_by, array_in, is_number_place, is_open_number, member_named, message_in, signals_of}
+use Rattle.capl_meaning.specs.Format.{first_text, format_codes, show_all, shows, quoted_text}
+use Rattle.capl_meaning.specs.Message.{Held, NamedMember, IsField, IsSignal, IsUnusable, IsUnknown, array_by, array_in, is_number_place, is_open_number, member_named, message_in, signals_of}
 use Rattle.capl_meaning.specs.Sort.{is_number, number_from, sort_given, sort_of, sort_of_assignment, sort_of_binary, sort_of_builtin, sort_of_call, sort_of_choice, sort_of_direction, sort_of_element, sort_of_form, sort_of_member, sort_of_name, sort_of_number, sort_of_part, sort_of_prefix, sort_of_step, sort_of_this, sorts_of}
 use Rattle.capl_meaning.specs.Statement.{fitting_pieces}
 use Rattle.typed_laws.specs.Agreement.{IsArgument}
@@ -74,7 +74,7 @@ plain_assignment None is_place true sort.Message sort.Message = tt
 plain_assignment operator true is_message (sort.Number k) (sort.Number j) = tt
 plain_assignment operator is_place is_message left right = tt
 
-plain_member : (m : Member) → IsPlain (sort_of_member m)
+plain_member : (m : NamedMember) → IsPlain (sort_of_member m)
 plain_member (IsField f) = tt
 plain_member (IsSignal layout) = tt
 plain_member IsUnusable = tt
@@ -149,8 +149,8 @@ module _ (s : Scope) where
 
   -- an expression of a sort names what the sort says: a text, or an array
   abbrev pub Names : Expr → Sort → Type 0
-  Names e sort.Text = (text : List ℕ) × (text_in e ≡ Some text)
-  Names e (sort.Array k) = (v : Variable) × (array_in s e ≡ Some v) × (text_in e ≡ None)
+  Names e sort.Text = (text : List ℕ) × (quoted_text e ≡ Some text)
+  Names e (sort.Array k) = (v : Variable) × (array_in s e ≡ Some v) × (quoted_text e ≡ None)
   Names e _ = ⊤
 
   plain_names : (e : Expr) (given : Sort) → IsPlain given → Names e given
@@ -200,7 +200,7 @@ module _ (s : Scope) where
 
   -- an argument that a code shows is what it is said to be
   is_shown : (code : Code) (e : Expr) (given : Sort) → sort_of s e ≡ given → Names e given → shows code given ≡ true →
-      IsArgument s e (argument_by given (text_argument s.names (text_in e) (array_in s e)))
+      IsArgument s e (argument_by given (text_argument s.names (quoted_text e) (array_in s e)))
   is_shown code e (sort.Number k) is named h = is
   is_shown code e sort.Text is named h =
       subst (λ o. IsArgument s e (text_argument s.names o (array_in s e))) (sym named.1) (ap is_number is, named.1)

@@ -42,10 +42,10 @@ use Rattle.capl_meaning.specs.declared.sort.Sort.TheVariants as sort
 use Rattle.capl_meaning.specs.Variable.{Form, Number, Array, Message, Timer, Misfit, Variable}
 use Rattle.capl_meaning.specs.Names.{Callee, Function, OfLanguage, OfProgram, Scope, ThisForm, NoThis, ThisFrame, ThisKey, Unknown, callee, direction, means}
 use Rattle.capl_meaning.specs.Format.{first_text}
-use Rattle.capl_meaning.specs.Message.{Held, HeldFrame, HeldVariable, Member, IsField, IsSignal, IsUnusable, IsUnknown, array_by, array_in, can_be_used, field_named, is_number_place, is_open_number, is_usable, member_named, member_of_signal, member_of_signals, message_in, signal_named, signals_of}
+use Rattle.capl_meaning.specs.Message.{Held, HeldFrame, HeldVariable, NamedMember, IsField, IsSignal, IsUnusable, IsUnknown, array_by, array_in, can_be_used, field_named, is_number_place, is_open_number, is_usable, member_named, member_of_signal, member_of_signals, message_in, signal_named, signals_of}
 use Rattle.capl_meaning.specs.Sort.{is_number, is_recursive, kind_in, number_from, sort_given, sort_of, sort_of_assignment, sort_of_binary, sort_of_call, sort_of_choice, sort_of_element, sort_of_form, sort_of_function, sort_of_member, sort_of_name, sort_of_part, sort_of_prefix, sort_of_step, sorts_of}
 use Rattle.capl_meaning.specs.Constant.{array_length, constant_at, elements_of, length_by, number_value, scope_of}
-use Rattle.capl_meaning.specs.Store.{key_of, timer_number}
+use Rattle.capl_meaning.specs.Store.{variable_key, timer_number}
 use Rattle.capl_meaning.specs.Expression.{timer_in}
 use Rattle.typed_laws.specs.Laid.{HasForm, IsHeld, message_slot, slot}
 use Rattle.typed_laws.proofs.Places.{array_named, means_among, message_named}
@@ -289,7 +289,7 @@ module _ (typed : Typed) (number : ℕ) where
         let given = element_numbers (sort_of s base) index h in
         let same : sort_of s base ≡ sort.Array array.kind = array_sort s base v is ∙ ap sort_of_form array.form.form_is in
         record {
-          place = form.Elem (slot s.names (key_of v)) (elements_of s.names v) t;
+          place = form.Elem (slot s.names (variable_key v)) (elements_of s.names v) t;
           is = refl;
           exists = table.0;
           index = f given.2;
@@ -305,7 +305,7 @@ module _ (typed : Typed) (number : ℕ) where
     held_message base (HeldFrame signals) h = tables.event.message
     held_message base (HeldVariable v signals) h = tables.messages v h.0 h.1
 
-    at_member : (at : ℕ) (k : Kind) (signals : Option (List DbcSignal)) (name : List ℕ) → IsMessage typed.cells at → (m : Member) → member_named signals name ≡ m → IsOfNumber (sort_of_member m) → SoundAt (place_of_member at m) k
+    at_member : (at : ℕ) (k : Kind) (signals : Option (List DbcSignal)) (name : List ℕ) → IsMessage typed.cells at → (m : NamedMember) → member_named signals name ≡ m → IsOfNumber (sort_of_member m) → SoundAt (place_of_member at m) k
     at_member at k signals name there (IsField Id) is h = record { place = _; is = refl; exists = (omega arith, there); index = tt; wide = tt }
     at_member at k signals name there (IsField Dlc) is h = record { place = _; is = refl; exists = (omega arith, there); index = tt; wide = tt }
     at_member at k signals name there (IsField Rtr) is h = record { place = _; is = refl; exists = (omega arith, there); index = tt; wide = tt }

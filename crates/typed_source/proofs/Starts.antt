@@ -6,7 +6,7 @@ use Rattle.std.proofs.lemmas.Bool.Decides.{Decides-int_eq}
 use Rattle.capl_meaning.specs.Variable.{Form, Number, Array, Message, Timer, Misfit, Variable}
 use Rattle.capl_meaning.specs.Names.{Names}
 use Rattle.capl_meaning.specs.Constant.{elements_of}
-use Rattle.capl_meaning.specs.Store.{Store, cells_by, cells_of, event_kinds, key_of, kinds_by, laid_kinds, lay}
+use Rattle.capl_meaning.specs.Store.{Store, cells_by, cells_of, event_kinds, variable_key, kinds_by, laid_kinds, lay}
 use Rattle.typed_laws.specs.Starts.{started}
 use Rattle.typed_laws.proofs.Lists.{replicate_long, row_long, set_middle}
 use Rattle.typed_source.specs.Program.{starts_from}
@@ -41,9 +41,9 @@ starts_make front (n ∷ ns) = go (int_eq n (pos 0)) refl (λ m. starts_make (fr
 
 -- ---- as many cells as kinds
 
-as_many : (names : Names) (s : Store) (v : Variable) (elements : ℕ) (form : Form) → length (kinds_by elements form) ≡ length (cells_by s (key_of v) elements form)
+as_many : (names : Names) (s : Store) (v : Variable) (elements : ℕ) (form : Form) → length (kinds_by elements form) ≡ length (cells_by s (variable_key v) elements form)
 as_many names s v elements (Number k fixed) = refl
-as_many names s v elements (Array k fixed size) = replicate_long elements k ∙ sym (row_long (s.element (key_of v)) 0 elements)
+as_many names s v elements (Array k fixed size) = replicate_long elements k ∙ sym (row_long (s.element (variable_key v)) 0 elements)
 as_many names s v elements (Message type_) = refl
 as_many names s v elements (Timer unit) = refl
 as_many names s v elements Misfit = refl

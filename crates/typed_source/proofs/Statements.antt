@@ -79,7 +79,7 @@ module _ (scope : Scope) (order : List ℕ) (each : HasEach scope.names order) (
         ap (λ (same : Option ℤ → Option ℤ → Bool).
         unwrap_or (position (list_any (same (Some v))) labels) (unwrap_or (position (list_any (same None)) labels) (length labels))) (λ i l m. same_label_as l m i)
 
-    labels_same : (k : Kind) (before : ℕ) {m : Count} (row : Row_of-Group m) → typed_statement.labels_of (groups_of scope order k before row) ≡ source_statement.labels_of scope k row
+    labels_same : (k : Kind) (before : ℕ) {m : Count} (row : Row_of-Group m) → typed_statement.labels_of (groups_of scope order k before row) ≡ source_statement.group_labels scope k row
     labels_same k before end_of-Group = refl
     labels_same k before (more_of-Group labels shape body rest) =
         ap (λ ls. filter_map (λ label. source_statement.label_of scope k label.at label.value) labels ∷ ls) (labels_same k (before + length (formats_of_row scope body)) rest)
@@ -118,16 +118,16 @@ module _ (scope : Scope) (order : List ℕ) (each : HasEach scope.names order) (
           let u = expression_of scope order on in
           let row = groups_of scope order k before groups in
           let going : ℤ → World source.Memory → Run source.Memory End =
-          λ v w. and_then (source_statement.groups_of s b.call n groups (source_statement.group_for (wrap k v) (source_statement.labels_of scope k groups)) w) leaving_switch in
+          λ v w. and_then (source_statement.groups_of s b.call n groups (source_statement.group_for (wrap k v) (source_statement.group_labels scope k groups)) w) leaving_switch in
           let typed_going : ℤ → World cells.Memory → Run cells.Memory End =
           λ v w. and_then (typed_statement.groups_of (typed_setting b) b.typed_call n row (typed_statement.group_for v (typed_statement.labels_of row)) w) leaving_switch in
           then_same names b.this (wrap k) (λ end. end) (source.value_of s b.call on w) (run_map (wrap k) (typed.value_of (typed_setting b) b.typed_call u (laid names b.this w))) going typed_going
           (then_same names b.this (λ v. v) (wrap k) (source.value_of s b.call on w) (typed.value_of (typed_setting b) b.typed_call u (laid names b.this w)) (λ v w. Gives v w) (λ v w. Gives (wrap k v) w)
           ((gives scope order each on).same b w) (λ v w. refl) ∙ ap (mapped names b.this (wrap k)) (gives_all (source.value_of s b.call on w)))
           (λ v w.
-          then_same names b.this (λ end. end) (λ end. end) (source_statement.groups_of s b.call n groups (source_statement.group_for (wrap k v) (source_statement.labels_of scope k groups)) w) _ _ _
+          then_same names b.this (λ end. end) (λ end. end) (source_statement.groups_of s b.call n groups (source_statement.group_for (wrap k v) (source_statement.group_labels scope k groups)) w) _ _ _
           (ap (λ i. typed_statement.groups_of (typed_setting b) b.typed_call n row i (laid names b.this w)) (found (wrap k v) (typed_statement.labels_of row) ∙ ap (source_statement.group_for (wrap k v)) (labels_same k before groups))
-          ∙ groups_same k before groups (source_statement.group_for (wrap k v) (source_statement.labels_of scope k groups)) there w)
+          ∙ groups_same k before groups (source_statement.group_for (wrap k v) (source_statement.group_labels scope k groups)) there w)
           (leaving_same names b.this))
       stmt_same before (stmt.Break at) there w = refl
       stmt_same before (stmt.Continue at) there w = refl

@@ -15,7 +15,7 @@ use Rattle.typed_tree.specs.SoundExpression.{IsUniformArray}
 use Rattle.capl_meaning.specs.Variable.{Form, Number, Array, Message, MessageType, Timer, Misfit, Variable}
 use Rattle.capl_meaning.specs.Names.{Names}
 use Rattle.capl_meaning.specs.Constant.{elements_of}
-use Rattle.capl_meaning.specs.Store.{event_kinds, key_of, kinds_by, laid_kinds, timer_number, timer_units}
+use Rattle.capl_meaning.specs.Store.{event_kinds, variable_key, kinds_by, laid_kinds, timer_number, timer_units}
 use Rattle.typed_laws.specs.Laid.{AreDistinct, HasForm, IsAmong, cells_by_form, cells_before, slot}
 use Rattle.typed_laws.proofs.Lists.{at_middle, replicate_at, replicate_long, take_middle}
 use Rattle.typed_laws.proofs.Parts.{parted}
@@ -47,7 +47,7 @@ module _ (names : Names) where
     before : List Kind
     after : List Kind
     is : all ≡ before ++ (own v ++ after)
-    at : slot names (key_of v) ≡ length before
+    at : slot names (variable_key v) ≡ length before
 
   module _ (distinct : AreDistinct names.variables) where
     around : (v : Variable) → IsAmong v names.variables → Around v
@@ -58,28 +58,28 @@ module _ (names : Names) where
           before = event_kinds ++ p.0;
           after = p.1;
           is = ap (λ l. event_kinds ++ l) (p.3 own (λ u _. refl)) ∙ sym (append_assoc event_kinds p.0 (own v ++ p.1));
-          at = let e : length p.0 ≡ cells_before names names.variables (key_of v) = p.2 in omega (arith, long, e);
+          at = let e : length p.0 ≡ cells_before names names.variables (variable_key v) = p.2 in omega (arith, long, e);
         }
 
-    all_long : (v : Variable) (a : Around v) → slot names (key_of v) + length (own v) ≤ length all
+    all_long : (v : Variable) (a : Around v) → slot names (variable_key v) + length (own v) ≤ length all
     all_long v a =
         let e : length all ≡ length (a.before ++ (own v ++ a.after)) = ap length a.is in
         let f : length (a.before ++ (own v ++ a.after)) ≡ length a.before + length (own v ++ a.after) = length-append a.before (own v ++ a.after) in
         let g : length (own v ++ a.after) ≡ length (own v) + length a.after = length-append (own v) a.after in
-        let h : slot names (key_of v) ≡ length a.before = a.at in
+        let h : slot names (variable_key v) ≡ length a.before = a.at in
         omega (arith, e, f, g, h)
 
     -- a variable's cells have its kinds
-    cut : (v : Variable) (a : Around v) (n : ℕ) → length (own v) ≡ n → take n (drop (slot names (key_of v)) all) ≡ own v
+    cut : (v : Variable) (a : Around v) (n : ℕ) → length (own v) ≡ n → take n (drop (slot names (variable_key v)) all) ≡ own v
     cut v a n long = ap (λ i. take n (drop i all)) a.at ∙ ap (λ l. take n (drop (length a.before) l)) a.is ∙ take_middle a.before (own v) a.after n long
 
-    numbers : (v : Variable) (k : Kind) (fixed : Bool) → HasForm names v (Number k fixed) → slot names (key_of v) < length all
+    numbers : (v : Variable) (k : Kind) (fixed : Bool) → HasForm names v (Number k fixed) → slot names (variable_key v) < length all
     numbers v k fixed real =
         let e : length (own v) ≡ 1 = ap (λ form. length (kinds_by (elements_of names v) form)) real.form_is in
-        let f : slot names (key_of v) + length (own v) ≤ length all = all_long v (around v real.among) in
+        let f : slot names (variable_key v) + length (own v) ≤ length all = all_long v (around v real.among) in
         omega (arith, e, f)
 
-    messages : (v : Variable) (type_ : MessageType) → HasForm names v (Message type_) → IsMessage all (slot names (key_of v))
+    messages : (v : Variable) (type_ : MessageType) → HasForm names v (Message type_) → IsMessage all (slot names (variable_key v))
     messages v type_ real =
         let e : own v ≡ message_kinds = ap (kinds_by (elements_of names v)) real.form_is in
         cut v (around v real.among) 14 (ap length e) ∙ e
@@ -88,22 +88,22 @@ module _ (names : Names) where
     same_kinds n k i d less = replicate_at n i k d (let e : length (replicate n k) ≡ n = replicate_long n k in omega (arith, less, e))
 
     arrays : (v : Variable) (k : Kind) (fixed : Bool) (size : Expr) → HasForm names v (Array k fixed size) → 1 ≤ elements_of names v →
-        IsUniformArray all (slot names (key_of v)) (elements_of names v) × (kind_of all (slot names (key_of v)) ≡ k)
+        IsUniformArray all (slot names (variable_key v)) (elements_of names v) × (kind_of all (slot names (variable_key v)) ≡ k)
     arrays v k fixed size real least =
         let a = around v real.among in
         let n = elements_of names v in
         let e : own v ≡ replicate n k = ap (kinds_by n) real.form_is in
         let long : length (own v) ≡ n = ap length e ∙ replicate_long n k in
         let zero_more : length a.before + 0 ≡ length a.before = omega arith in
-        let first : kind_of all (slot names (key_of v)) ≡ k =
+        let first : kind_of all (slot names (variable_key v)) ≡ k =
         ap (λ i. slice_index_or all i Long) a.at ∙ ap (λ l. slice_index_or l (length a.before) Long) a.is
         ∙ ap (λ i. slice_index_or (a.before ++ (own v ++ a.after)) i Long) (sym zero_more)
         ∙ at_middle a.before (own v) a.after 0 Long (omega (arith, long, least))
         ∙ ap (λ l. slice_index_or l 0 Long) e ∙ replicate_at n 0 k Long (omega (arith, least)) in (
           record {
             at_least_one = least;
-            there = let f : slot names (key_of v) + length (own v) ≤ length all = all_long v a in omega (arith, f, long);
-            of_one_kind = subst (λ l. All (λ j. j ≡ kind_of all (slot names (key_of v))) l) (sym (cut v a n long ∙ e))
+            there = let f : slot names (variable_key v) + length (own v) ≤ length all = all_long v a in omega (arith, f, long);
+            of_one_kind = subst (λ l. All (λ j. j ≡ kind_of all (slot names (variable_key v))) l) (sym (cut v a n long ∙ e))
                 (subst (λ j. All (λ i. i ≡ j) (replicate n k)) (sym first) (same_kinds n k));
           },
           first,
@@ -123,10 +123,10 @@ module _ (names : Names) where
     pub has_tables : (typed : Typed) → typed.cells ≡ all → typed.timers ≡ timer_units names →
         HaveElements names → HaveUnits names → HasTables names typed
     has_tables typed cells units some some_unit = record {
-      numbers = λ v k fixed real. subst (λ l. slot names (key_of v) < length l) (sym cells) (numbers v k fixed real);
-      arrays = λ v k fixed size real. subst (λ l. IsUniformArray l (slot names (key_of v)) (elements_of names v) × (kind_of l (slot names (key_of v)) ≡ k)) (sym cells)
+      numbers = λ v k fixed real. subst (λ l. slot names (variable_key v) < length l) (sym cells) (numbers v k fixed real);
+      arrays = λ v k fixed size real. subst (λ l. IsUniformArray l (slot names (variable_key v)) (elements_of names v) × (kind_of l (slot names (variable_key v)) ≡ k)) (sym cells)
           (arrays v k fixed size real (some v k fixed size real));
-      messages = λ v type_ real. subst (λ l. IsMessage l (slot names (key_of v))) (sym cells) (messages v type_ real);
+      messages = λ v type_ real. subst (λ l. IsMessage l (slot names (variable_key v))) (sym cells) (messages v type_ real);
       event = subst (λ l. BeginWithEvent l) (sym cells) (record { message = refl; key = refl });
       timers = λ v unit real. subst (λ l. timer_number names v < length l) (sym units) (timers v unit real (unit_some unit (some_unit v unit real)));
     }

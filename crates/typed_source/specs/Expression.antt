@@ -25,10 +25,10 @@ use Rattle.capl_meaning.specs.declared.field.MessageField.{MessageField}
 use Rattle.capl_meaning.specs.declared.field.MessageField.TheVariants.{Id, Dlc, Rtr, Can, Dir, Time}
 use Rattle.capl_meaning.specs.Variable.{Form, Number, Variable}
 use Rattle.capl_meaning.specs.Names.{Callee, Names, OfLanguage, OfProgram, Unknown, Scope, ThisForm, ThisKey, callee, direction, means}
-use Rattle.capl_meaning.specs.Message.{Held, Member, IsField, IsSignal, array_in, is_number_place, member_named, message_in, signals_of}
+use Rattle.capl_meaning.specs.Message.{Held, NamedMember, IsField, IsSignal, array_in, is_number_place, member_named, message_in, signals_of}
 use Rattle.capl_meaning.specs.Sort.{kind_in, sort_of}
 use Rattle.capl_meaning.specs.Constant.{branches_kind, elements_of, number_value, operands_kind, prefix_kind}
-use Rattle.capl_meaning.specs.Store.{key_of, timer_number}
+use Rattle.capl_meaning.specs.Store.{variable_key, timer_number}
 use Rattle.capl_meaning.specs.Expression.{step_operator, timer_in}
 use Rattle.typed_laws.specs.Laid.{message_slot, slot}
 
@@ -36,7 +36,7 @@ use Rattle.typed_laws.specs.Laid.{message_slot, slot}
 
 -- the place of a variable where it is a number
 abbrev pub place_of_form : Names → Variable → Form → Option Place
-place_of_form names v (Number k fixed) = Some (Cell (slot names (key_of v)))
+place_of_form names v (Number k fixed) = Some (Cell (slot names (variable_key v)))
 place_of_form names v _ = None
 
 -- the place of a name, by what it means
@@ -47,7 +47,7 @@ place_of_name names (Some v) = place_of_form names v v.form
 -- the place of an element of an array, if there is one
 abbrev pub place_of_element : Names → Option Variable → TExpr → Option Place
 place_of_element names None index = None
-place_of_element names (Some v) index = Some (Elem (slot names (key_of v)) (elements_of names v) index)
+place_of_element names (Some v) index = Some (Elem (slot names (variable_key v)) (elements_of names v) index)
 
 -- the place of a field of the message at a cell: those that are stored by a write rule by their numbers,
 -- direction and time as their cells
@@ -60,7 +60,7 @@ place_of_field at Dir = Cell (at + 4)
 place_of_field at Time = Cell (at + 5)
 
 -- the place of a member of the message at a cell
-abbrev pub place_of_member : ℕ → Member → Option Place
+abbrev pub place_of_member : ℕ → NamedMember → Option Place
 place_of_member at (IsField f) = Some (place_of_field at f)
 place_of_member at (IsSignal layout) = Some (Signal at layout)
 place_of_member at _ = None

@@ -20,7 +20,7 @@ use Rattle.capl_meaning.specs.declared.sort.Sort.TheVariants as sort
 use Rattle.capl_meaning.specs.Variable.{Number, Array, Message, MessageType, Timer, Variable}
 use Rattle.capl_meaning.specs.Names.{Function, Names, OfProgram, Scope, callee}
 use Rattle.capl_meaning.specs.Constant.{elements_of}
-use Rattle.capl_meaning.specs.Store.{key_of, timer_number}
+use Rattle.capl_meaning.specs.Store.{variable_key, timer_number}
 use Rattle.typed_laws.specs.Laid.{HasForm, slot}
 use Rattle.typed_source.specs.Expression.{place_in}
 
@@ -32,12 +32,12 @@ IsOfNumber _ = ⊥
 -- the cells of a typed program are those of the event and of a source's variables, and it has their timers
 pub record HasTables (names : Names) (typed : Typed) : Type 0 where
   pub numbers : (v : Variable) (k : Kind) (fixed : Bool) → HasForm names v (Number k fixed) →
-      slot names (key_of v) < length typed.cells
+      slot names (variable_key v) < length typed.cells
   pub arrays : (v : Variable) (k : Kind) (fixed : Bool) (size : Expr) → HasForm names v (Array k fixed size) →
-      IsUniformArray typed.cells (slot names (key_of v)) (elements_of names v) ×
-      (kind_of typed.cells (slot names (key_of v)) ≡ k)
+      IsUniformArray typed.cells (slot names (variable_key v)) (elements_of names v) ×
+      (kind_of typed.cells (slot names (variable_key v)) ≡ k)
   pub messages : (v : Variable) (type_ : MessageType) → HasForm names v (Message type_) →
-      IsMessage typed.cells (slot names (key_of v))
+      IsMessage typed.cells (slot names (variable_key v))
   pub event : BeginWithEvent typed.cells
   pub timers : (v : Variable) (unit : ℕ) → HasForm names v (Timer unit) →
       timer_number names v < length typed.timers

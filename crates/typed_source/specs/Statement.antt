@@ -7,7 +7,7 @@ use Rattle.int_kinds.specs.declared.kinds.Kind.{Kind}
 use Rattle.write_format.specs.declared.argument.ArgKind.{ArgKind}
 use Rattle.write_format.specs.declared.argument.ArgKind.TheVariants as argument
 use Rattle.write_format.specs.declared.piece.Piece.{Piece}
-use Rattle.write_format.specs.Format.{FormatText, elements_of as format_elements}
+use Rattle.write_format.specs.Format.{FormatText, format_elements}
 use Rattle.capl_tree.specs.declared.expr.Expr.{Expr, items-the_row-Expr}
 use Rattle.capl_tree.specs.declared.expr.Expr.TheVariants as expr
 use Rattle.capl_tree.specs.declared.statement.Stmt.{Stmt, Row_of-Stmt, end_of-Stmt, more_of-Stmt}
@@ -24,11 +24,11 @@ use Rattle.capl_meaning.specs.declared.sort.Sort.{Sort}
 use Rattle.capl_meaning.specs.declared.sort.Sort.TheVariants as sort
 use Rattle.capl_meaning.specs.Variable.{Variable}
 use Rattle.capl_meaning.specs.Names.{Callee, Names, OfLanguage, Scope, callee}
-use Rattle.capl_meaning.specs.Format.{text_in}
+use Rattle.capl_meaning.specs.Format.{quoted_text}
 use Rattle.capl_meaning.specs.Message.{Held, HeldVariable, array_in, message_in}
 use Rattle.capl_meaning.specs.Sort.{is_number, sort_of}
 use Rattle.capl_meaning.specs.Constant.{elements_of, prefix_kind}
-use Rattle.capl_meaning.specs.Store.{key_of, timer_number}
+use Rattle.capl_meaning.specs.Store.{variable_key, timer_number}
 use Rattle.capl_meaning.specs.Expression.{timer_in}
 use Rattle.capl_meaning.specs.Statement.{fitting_pieces, label_of}
 use Rattle.typed_laws.specs.Laid.{message_slot, slot}
@@ -38,7 +38,7 @@ use Rattle.typed_source.specs.Expression.{expression_of}
 
 -- the array of characters that a variable is, as an argument of `write`
 abbrev pub array_argument : Names → Variable → ArgKind
-array_argument names v = argument.Chars (slot names (key_of v)) (elements_of names v)
+array_argument names v = argument.Chars (slot names (variable_key v)) (elements_of names v)
 
 -- an argument of `write` that is no number: a text, or the cells of an array
 abbrev pub text_argument : Names → Option (List ℕ) → Option Variable → ArgKind
@@ -52,11 +52,11 @@ argument_by _ text = text
 
 -- an argument of `write`
 abbrev pub argument_of : Scope → Expr → ArgKind
-argument_of s e = argument_by (sort_of s e) (text_argument s.names (text_in e) (array_in s e))
+argument_of s e = argument_by (sort_of s e) (text_argument s.names (quoted_text e) (array_in s e))
 
 -- the text of the format of a `write`
 abbrev pub text_written : Expr → List ℕ
-text_written format = option_map_or (λ text. text) (text_in format) []
+text_written format = option_map_or (λ text. text) (quoted_text format) []
 
 -- the format of a text, its pieces and arguments
 abbrev pub format_of : Scope → List ℕ → List Piece → List Expr → FormatText
@@ -68,7 +68,7 @@ format_of s text pieces arguments = record {
 
 -- the pieces of a `write`, if its format reads and fits
 abbrev pub pieces_written : Scope → Expr → List Expr → Option (List Piece)
-pieces_written s format arguments = fitting_pieces (map (sort_of s) arguments) (text_in format)
+pieces_written s format arguments = fitting_pieces (map (sort_of s) arguments) (quoted_text format)
 
 -- the format of a `write`, if there is one
 abbrev pub formats_written : Scope → List ℕ → Option (List Piece) → List Expr → List FormatText
@@ -170,7 +170,7 @@ of_call_alone s order before _ _ other = other
 -- an assignment that stands alone: a message variable on the left is made a copy of a message on the right
 abbrev pub of_assignment : Names → Option Held → Option Held → TStmt → TStmt
 of_assignment names (Some (HeldVariable v signals)) (Some from) other =
-    Copy (slot names (key_of v)) (message_slot names from)
+    Copy (slot names (variable_key v)) (message_slot names from)
 of_assignment names _ _ other = other
 
 -- an expression that stands alone

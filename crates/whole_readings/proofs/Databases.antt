@@ -2,10 +2,10 @@
 use Rattle.std.proofs.Common.{◌≡◌, ◌≤◌, ℕ, zero, suc, Bool, true, false, List, [], ◌∷◌, length, Option, Some, None, inl, inr, refl, arith}
 use Rattle.std.specs.Prelude.{◌⊎◌, if◌then◌else◌, not, codes}
 use Rattle.std.specs.Str.{bytes_eq}
-use Rattle.dbc_statements.specs.Token.{Token, Placed, Word, Number, Quoted, Byte, tokens_of, line_of}
-use Rattle.dbc_statements.specs.Statement.{Read, and_then, read_as, word_in, number_in, decimal_in, is_byte, is_quoted, is_keyword, keyword_of, keyword_in, big_in, signed_in, float_in, is_multiplexing, receiver_after, may_end, begins_statement, is_word, ends_symbols, line, word, number, decimal, byte, perhaps, string, keyword, up_to_keyword, words, symbols, up_to_semicolon, message, multiplexing_by, multiplexing, big, signed, layout, pair, receivers, signal, float, value_type, other, behind_keyword, statement_at}
+use Rattle.dbc_statements.specs.Token.{Token, Placed, Word, Number, Quoted, Byte, tokens_of, first_line}
+use Rattle.dbc_statements.specs.Statement.{Read, read_then, read_as, word_in, number_bytes, decimal_in, is_byte, is_quoted, is_keyword, keyword_of, keyword_in, big_in, signed_in, float_in, is_multiplexing, receiver_after, may_end, begins_statement, is_word, ends_symbols, line, word, number, decimal, byte, perhaps, string, keyword, up_to_keyword, words, symbols, up_to_semicolon, message, multiplexing_by, multiplexing, big, signed, layout, pair, receivers, signal, float, value_type, other, behind_keyword, statement_at}
 use Rattle.dbc_statements.specs.declared.statement.Statement.{Statement}
-use Rattle.dbc_reader.specs.Database.{Said, nothing, has_owner, after_statement, repeated, messages_of, Lead, IsDatabase, IsUnspelled, IsRepeated, IsRefusal}
+use Rattle.dbc_reader.specs.Database.{Said, nothing_said, has_owner, after_statement, repeated_line, messages_of, Lead, IsDatabase, IsUnspelled, IsRepeated, IsDatabaseRefusal}
 use Rattle.dbc_reader.specs.declared.message.DbcMessage.{DbcMessage}
 use Rattle.dbc_reader.specs.declared.refusal.DbcRefusal.TheVariants as refusal
 
@@ -21,7 +21,7 @@ abbrev IsModest : {A : Type 0} → (List Placed → Read A) → Type 0
 IsModest read = (most : ℕ) (tokens : List Placed) → length tokens ≤ most → LeavesAtMost most (read tokens)
 
 then_within : {A B : Type 0} (most : ℕ) (read : Read A) (more : A → List Placed → Read B) → LeavesAtMost most read
-    → ((value : A) (tokens : List Placed) → length tokens ≤ most → LeavesAtMost most (more value tokens)) → LeavesAtMost most (and_then read more)
+    → ((value : A) (tokens : List Placed) → length tokens ≤ most → LeavesAtMost most (more value tokens)) → LeavesAtMost most (read_then read more)
 then_within most None more few further = tt
 then_within most (Some read) more few further = further read.0 read.1 few
 
@@ -38,7 +38,7 @@ fewer first behind most few = omega (arith, few)
 
 line_within : IsModest line
 unfolding line
-line_within most tokens few = as_within most (line_of tokens) tokens few
+line_within most tokens few = as_within most (first_line tokens) tokens few
 
 word_within : IsModest word
 unfolding word
@@ -48,7 +48,7 @@ word_within most (first ∷ behind) few = as_within most (word_in first.token) b
 number_within : IsModest number
 unfolding number
 number_within most [] few = tt
-number_within most (first ∷ behind) few = as_within most (number_in first.token) behind (fewer first behind most few)
+number_within most (first ∷ behind) few = as_within most (number_bytes first.token) behind (fewer first behind most few)
 
 decimal_within : (limit : ℕ) → IsModest (decimal limit)
 unfolding decimal
@@ -127,7 +127,7 @@ receivers_within : (last : _) → IsModest (receivers last)
 receivers_within last most [] few = either (LeavesAtMost most) (may_end last) (Some (tt, [])) None few tt
 receivers_within last most (first ∷ behind) few =
     either (LeavesAtMost most) (begins_statement first.token) (if may_end last then Some (tt, first ∷ behind) else None)
-    (and_then (read_as (receiver_after last first.token) []) (λ next _. receivers next behind))
+    (read_then (read_as (receiver_after last first.token) []) (λ next _. receivers next behind))
     (either (LeavesAtMost most) (may_end last) (Some (tt, first ∷ behind)) None few tt)
     (then_within most (read_as (receiver_after last first.token) []) (λ next _. receivers next behind)
     (as_within most (receiver_after last first.token) [] (omega arith))
@@ -190,33 +190,33 @@ other_within : (most : ℕ) (read : Read (Unit {0})) → LeavesAtMost most read 
 other_within most read within = then_within most read _ within (λ _ tokens few. few)
 
 after_byte : (most wanted : ℕ) (read : List Placed → Read (Unit {0})) → IsModest read → (tokens : List Placed) → length tokens ≤ most
-    → LeavesAtMost most (other (and_then (byte wanted tokens) (λ _ tokens. read tokens)))
+    → LeavesAtMost most (other (read_then (byte wanted tokens) (λ _ tokens. read tokens)))
 after_byte most wanted read modest tokens few =
     other_within most _ (then_within most (byte wanted tokens) _ (byte_within wanted most tokens few) (λ _ tokens few. modest most tokens few))
 
 -- what stands behind the keyword of these bytes
 behind_word : (inside : Bool) (bytes : List ℕ) (most : ℕ) (tokens : List Placed) → length tokens ≤ most
-    → LeavesAtMost most (and_then (read_as (keyword_of bytes) tokens) (λ keyword tokens. behind_keyword inside keyword tokens))
+    → LeavesAtMost most (read_then (read_as (keyword_of bytes) tokens) (λ keyword tokens. behind_keyword inside keyword tokens))
 unfolding behind_keyword
 behind_word inside bytes most tokens few =
-    either (λ k. LeavesAtMost most (and_then (read_as k tokens) (λ keyword tokens. behind_keyword inside keyword tokens))) (not (is_keyword bytes)) _ _ tt
-    (either (λ k. LeavesAtMost most (and_then (read_as k tokens) (λ keyword tokens. behind_keyword inside keyword tokens))) (bytes_eq bytes (codes "VERSION")) _ _
+    either (λ k. LeavesAtMost most (read_then (read_as k tokens) (λ keyword tokens. behind_keyword inside keyword tokens))) (not (is_keyword bytes)) _ _ tt
+    (either (λ k. LeavesAtMost most (read_then (read_as k tokens) (λ keyword tokens. behind_keyword inside keyword tokens))) (bytes_eq bytes (codes "VERSION")) _ _
     (other_within most (string tokens) (string_within most tokens few))
-    (either (λ k. LeavesAtMost most (and_then (read_as k tokens) (λ keyword tokens. behind_keyword inside keyword tokens))) (bytes_eq bytes (codes "NS_")) _ _
+    (either (λ k. LeavesAtMost most (read_then (read_as k tokens) (λ keyword tokens. behind_keyword inside keyword tokens))) (bytes_eq bytes (codes "NS_")) _ _
     (after_byte most 58 symbols symbols_within tokens few)
-    (either (λ k. LeavesAtMost most (and_then (read_as k tokens) (λ keyword tokens. behind_keyword inside keyword tokens))) (bytes_eq bytes (codes "BS_")) _ _
+    (either (λ k. LeavesAtMost most (read_then (read_as k tokens) (λ keyword tokens. behind_keyword inside keyword tokens))) (bytes_eq bytes (codes "BS_")) _ _
     (after_byte most 58 up_to_keyword up_to_keyword_within tokens few)
-    (either (λ k. LeavesAtMost most (and_then (read_as k tokens) (λ keyword tokens. behind_keyword inside keyword tokens))) (bytes_eq bytes (codes "BU_")) _ _
+    (either (λ k. LeavesAtMost most (read_then (read_as k tokens) (λ keyword tokens. behind_keyword inside keyword tokens))) (bytes_eq bytes (codes "BU_")) _ _
     (after_byte most 58 words words_within tokens few)
-    (either (λ k. LeavesAtMost most (and_then (read_as k tokens) (λ keyword tokens. behind_keyword inside keyword tokens))) (bytes_eq bytes (codes "BO_")) _ _
+    (either (λ k. LeavesAtMost most (read_then (read_as k tokens) (λ keyword tokens. behind_keyword inside keyword tokens))) (bytes_eq bytes (codes "BO_")) _ _
     (message_within most tokens few)
-    (either (λ k. LeavesAtMost most (and_then (read_as k tokens) (λ keyword tokens. behind_keyword inside keyword tokens))) (bytes_eq bytes (codes "SG_")) _ _
+    (either (λ k. LeavesAtMost most (read_then (read_as k tokens) (λ keyword tokens. behind_keyword inside keyword tokens))) (bytes_eq bytes (codes "SG_")) _ _
     (either (LeavesAtMost most) inside (signal tokens) None (signal_within most tokens few) tt)
-    (either (λ k. LeavesAtMost most (and_then (read_as k tokens) (λ keyword tokens. behind_keyword inside keyword tokens))) (bytes_eq bytes (codes "SIG_VALTYPE_")) _ _
+    (either (λ k. LeavesAtMost most (read_then (read_as k tokens) (λ keyword tokens. behind_keyword inside keyword tokens))) (bytes_eq bytes (codes "SIG_VALTYPE_")) _ _
     (value_type_within most tokens few) (other_within most (up_to_semicolon tokens) (up_to_semicolon_within most tokens few)))))))))
 
 behind_token : (inside : Bool) (token : Token) (most : ℕ) (tokens : List Placed) → length tokens ≤ most
-    → LeavesAtMost most (and_then (read_as (keyword_in token) tokens) (λ keyword tokens. behind_keyword inside keyword tokens))
+    → LeavesAtMost most (read_then (read_as (keyword_in token) tokens) (λ keyword tokens. behind_keyword inside keyword tokens))
 behind_token inside (Word bytes) most tokens few = behind_word inside bytes most tokens few
 behind_token inside (Number bytes) most tokens few = tt
 behind_token inside Quoted most tokens few = tt
@@ -241,7 +241,7 @@ abbrev HasOutcome : Said → List Placed → Type 0
 HasOutcome said tokens =
     HasStatements said tokens ⊎ ((line : ℕ) × IsWrongIn (IsUnspelled line) said tokens) ⊎ ((line : ℕ) × IsWrongIn (IsRepeated line) said tokens)
 
-one_more : (said : Said) (tokens behind : List Placed) (st : Statement) → statement_at (has_owner said.owner) tokens ≡ Some (st, behind) → repeated said st ≡ None
+one_more : (said : Said) (tokens behind : List Placed) (st : Statement) → statement_at (has_owner said.owner) tokens ≡ Some (st, behind) → repeated_line said st ≡ None
     → HasOutcome (after_statement said st) behind → HasOutcome said tokens
 one_more said tokens behind st reads new (inl (statements, after, lead)) = inl (st ∷ statements, after, (behind, reads, new, lead))
 one_more said tokens behind st reads new (inr (inl (line, (statements, after, rest, lead, wrong)))) =
@@ -250,7 +250,7 @@ one_more said tokens behind st reads new (inr (inr (line, (statements, after, re
     inr (inr (line, (st ∷ statements, after, rest, (behind, reads, new, lead), wrong)))
 
 by_repeated : (said : Said) (tokens behind : List Placed) (st : Statement) (again : Option ℕ) → statement_at (has_owner said.owner) tokens ≡ Some (st, behind)
-    → repeated said st ≡ again → HasOutcome (after_statement said st) behind → HasOutcome said tokens
+    → repeated_line said st ≡ again → HasOutcome (after_statement said st) behind → HasOutcome said tokens
 by_repeated said tokens behind st None reads new rest = one_more said tokens behind st reads new rest
 by_repeated said tokens behind st (Some line) reads again rest =
     inr (inr (line, ([], said, tokens, (refl, refl), (st, behind, reads, again))))
@@ -261,7 +261,7 @@ by_statement : (most : ℕ) (said : Said) (first : Placed) (tokens : List Placed
 by_statement most said first tokens None few reads within further =
     inr (inl (first.line, ([], said, first ∷ tokens, (refl, refl), (reads, refl))))
 by_statement most said first tokens (Some (st, behind)) few reads within further =
-    by_repeated said (first ∷ tokens) behind st (repeated said st) reads refl (further (after_statement said st) behind (omega (arith, within, few)))
+    by_repeated said (first ∷ tokens) behind st (repeated_line said st) reads refl (further (after_statement said st) behind (omega (arith, within, few)))
 
 outcome_of : (most : ℕ) (said : Said) (tokens : List Placed) → length tokens ≤ most → HasOutcome said tokens
 outcome_of most said [] few = inl ([], said, (refl, refl))
@@ -274,13 +274,13 @@ outcome_of (suc most) said (first ∷ tokens) few =
 abbrev IsAny : List ℕ → Type 0
 IsAny text =
     ((messages : List DbcMessage) × IsDatabase text messages)
-    ⊎ ((line : ℕ) × IsRefusal text (refusal.Text line)) ⊎ ((line : ℕ) × IsRefusal text (refusal.Twice line))
+    ⊎ ((line : ℕ) × IsDatabaseRefusal text (refusal.Text line)) ⊎ ((line : ℕ) × IsDatabaseRefusal text (refusal.Twice line))
 
-of_text : (text : List ℕ) → HasOutcome nothing (tokens_of text) → IsAny text
+of_text : (text : List ℕ) → HasOutcome nothing_said (tokens_of text) → IsAny text
 of_text text (inl (statements, after, lead)) = inl (messages_of after, (statements, after, lead, refl))
 of_text text (inr (inl wrong)) = inr (inl wrong)
 of_text text (inr (inr wrong)) = inr (inr wrong)
 
 -- each text is one of these
 pub database_or_refusal : (text : List ℕ) → IsAny text
-database_or_refusal text = of_text text (outcome_of (length (tokens_of text)) nothing (tokens_of text) (omega arith))
+database_or_refusal text = of_text text (outcome_of (length (tokens_of text)) nothing_said (tokens_of text) (omega arith))

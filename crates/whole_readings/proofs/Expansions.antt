@@ -2,10 +2,11 @@
 use Rattle.std.proofs.Common.{◌≡◌, ◌+◌, ℕ, zero, suc, Bool, true, false, List, [], ◌∷◌, length, Option, Some, None, inl, inr, refl, nat_lt, nat_le}
 use Rattle.std.specs.Prelude.{◌⊎◌}
 use Rattle.texts.specs.declared.blame.Blame.{Blame}
+use Rattle.texts.specs.Rule.{source_rule}
 use Rattle.capl_lexer.specs.Reading.{IsReading, IsBadPlace, line_at, column_at, token_limit}
 use Rattle.capl_lexer.specs.declared.token.Token.{Token}
-use Rattle.capl_include.specs.Blame.{source_rule, too_long_rule, file_blame, place_blame}
-use Rattle.capl_include.specs.Expansion.{Contents, Expansion, Outcome, Include, Step, Went, Stopped, Refused, Passed, Visited, Visits, GoesOn, IsIncluded, AreIncluded, StopsIf, VisitsTokens, VisitsText, VisitsHeld, IsVisit, IsExpansion, includes_of, step_of, meeting, appending, file_limit, byte_limit, nothing_met}
+use Rattle.capl_include.specs.Blame.{too_long_rule, file_blame, place_blame}
+use Rattle.capl_include.specs.Expansion.{Contents, Expansion, Outcome, Include, Inclusion, Went, Stopped, Refused, Passed, Visited, Visits, GoesOn, IsIncluded, AreIncluded, StopsIf, VisitsTokens, VisitsText, VisitsHeld, IsVisit, IsExpansion, includes_of, step_of, meeting, appending, file_limit, byte_limit, nothing_met}
 use Rattle.whole_readings.proofs.Lexing.{reading_or_bad_place}
 
 -- something has an outcome
@@ -24,7 +25,7 @@ goes_on : (after : Outcome) (Rest : Expansion → Outcome → Type 0) → ((next
 goes_on (Went next) Rest further = further next
 goes_on (Stopped blame) Rest further = (Stopped blame, refl)
 
-step_comes : (IsVisited : Visits) → AllCome IsVisited → (step : Step) (at : Expansion) (Rest : Expansion → Outcome → Type 0)
+step_comes : (IsVisited : Visits) → AllCome IsVisited → (step : Inclusion) (at : Expansion) (Rest : Expansion → Outcome → Type 0)
     → ((next : Expansion) → Comes (Rest next)) → Comes (λ outcome. IsIncluded IsVisited step at outcome (λ next. Rest next outcome))
 step_comes IsVisited visit (Refused blame) at Rest further = (Stopped blame, refl)
 step_comes IsVisited visit Passed at Rest further = further at

@@ -6,7 +6,7 @@ use Rattle.std.proofs.lemmas.List.Elements.{All-nil, All-cons}
 use Rattle.std.proofs.lemmas.List.{take_at, drop_at, drop-drop}
 use Rattle.capl_lexer.specs.Bytes.{IsBlank}
 use Rattle.capl_lexer.specs.Spelling.{Spells}
-use Rattle.capl_lexer.specs.Reading.{Piece, Blank, Comment, Lexeme, IsFront, AreFront, OpensComment, EndsLine, IsLineComment, IsBlockComment, IsLongest, line_opening, block_opening, block_closing, start_of, tokens_at, IsReading, IsBadPlace}
+use Rattle.capl_lexer.specs.Reading.{Piece, Blank, Comment, Lexeme, IsFront, AreFront, OpensComment, EndsLine, IsLineComment, IsBlockComment, IsLongest, line_opening, block_opening, block_closing, first_place, tokens_at, IsReading, IsBadPlace}
 use Rattle.capl_lexer.specs.declared.token.Tok.{Tok}
 use Rattle.capl_lexer.specs.declared.token.Token.{Token}
 use Rattle.capl_lexer.proofs.ReadingLemmas.{front-nil}
@@ -298,10 +298,10 @@ pieces_of zero (byte ∷ text) within = absurd (omega (arith, within))
 pieces_of (suc most) (byte ∷ text) within =
     pieces_by most (byte ∷ text) within (omega arith) (known_front (byte ∷ text)) (λ rest few. pieces_of most rest few)
 
-reading_by : (text : List ℕ) (start : ℕ) → start_of text ≡ start → HasPieces (drop start text) ⊎ StopsAt (drop start text)
+reading_by : (text : List ℕ) (start : ℕ) → first_place text ≡ start → HasPieces (drop start text) ⊎ StopsAt (drop start text)
     → ((tokens : List Token) × IsReading text tokens) ⊎ ((place : ℕ) × IsBadPlace text place)
 reading_by text start is (inl (pieces, are)) =
-    inl (tokens_at text (start_of text) pieces, (pieces, subst (λ n. AreFront pieces (drop n text) []) (sym is) are, refl))
+    inl (tokens_at text (first_place text) pieces, (pieces, subst (λ n. AreFront pieces (drop n text) []) (sym is) are, refl))
 reading_by text start is (inr (pieces, count, are, within, none)) =
     let same : drop count (drop start text) ≡ drop (start + count) text = drop-drop count start text in
     inr (
@@ -315,4 +315,4 @@ reading_by text start is (inr (pieces, count, are, within, none)) =
 
 -- each text has the tokens of a reading, or a bad place
 pub reading_or_bad_place : (text : List ℕ) → ((tokens : List Token) × IsReading text tokens) ⊎ ((place : ℕ) × IsBadPlace text place)
-reading_or_bad_place text = reading_by text (start_of text) refl (pieces_of (length (drop (start_of text) text)) (drop (start_of text) text) (omega arith))
+reading_or_bad_place text = reading_by text (first_place text) refl (pieces_of (length (drop (first_place text) text)) (drop (first_place text) text) (omega arith))

@@ -1,12 +1,12 @@
 -- Each line of a log has a reading or none, and each log a replay or a bad line.
 use Rattle.std.proofs.Common.{◌≡◌, ◌≢◌, ◌<◌, ◌≤◌, ◌+◌, ◌-◌, ℕ, zero, suc, Bool, true, false, List, [], ◌∷◌, ◌++◌, length, replicate, All, inl, inr, refl, sym, ap, subst, ◌∙◌, arith, append_assoc}
 use Rattle.std.specs.Prelude.{◌⊎◌, codes}
-use Rattle.text_parts.specs.Line.{lines_of}
+use Rattle.text_parts.specs.Line.{text_lines}
 use Rattle.text_parts.specs.Number.{IsDigit, IsHexDigit, number_in}
 use Rattle.can_frame.specs.Frame.{FrameFields}
 use Rattle.can_frame.specs.declared.Ident.{Ident}
 use Rattle.can_frame.specs.declared.Ident.TheVariants.{Std, Ext}
-use Rattle.log_line.specs.Fields.{fields_of, without_return}
+use Rattle.log_line.specs.Fields.{log_fields, without_return}
 use Rattle.log_line.specs.Stamp.{IsStamp}
 use Rattle.log_line.specs.FrameText.{SpellsIdent, IsBetween, SpellsBytes, SpellsCode, SpellsData, SpellsFrame, IsFlexible, IsAbove, IsLongCode}
 use Rattle.log_line.specs.Reading.{IsPrintable, IsInterface, IsDirection, IsPassedOver, FieldsRead, Reads}
@@ -14,7 +14,7 @@ use Rattle.log_line.specs.declared.line.Line.{Line}
 use Rattle.log_line.specs.declared.line.Line.TheVariants.{Entry, Skip, Empty}
 use Rattle.scenario.specs.declared.scenario.Epoch.{Epoch}
 use Rattle.replay_node.specs.Log.{is_ended, HasNoReading, AllRead, LogReads, IsBadLine}
-use Rattle.replay_node.specs.Replay.{entries_on, skipped_on, epoch_of, requests_of, IsReplay}
+use Rattle.replay_node.specs.Replay.{entries_on, skipped_on, epoch_seconds, requests_from, IsReplay}
 use Rattle.replay_node.specs.declared.replay.Replay.{Replay}
 use Rattle.whole_readings.proofs.Known.{Known, known_by, known_both, known_three, known_either, known_not, known_same, known_le, known_text, known_all, known_split, HasSplit}
 use Rattle.whole_readings.proofs.Spellings.{known_digit, known_hex_digit}
@@ -467,9 +467,9 @@ read_back fields Empty is = subst IsReadForm (sym is) tt
 -- a line has a reading, or none
 pub known_reading : (line : List ℕ) → ((reading : Line) × Reads line reading) ⊎ HasNoReading line
 known_reading line =
-    elim (known_read_form (fields_of (without_return line))) [
-      | inl is ↦ inl (read_there (fields_of (without_return line)) is)
-      | inr fails ↦ inr (λ reading reads. fails (read_back (fields_of (without_return line)) reading reads))
+    elim (known_read_form (log_fields (without_return line))) [
+      | inl is ↦ inl (read_there (log_fields (without_return line)) is)
+      | inr fails ↦ inr (λ reading reads. fails (read_back (log_fields (without_return line)) reading reads))
     ]
 
 -- ---- logs
@@ -498,7 +498,7 @@ readings_of (line ∷ all) = one_line line all (known_reading line) (readings_of
 abbrev IsReadOrBad : List ℕ → Type 0
 IsReadOrBad log = ((readings : List Line) × LogReads log readings) ⊎ ((number : ℕ) × IsBadLine log number)
 
-bad_line : (log : List ℕ) (lines : List (List ℕ)) (line : List ℕ) (behind : List (List ℕ)) → lines_of log ≡ lines ++ line ∷ behind
+bad_line : (log : List ℕ) (lines : List (List ℕ)) (line : List ℕ) (behind : List (List ℕ)) → text_lines log ≡ lines ++ line ∷ behind
     → HasReadings lines → HasNoReading line → (behind ≡ [] → is_ended log ≡ true) → IsReadOrBad log
 bad_line log lines line behind split read none no_end =
     inr (
@@ -516,7 +516,7 @@ bad_line log lines line behind split read none no_end =
     )
 
 at_end : (log : List ℕ) (lines : List (List ℕ)) (line : List ℕ) (behind : List (List ℕ)) (ended : Bool) → is_ended log ≡ ended
-    → lines_of log ≡ lines ++ line ∷ behind → HasReadings lines → HasNoReading line → IsReadOrBad log
+    → text_lines log ≡ lines ++ line ∷ behind → HasReadings lines → HasNoReading line → IsReadOrBad log
 at_end log lines line behind true is split read none = bad_line log lines line behind split read none (λ last. is)
 at_end log lines line (next ∷ behind) false is split read none = bad_line log lines line (next ∷ behind) split read none (λ last. absurd (cc))
 at_end log lines line [] false is split (readings, all_read) none =
@@ -536,7 +536,7 @@ at_end log lines line [] false is split (readings, all_read) none =
       ),
     )
 
-log_by : (log : List ℕ) → HasReadings (lines_of log) ⊎ HasUnread (lines_of log) → IsReadOrBad log
+log_by : (log : List ℕ) → HasReadings (text_lines log) ⊎ HasUnread (text_lines log) → IsReadOrBad log
 log_by log (inl (readings, all_read)) = inl (readings, inl all_read)
 log_by log (inr (lines, line, behind, split, read, none)) = at_end log lines line behind (is_ended log) refl split read none
 
@@ -547,9 +547,9 @@ replay_by log interface bit epoch (inl (readings, reads)) =
     let entries = entries_on interface readings in
     inl (
       record {
-        epoch = epoch_of epoch entries;
+        epoch = epoch_seconds epoch entries;
         skipped = skipped_on interface readings;
-        list = requests_of bit (epoch_of epoch entries) 0 entries;
+        list = requests_from bit (epoch_seconds epoch entries) 0 entries;
       },
       (readings, reads, record { epoch_is = refl; skipped_is = refl; list_is = refl }),
     )
@@ -557,4 +557,4 @@ replay_by log interface bit epoch (inl (readings, reads)) =
 -- each log has a replay, or a bad line
 pub replay_or_bad_line : (log interface : List ℕ) (bit : ℕ) (epoch : Epoch)
     → ((replay : Replay) × IsReplay log interface bit epoch replay) ⊎ ((number : ℕ) × IsBadLine log number)
-replay_or_bad_line log interface bit epoch = replay_by log interface bit epoch (log_by log (readings_of (lines_of log)))
+replay_or_bad_line log interface bit epoch = replay_by log interface bit epoch (log_by log (readings_of (text_lines log)))

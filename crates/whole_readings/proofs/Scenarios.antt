@@ -16,10 +16,10 @@ use Rattle.scenario.specs.declared.scenario.Epoch.TheVariants.{At}
 use Rattle.scenario.specs.declared.scenario.KeyItem.{KeyItem}
 use Rattle.scenario.specs.declared.scenario.Scenario.{Scenario}
 use Rattle.scenario.specs.declared.refusal.ScenarioRefusal.TheVariants.{Broken}
-use Rattle.scenario.specs.Item.{is_passed_over, is_blank, fields_of, item_of, item_of_one, item_of_two, item_of_picks, item_of_values, items_in, items_of}
+use Rattle.scenario.specs.Item.{is_passed_over, is_gap, fields_of, item_of, item_of_one, item_of_two, item_of_picks, item_of_values, items_in, items_of}
 use Rattle.scenario.specs.Value.{picks_of, number_of, key_of}
 use Rattle.scenario.specs.Rule.{nodes_of, node_in, rule_at, AreRightBefore, IsFirstBroken, IsBroken}
-use Rattle.scenario.specs.Scenario.{first_of, database_in, bit_in, until_in, turns_in, epoch_in, interface_in, picks_in, key_in, replay_in, IsScenario, IsRefusal}
+use Rattle.scenario.specs.Scenario.{first_of, database_in, bit_in, until_in, turns_in, epoch_in, interface_in, picks_in, key_in, replay_in, IsScenario, IsScenarioRefusal}
 use Rattle.whole_readings.proofs.Sorting.{sort_by, sort_same, sort_sorted, sort_stable, sort_long}
 
 -- ---- a list in memory
@@ -84,9 +84,9 @@ filled_long ((byte ∷ part) ∷ parts) =
 
 fields_long : (line : List ℕ) → length (fields_of line) ≤ length line
 fields_long line =
-    let parts = filled_long (slice_split is_blank line) in
-    let all = split_total is_blank line in
-    either (λ l. length l ≤ length line) _ [] (filter (λ field. not (length field == 0)) (slice_split is_blank line)) (omega arith) (omega (arith, parts, all))
+    let parts = filled_long (slice_split is_gap line) in
+    let all = split_total is_gap line in
+    either (λ l. length l ≤ length line) _ [] (filter (λ field. not (length field == 0)) (slice_split is_gap line)) (omega arith) (omega (arith, parts, all))
 
 -- an option has one at most
 option_long : {X : Type 0} (o : Option X) → length (option_to_list o) ≤ 1
@@ -247,7 +247,7 @@ first_broken all (suc place) within =
 abbrev IsEither : List ℕ → Type 0
 IsEither text =
     ((scenario : Scenario) × IsScenario text scenario)
-    ⊎ ((line : ℕ) × (rule : Rule) × IsRefusal text (Broken line rule))
+    ⊎ ((line : ℕ) × (rule : Rule) × IsScenarioRefusal text (Broken line rule))
 
 refused : (text : List ℕ) (line rule : ℕ) → IsBroken (lines text) line rule → IsEither text
 refused text line rule is = inr (line, record { group = 83; number = rule }, (refl, is))

@@ -7,7 +7,7 @@ use Rattle.std.proofs.lemmas.Bool.{false≢true}
 use Rattle.std.proofs.lemmas.Slice.Eq.{bytes_eq-Decides}
 use Rattle.text_parts.specs.Number.{IsDigit, IsHexDigit, number_in, number_of_64_bits}
 use Rattle.capl_lexer.specs.Bytes.{IsBlank, IsBlankInLine, IsLetter, IsMark, IsHexDigitFront}
-use Rattle.capl_lexer.specs.Name.{words, is_reserved}
+use Rattle.capl_lexer.specs.Name.{reserved_words, is_reserved}
 use Rattle.capl_lexer.specs.Spelling.{word_spelling, sign_spelling, IsName, IsMarked, IsDecimal, IsHexadecimal, IsFloat, escaped, IsEscape, IsPlain, IsPlainInChar, IsItem, AreItems, IsChar, IsString, IsNameByte, IsInclude, IsDirective, Spells}
 use Rattle.capl_lexer.specs.declared.token.Word.{Word}
 use Rattle.capl_lexer.specs.declared.token.Word.TheVariants as word
@@ -98,7 +98,7 @@ known_word : (bytes : List ℕ) → Known ((some : Word) × (bytes ≡ word_spel
 known_word bytes = by (is_reserved bytes) refl
   where
     by : (told : Bool) → is_reserved bytes ≡ told → Known ((some : Word) × (bytes ≡ word_spelling some))
-    by true is = let (some, same) = any_found (λ some. bytes_eq bytes (word_spelling some)) words is in inl (some, (bytes_eq-Decides bytes (word_spelling some)).0 same)
+    by true is = let (some, same) = any_found (λ some. bytes_eq bytes (word_spelling some)) reserved_words is in inl (some, (bytes_eq-Decides bytes (word_spelling some)).0 same)
     by false is = inr (λ some. false≢true (sym is ∙ ap is_reserved some.1 ∙ word_told some.0))
 
 -- ---- numbers

@@ -2,10 +2,10 @@
 
 ghost use Rattle.std.specs.Prelude.{◌≡◌, ◌⊎◌, ◌<◌, ◌^◌, ℕ, List, [], length};
 ghost use Rattle.texts.specs.declared.blame.Rule.{Rule};
-ghost use Rattle.scenario.specs.Scenario.{IsScenario, IsRefusal};
+ghost use Rattle.scenario.specs.Scenario.{IsScenario, IsScenarioRefusal};
 ghost use Rattle.scenario.specs.declared.scenario.Scenario.{Scenario};
 ghost use Rattle.scenario.specs.declared.refusal.ScenarioRefusal.TheVariants.{Broken};
-ghost use Rattle.dbc_reader.specs.Database.{IsDatabase, IsRefusal as IsDatabaseRefusal};
+ghost use Rattle.dbc_reader.specs.Database.{IsDatabase, IsDatabaseRefusal};
 ghost use Rattle.dbc_reader.specs.declared.message.DbcMessage.{DbcMessage};
 ghost use Rattle.dbc_reader.specs.declared.refusal.DbcRefusal.TheVariants as refusal;
 ghost use Rattle.replay_node.specs.Log.{IsBadLine};
@@ -34,7 +34,7 @@ pub fn each_text_has_tokens_or_a_bad_place()
 pub fn each_text_is_a_scenario_or_breaks_a_rule()
     ensures { (text : List ℕ) → length text < 2 ^ 63 →
         ((scenario : Scenario) × IsScenario text scenario)
-        ⊎ ((line : ℕ) × (rule : Rule) × IsRefusal text (Broken line rule)) }
+        ⊎ ((line : ℕ) × (rule : Rule) × IsScenarioRefusal text (Broken line rule)) }
 {}
 
 /// Each text is a database, or a line of it has a statement without a spelling, or one that gives an

@@ -7,7 +7,7 @@ use Rattle.std.proofs.lemmas.List.{drop-drop, get_or-map, length-map, map-append
 use Rattle.std.proofs.lemmas.List.Sums.{position_or_len_is, sum_by-cons}
 use Rattle.write_format.specs.Element.{Element, Byte, Number, Character, Chars, Str}
 use Rattle.write_format.specs.Format.{takes_number}
-use Rattle.write_format.specs.Line.{character_of, filled, first_of, line_of, number_text, text_in}
+use Rattle.write_format.specs.Line.{character_of, filled, first_argument, line_of, number_text, text_in}
 use Rattle.write_format.specs.Arrays.{cells_of}
 use Rattle.write_format.specs.declared.part.Part.{Part}
 use Rattle.write_format.proofs.PartLemmas.{elements_more}
@@ -61,13 +61,13 @@ line_of-append (Byte byte ∷ elements) more numbers cells =
     ap (λ l. byte ∷ l) (line_of-append elements more numbers cells)
     ∙ ap (λ l. (byte ∷ line_of elements numbers cells) ++ line_of more l cells) (behind_none (Byte byte) elements numbers refl)
 line_of-append (Number field kind digits ∷ elements) more numbers cells =
-    let text = number_text field kind digits (first_of numbers) in
+    let text = number_text field kind digits (first_argument numbers) in
     let rest = line_of elements (drop 1 numbers) cells in
     ap (λ l. text ++ l) (line_of-append elements more (drop 1 numbers) cells)
     ∙ sym (append_assoc text rest (line_of more (drop (taken_by elements) (drop 1 numbers)) cells))
     ∙ ap (λ l. (text ++ rest) ++ line_of more l cells) (behind_one (Number field kind digits) elements numbers refl)
 line_of-append (Character field ∷ elements) more numbers cells =
-    let text = filled field (character_of (first_of numbers)) in
+    let text = filled field (character_of (first_argument numbers)) in
     let rest = line_of elements (drop 1 numbers) cells in
     ap (λ l. text ++ l) (line_of-append elements more (drop 1 numbers) cells)
     ∙ sym (append_assoc text rest (line_of more (drop (taken_by elements) (drop 1 numbers)) cells))

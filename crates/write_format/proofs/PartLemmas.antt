@@ -9,7 +9,7 @@ use Rattle.std.proofs.lemmas.List.{get_or_append_left}
 use Rattle.std.proofs.lemmas.List.Elements.{filter_map-append, All-append, All-cons, All-nil}
 use Rattle.std.proofs.lemmas.List.Sums.{sum_by-append, sum_by-cons}
 use Rattle.write_format.specs.Element.{Element, Byte}
-use Rattle.write_format.specs.Format.{FormatText, IsShort, IsShortElement, array_of, element_of, elements_of, numbers_taken, takes_number}
+use Rattle.write_format.specs.Format.{FormatText, IsShort, IsShortElement, array_of, element_of, format_elements, numbers_taken, takes_number}
 use Rattle.write_format.specs.Front.{piece_at}
 use Rattle.write_format.specs.Inside.Parts.{range_of}
 use Rattle.write_format.specs.Reading.{AreSpelled, HasCodesFor, codes_of}
@@ -28,25 +28,25 @@ no_arguments = []
 
 -- the parts of more pieces
 elements_of-append : (pieces more : List Piece) (arguments : List ArgKind)
-    → elements_of (pieces ++ more) arguments ≡ elements_of pieces arguments ++ elements_of more (drop (length (codes_of pieces)) arguments)
+    → format_elements (pieces ++ more) arguments ≡ format_elements pieces arguments ++ format_elements more (drop (length (codes_of pieces)) arguments)
 elements_of-append [] more arguments = refl
 elements_of-append (piece.Byte byte ∷ pieces) more arguments = ap (λ l. Byte byte ∷ l) (elements_of-append pieces more arguments)
 elements_of-append (piece.Argument code ∷ pieces) more [] =
-    elements_of-append pieces more [] ∙ ap (λ l. elements_of pieces [] ++ elements_of more l) (nothing (length (codes_of pieces)))
+    elements_of-append pieces more [] ∙ ap (λ l. format_elements pieces [] ++ format_elements more l) (nothing (length (codes_of pieces)))
   where
     nothing : (n : ℕ) → drop n no_arguments ≡ drop (suc n) no_arguments
     nothing zero = refl
     nothing (suc n) = refl
 elements_of-append (piece.Argument code ∷ pieces) more (argument ∷ arguments) =
     ap (λ l. element_of code.field code.conversion argument ++ l) (elements_of-append pieces more arguments)
-    ∙ sym (append_assoc (element_of code.field code.conversion argument) (elements_of pieces arguments) (elements_of more (drop (length (codes_of pieces)) arguments)))
+    ∙ sym (append_assoc (element_of code.field code.conversion argument) (format_elements pieces arguments) (format_elements more (drop (length (codes_of pieces)) arguments)))
 
 -- what is known after some pieces of a text
 pub record AreParts (text : List ℕ) (arguments : List ArgKind) (rest : List ℕ) (taken : ℕ) (elements : List Element) : Type 0 where
   pub pieces : List Piece
   pub leads : Leads text pieces rest
   pub count : taken ≡ length (codes_of pieces)
-  pub are : elements ≡ elements_of pieces arguments
+  pub are : elements ≡ format_elements pieces arguments
   pub few : taken + length rest ≤ length text
 
 -- before any piece
@@ -70,7 +70,7 @@ parts_byte text arguments rest taken elements byte behind s found =
     }
 
 -- bytes are themselves
-elements_plain : (bytes : List ℕ) (arguments : List ArgKind) → elements_of (map piece.Byte bytes) arguments ≡ map Byte bytes
+elements_plain : (bytes : List ℕ) (arguments : List ArgKind) → format_elements (map piece.Byte bytes) arguments ≡ map Byte bytes
 elements_plain [] arguments = refl
 elements_plain (byte ∷ bytes) arguments = ap (λ l. Byte byte ∷ l) (elements_plain bytes arguments)
 
@@ -89,7 +89,7 @@ parts_plain text arguments rest taken elements s =
       leads = leads_on s.pieces (map piece.Byte bytes) text rest (drop (plain_at rest) rest) s.leads (leads_plain rest);
       count = s.count ∙ ap length (sym same);
       are = ap (λ l. l ++ map Byte bytes) s.are
-          ∙ ap (λ l. elements_of s.pieces arguments ++ l) (sym (elements_plain bytes (drop (length (codes_of s.pieces)) arguments)))
+          ∙ ap (λ l. format_elements s.pieces arguments ++ l) (sym (elements_plain bytes (drop (length (codes_of s.pieces)) arguments)))
           ∙ sym (elements_of-append s.pieces (map piece.Byte bytes) arguments);
       few = omega (arith, few, shorter);
     }
@@ -124,15 +124,15 @@ parts_code text arguments rest taken elements code argument behind s found withi
     let longer = length-append (codes_of s.pieces) (code ∷ []) in
     let count = s.count in
     let element = element_of code.field code.conversion argument in
-    let last : elements_of (piece.Argument code ∷ []) (drop (length (codes_of s.pieces)) arguments) ≡ element =
-    ap (λ n. elements_of (piece.Argument code ∷ []) (drop n arguments)) (sym count)
-    ∙ ap (elements_of (piece.Argument code ∷ [])) (next_argument arguments taken argument within is)
+    let last : format_elements (piece.Argument code ∷ []) (drop (length (codes_of s.pieces)) arguments) ≡ element =
+    ap (λ n. format_elements (piece.Argument code ∷ []) (drop n arguments)) (sym count)
+    ∙ ap (format_elements (piece.Argument code ∷ [])) (next_argument arguments taken argument within is)
     ∙ append-nil element in
     record {
       pieces = s.pieces ++ piece.Argument code ∷ [];
       leads = leads_push s.pieces text rest (piece.Argument code) behind s.leads found;
       count = omega (arith, count, longer, ap length more);
-      are = ap (λ l. l ++ element) s.are ∙ ap (λ l. elements_of s.pieces arguments ++ l) (sym last) ∙ sym (elements_of-append s.pieces (piece.Argument code ∷ []) arguments);
+      are = ap (λ l. l ++ element) s.are ∙ ap (λ l. format_elements s.pieces arguments ++ l) (sym last) ∙ sym (elements_of-append s.pieces (piece.Argument code ∷ []) arguments);
       few = omega (arith, few, shorter);
     }
 
@@ -149,9 +149,9 @@ argument_left text arguments rest taken elements code behind has s found =
 -- at the end, the parts are those of the reading
 pub parts_end : (text : List ℕ) (arguments : List ArgKind) (rest : List ℕ) (taken : ℕ) (elements : List Element)
     → AreParts text arguments rest taken elements → piece_at rest ≡ None → (pieces : List Piece) → AreSpelled text pieces
-    → elements ≡ elements_of pieces arguments
+    → elements ≡ format_elements pieces arguments
 parts_end text arguments rest taken elements s none pieces spelled =
-    s.are ∙ ap (λ l. elements_of l arguments) (sym (at_end s.pieces pieces text rest s.leads spelled none))
+    s.are ∙ ap (λ l. format_elements l arguments) (sym (at_end s.pieces pieces text rest s.leads spelled none))
 
 -- bytes take no number
 pub text_takes_none : (bytes : List ℕ) → count_by takes_number (map Byte bytes) ≡ 0

@@ -5,7 +5,7 @@ use Rattle.std.specs.List.{position_or_len}
 use Rattle.std.proofs.lemmas.List.{length-append, length-take}
 use Rattle.std.proofs.lemmas.List.Elements.{All-append, All-cons, All-nil, All-head, All-tail}
 use Rattle.write_format.specs.Element.{Byte, Number, Character, Chars, Str}
-use Rattle.write_format.specs.Format.{FormatText, IsFormatOf, IsShort, IsShortArgument, IsShortElement, element_of, elements_of}
+use Rattle.write_format.specs.Format.{FormatText, IsFormatOf, IsShort, IsShortArgument, IsShortElement, element_of, format_elements}
 use Rattle.write_format.specs.Line.{before_zero}
 use Rattle.write_format.specs.Front.{piece_at}
 use Rattle.write_format.specs.Reading.{AreSpelled}
@@ -31,14 +31,14 @@ element_few field conversion.Text (argument.Chars base len) = omega arith
 element_few field conversion.Text (argument.Str text) = omega arith
 
 -- no more parts than pieces
-elements_few : (pieces : List Piece) (arguments : List ArgKind) → length (elements_of pieces arguments) ≤ length pieces
+elements_few : (pieces : List Piece) (arguments : List ArgKind) → length (format_elements pieces arguments) ≤ length pieces
 elements_few [] arguments = omega arith
 elements_few (piece.Byte byte ∷ pieces) arguments = let more = elements_few pieces arguments in omega (arith, more)
 elements_few (piece.Argument code ∷ pieces) [] = let more = elements_few pieces [] in omega (arith, more)
 elements_few (piece.Argument code ∷ pieces) (a ∷ arguments) =
     let more = elements_few pieces arguments in
     let one = element_few code.field code.conversion a in
-    let whole = length-append (element_of code.field code.conversion a) (elements_of pieces arguments) in
+    let whole = length-append (element_of code.field code.conversion a) (format_elements pieces arguments) in
     omega (arith, more, one, whole)
 
 -- no more pieces than bytes
@@ -73,13 +73,13 @@ element_short field conversion.Text (argument.Str text) short =
     All-cons IsShortElement (Str field (before_zero text)) [] (before_zero_short text (2 ^ 32) short) none_long
 
 -- short arguments make short parts
-elements_short : (pieces : List Piece) (arguments : List ArgKind) → All IsShortArgument arguments → All IsShortElement (elements_of pieces arguments)
+elements_short : (pieces : List Piece) (arguments : List ArgKind) → All IsShortArgument arguments → All IsShortElement (format_elements pieces arguments)
 elements_short [] arguments short = none_long
 elements_short (piece.Byte byte ∷ pieces) arguments short =
-    All-cons IsShortElement (Byte byte) (elements_of pieces arguments) tt (elements_short pieces arguments short)
+    All-cons IsShortElement (Byte byte) (format_elements pieces arguments) tt (elements_short pieces arguments short)
 elements_short (piece.Argument code ∷ pieces) [] short = elements_short pieces [] short
 elements_short (piece.Argument code ∷ pieces) (a ∷ arguments) short =
-    All-append IsShortElement (element_of code.field code.conversion a) (elements_of pieces arguments)
+    All-append IsShortElement (element_of code.field code.conversion a) (format_elements pieces arguments)
     (element_short code.field code.conversion a (All-head IsShortArgument a arguments short))
     (elements_short pieces arguments (All-tail IsShortArgument a arguments short))
 

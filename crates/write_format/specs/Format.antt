@@ -28,12 +28,12 @@ element_of field conversion.Text (argument.Str text) = Str field (before_zero te
 element_of field _ _ = []
 
 -- the pieces of a format, each code with the next argument
-abbrev pub elements_of : List Piece → List ArgKind → List Element
-elements_of [] arguments = []
-elements_of (piece.Byte byte ∷ pieces) arguments = Byte byte ∷ elements_of pieces arguments
-elements_of (piece.Argument code ∷ pieces) [] = elements_of pieces []
-elements_of (piece.Argument code ∷ pieces) (argument ∷ arguments) =
-    element_of code.field code.conversion argument ++ elements_of pieces arguments
+abbrev pub format_elements : List Piece → List ArgKind → List Element
+format_elements [] arguments = []
+format_elements (piece.Byte byte ∷ pieces) arguments = Byte byte ∷ format_elements pieces arguments
+format_elements (piece.Argument code ∷ pieces) [] = format_elements pieces []
+format_elements (piece.Argument code ∷ pieces) (argument ∷ arguments) =
+    element_of code.field code.conversion argument ++ format_elements pieces arguments
 
 -- the format of a text and its arguments, each of which its code shows
 pub record IsFormatOf (text : List ℕ) (arguments : List ArgKind) (format : FormatText) : Type 0 where
@@ -42,7 +42,7 @@ pub record IsFormatOf (text : List ℕ) (arguments : List ArgKind) (format : For
   pub fit : first_unfit (codes_of pieces) arguments ≡ None
   pub text_is : format.text ≡ text
   pub arguments_are : format.arguments ≡ arguments
-  pub elements : format.elements ≡ elements_of pieces arguments
+  pub elements : format.elements ≡ format_elements pieces arguments
 
 -- whether a part shows a number
 abbrev pub takes_number : Element → Bool

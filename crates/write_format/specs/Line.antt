@@ -57,17 +57,17 @@ abbrev pub text_in : List ℤ → List ℕ
 text_in cells = before_zero (map unsigned_abs cells)
 
 -- the first number, where there is one
-abbrev pub first_of : List ℤ → ℤ
-first_of numbers = slice_index_or numbers 0 (pos 0)
+abbrev pub first_argument : List ℤ → ℤ
+first_argument numbers = slice_index_or numbers 0 (pos 0)
 
 -- what the parts of a line show, each that shows a number with the next one
 abbrev pub line_of : List Element → List ℤ → List ℤ → List ℕ
 line_of [] numbers cells = []
 line_of (Byte byte ∷ elements) numbers cells = byte ∷ line_of elements numbers cells
 line_of (Number field kind digits ∷ elements) numbers cells =
-    number_text field kind digits (first_of numbers) ++ line_of elements (drop 1 numbers) cells
+    number_text field kind digits (first_argument numbers) ++ line_of elements (drop 1 numbers) cells
 line_of (Character field ∷ elements) numbers cells =
-    filled field (character_of (first_of numbers)) ++ line_of elements (drop 1 numbers) cells
+    filled field (character_of (first_argument numbers)) ++ line_of elements (drop 1 numbers) cells
 line_of (Chars field base len ∷ elements) numbers cells =
     filled field (text_in (cells_of base len cells)) ++ line_of elements numbers cells
 line_of (Str field text ∷ elements) numbers cells = filled field text ++ line_of elements numbers cells

@@ -1,7 +1,7 @@
 // The parts of a line, as a format holds them.
 
 ghost use Rattle.std.specs.Prelude.{◌≡◌, ◌↔◌, ◌≤◌, ◌++◌, ℕ, [], List, All, IfOk, IfSome, IsNone, IsTrue, OnOk, count_by, length};
-ghost use Rattle.write_format.specs.Format.{IsShortElement, element_of, elements_of, takes_number};
+ghost use Rattle.write_format.specs.Format.{IsShortElement, element_of, format_elements, takes_number};
 ghost use Rattle.write_format.specs.Inside.Parts.{IsArgumentAt, IsWithin, all_elements, elements_in};
 ghost use Rattle.write_format.specs.Reading.{AreSpelled, HasCodesFor};
 ghost use Rattle.write_format.specs.declared.argument.ArgKind as argument;
@@ -110,7 +110,7 @@ pub(crate) fn parts_of(
 ) -> Result<Vec<Part>, AllocError>
     requires { HasCodesFor text.now args.now }
     ensures elements { IfOk result (λ parts. (pieces : List declared.Piece) → AreSpelled text.now pieces →
-        all_elements text.now args.now parts.items ≡ elements_of pieces args.now) }
+        all_elements text.now args.now parts.items ≡ format_elements pieces args.now) }
     ensures within { IfOk result (λ parts. All (IsWithin text.now args.now) parts.items) }
 {
     let mut parts = Vec::with_capacity(alloc, room)?;

@@ -4,7 +4,7 @@ use Rattle.std.specs.Ordering.{eq_by_cmp}
 use Rattle.std.specs.FinMap.{from_entries}
 use Rattle.can_bus.specs.declared.waiting.Waiting.{Waiting}
 use Rattle.can_bus.specs.declared.transmission.Transmission.{Transmission}
-use Rattle.can_bus.specs.Waiting.{RequestName, name_cmp, name_of, requests_of}
+use Rattle.can_bus.specs.Waiting.{RequestName, name_cmp, request_name, requests_of}
 use Rattle.can_bus.specs.Bus.{BusState}
 use Rattle.can_bus.specs.Ranks.{IsBelowNext}
 use Rattle.bus_heap.specs.declared.heap_bus.HeapBus.TheInside.{Inside}
@@ -22,7 +22,7 @@ state_of b = record {
 
 -- no two requests have one name
 abbrev pub AreNamesDistinct : List Waiting → Type 0
-AreNamesDistinct rs = (name : RequestName) → count_by (λ r. eq_by_cmp name_cmp name (name_of r)) rs ≤ 1
+AreNamesDistinct rs = (name : RequestName) → count_by (λ r. eq_by_cmp name_cmp name (request_name r)) rs ≤ 1
 
 -- the requests that wait, behind the one on the wire if there is one
 abbrev pub on_bus : Option Transmission → List Waiting → List Waiting

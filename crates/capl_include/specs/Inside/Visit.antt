@@ -2,10 +2,11 @@
 use Rattle.std.specs.Prelude.{◌≡◌, ◌+◌, ◌<◌, ◌≤◌, ◌⊎◌, ⊤, ℕ, List, [], ◌∷◌, length, Option, Some, None, Result, Ok, Err}
 use Rattle.std.specs.Global.{Vec}
 use Rattle.texts.specs.declared.blame.Blame.{Blame}
+use Rattle.texts.specs.Rule.{source_rule}
 use Rattle.capl_lexer.specs.Reading.{IsReading, IsBadPlace, line_at, column_at, token_limit}
 use Rattle.capl_lexer.specs.declared.token.Token.{Token}
-use Rattle.capl_include.specs.Blame.{source_rule, too_long_rule, file_blame, place_blame}
-use Rattle.capl_include.specs.Expansion.{Contents, Expansion, Outcome, Include, Step, Stopped, Refused, Passed, Visited, IsVisit, includes_of, step_of, file_limit, byte_limit}
+use Rattle.capl_include.specs.Blame.{too_long_rule, file_blame, place_blame}
+use Rattle.capl_include.specs.Expansion.{Contents, Expansion, Outcome, Include, Inclusion, Stopped, Refused, Passed, Visited, IsVisit, includes_of, step_of, file_limit, byte_limit}
 use Rattle.capl_include.specs.declared.refusal.ExpandRefusal.{ExpandRefusal}
 use Rattle.capl_include.specs.declared.refusal.ExpandRefusal.TheVariants.{Blamed, Failed, NoMemory}
 
@@ -57,7 +58,7 @@ ReadAgrees contents name count (Err Failed) = ⊤
 ReadAgrees contents name count (Err NoMemory) = ⊤
 
 -- a token is the include for which this step comes
-pub record HasStep (naming : List ℕ) (token : Token) (met : List (List ℕ)) (step : Step) : Type 0 where
+pub record HasStep (naming : List ℕ) (token : Token) (met : List (List ℕ)) (step : Inclusion) : Type 0 where
   pub include : Include
   pub only : includes_of (token ∷ []) ≡ include ∷ []
   pub is : step_of naming include met ≡ step

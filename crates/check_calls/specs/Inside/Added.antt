@@ -4,7 +4,7 @@ use Rattle.capl_tree.specs.declared.expr.Expr.{Expr}
 use Rattle.capl_tree.specs.declared.statement.Arm.{Arm}
 use Rattle.capl_tree.specs.declared.statement.Group.{Group}
 use Rattle.capl_tree.specs.declared.statement.Stmt.{Stmt}
-use Rattle.capl_meaning.specs.Calls.{calls_in, calls_in_labels, calls_of}
+use Rattle.capl_meaning.specs.Calls.{calls_in, calls_in_labels, names_called}
 use Rattle.capl_meaning.specs.Names.{Names}
 use Rattle.check_calls.specs.Callees.{callees, calls_of_all, functions_at}
 
@@ -18,12 +18,12 @@ calls_in_all all = flat_map calls_in all
 
 -- in arms of an `if`
 abbrev pub calls_of_list : List Arm → List (List ℕ)
-calls_of_list arms = flat_map (λ arm. calls_in arm.test ++ calls_of arm.body) arms
+calls_of_list arms = flat_map (λ arm. calls_in arm.test ++ names_called arm.body) arms
 
 -- behind a last `else`
 abbrev pub calls_of_other : Option Stmt → List (List ℕ)
 calls_of_other None = []
-calls_of_other (Some body) = calls_of body
+calls_of_other (Some body) = names_called body
 
 -- in groups of a `switch`
 abbrev pub calls_of_cases : List Group → List (List ℕ)

@@ -1,6 +1,6 @@
 -- What statements said so far, as the code keeps it.
 use Rattle.std.specs.Prelude.{◌≡◌, Some, None, map, Result, Ok, Err}
-use Rattle.dbc_reader.specs.Database.{Said, after_statement, repeated}
+use Rattle.dbc_reader.specs.Database.{Said, after_statement, repeated_line}
 use Rattle.dbc_statements.specs.declared.statement.Statement.{Statement}
 use Rattle.dbc_reader.specs.declared.builder.Builder.{Builder}
 use Rattle.dbc_reader.specs.declared.refusal.NotAdded.{NotAdded}
@@ -19,6 +19,6 @@ pub record Agree (builder : Builder) : Type 0 where
 -- a statement was added, or repeats what was said
 abbrev pub Adds : Said → Statement → Builder → Result (Unit {0}) NotAdded → Type 0
 Adds before st after (Ok _) =
-    (repeated before st ≡ None) × (said_of after ≡ after_statement before st) × Agree after
-Adds before st after (Err (not_added.Twice line)) = repeated before st ≡ Some line
+    (repeated_line before st ≡ None) × (said_of after ≡ after_statement before st) × Agree after
+Adds before st after (Err (not_added.Twice line)) = repeated_line before st ≡ Some line
 Adds before st after (Err not_added.NoMemory) = Unit {0}

@@ -5,7 +5,7 @@ use Rattle.run_effects.specs.Effect.{Effect, Line, Send, Stop}
 use Rattle.run_records.specs.declared.record.Noted.TheVariants as entry
 use Rattle.run_records.specs.Record.{RecordMeaning, RefusesEntry, TakesEntry}
 use Rattle.timer_queue.specs.Timers.{Timers}
-use Rattle.node_rounds.specs.Effects.{IsTimerEffect, lines_of, requests_of, stops_of, timers_after, timers_after_one}
+use Rattle.node_rounds.specs.Effects.{IsTimerEffect, written_lines, requested_frames, stops_of, timers_after, timers_after_one}
 use Rattle.node_rounds.specs.Entries.{TakesEntries, after_requests, line_entries}
 
 -- the parts of a host: the number of its node, the moment, whether a stop was asked for, the bus, the record
@@ -52,8 +52,8 @@ pub record ComeTo {B R : Type 0} (after_request : B → ℕ → FrameFields → 
   pub number : after.number ≡ before.number
   pub moment : after.moment ≡ before.moment
   pub lines : TakesEntries meaning before.into
-      (line_entries before.moment before.number (lines_of effects)) after.into
-  pub requests : after.bus ≡ after_requests after_request before.bus before.number (requests_of effects)
+      (line_entries before.moment before.number (written_lines effects)) after.into
+  pub requests : after.bus ≡ after_requests after_request before.bus before.number (requested_frames effects)
   pub stops : after.stops ≡ (before.stops || stops_of effects)
   pub timers : after.timers ≡ timers_after before.moment before.timers effects
   pub of_timers : All (IsTimerEffect before.timers.count) effects

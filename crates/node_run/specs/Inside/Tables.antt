@@ -7,7 +7,7 @@ use Rattle.run_effects.specs.Event.{selectors_of}
 use Rattle.bytecode.specs.Verified.{IsVerified}
 use Rattle.msg_select.specs.declared.selector.MessageSelector.{MessageSelector}
 use Rattle.msg_select.specs.Selection.{IsChosen, NoneHolds}
-use Rattle.node_rounds.specs.Procedures.{first_where, is_any_key, is_key, is_timer, message_procedure}
+use Rattle.node_rounds.specs.Procedures.{first_where, is_any_key, is_key, is_for_timer, message_procedure}
 use Rattle.node_run.specs.declared.tables.Subject.{Subject}
 use Rattle.node_run.specs.declared.tables.Subject.TheVariants.{Timers, Keys}
 use Rattle.node_run.specs.declared.procedures.Procedures.TheInside.{Inside}
@@ -21,7 +21,7 @@ place_of subject event = None
 
 -- whether a procedure reacts to the timer, or to the key, of a number
 abbrev pub is_for : Subject → ℕ → Event → Bool
-is_for Timers timer event = is_timer timer event
+is_for Timers timer event = is_for_timer timer event
 is_for Keys key event = is_key key event
 
 -- a table of so many places has at each the first procedure for the timer, or for the key, of this number
@@ -57,7 +57,7 @@ pub record AreTables (p : Inside) : Type 0 where
   pub verified : IsVerified p.code
   pub numbered : length p.code.handlers < 2 ^ 32
   pub timers : (timer : ℕ) →
-      slice_index_or p.timers.items timer None ≡ first_where (is_timer timer) (events_of p.code.handlers)
+      slice_index_or p.timers.items timer None ≡ first_where (is_for_timer timer) (events_of p.code.handlers)
   pub keys : IsTable Keys (events_of p.code.handlers) 256 p.keys.items
   pub any_key : p.any_key ≡ first_where is_any_key (events_of p.code.handlers)
   pub messages : (key : ℕ) (choice : Option ℕ) → IsChoice p.messages key choice →

@@ -10,7 +10,7 @@ use Rattle.run_effects.specs.Event.{selectors_of}
 use Rattle.write_format.specs.declared.argument.ArgKind.{ArgKind}
 use Rattle.write_format.specs.declared.argument.ArgKind.TheVariants as argument
 use Rattle.write_format.specs.declared.piece.Piece.{Piece}
-use Rattle.write_format.specs.Format.{FormatText, elements_of}
+use Rattle.write_format.specs.Format.{FormatText, format_elements}
 use Rattle.write_format.specs.Reading.{codes_of, first_unfit, pieces_of}
 use Rattle.bytecode.specs.declared.code.Fun.{Fun}
 use Rattle.bytecode.specs.declared.code.Handler.{Handler}
@@ -42,7 +42,7 @@ argument_at = tagged_at argument_behind
 abbrev pub format_by : List ℕ → List ArgKind → List Piece → Option FormatText
 format_by text arguments pieces =
     if (length (codes_of pieces) == length arguments) && is_none (first_unfit (codes_of pieces) arguments)
-    then Some (record { text = text; arguments = arguments; elements = elements_of pieces arguments })
+    then Some (record { text = text; arguments = arguments; elements = format_elements pieces arguments })
     else None
 
 -- the format of a text and arguments, if there is one

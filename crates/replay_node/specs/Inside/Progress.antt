@@ -2,7 +2,7 @@
 use Rattle.std.specs.Prelude.{◌≡◌, ℕ, List, [], ◌∷◌, ◌++◌, max, Option, Some, None}
 use Rattle.log_line.specs.declared.line.Entry as declared
 use Rattle.log_line.specs.declared.line.Line.{Line}
-use Rattle.replay_node.specs.Replay.{entries_on, skipped_on, second_before, epoch_of, start_of, requests_of}
+use Rattle.replay_node.specs.Replay.{entries_on, skipped_on, second_before, epoch_seconds, start_of, requests_from}
 use Rattle.scenario.specs.declared.scenario.Epoch.{Epoch}
 use Rattle.scenario.specs.declared.scenario.Epoch.TheVariants.{At, First}
 use Rattle.replay_node.specs.declared.progress.Progress.{Progress}
@@ -25,8 +25,8 @@ pub record IsProgressOf
     : Type 0 where
   pub epoch_is : progress.epoch ≡ known_epoch epoch entries
   pub skipped_is : progress.skipped ≡ skipped
-  pub before_is : progress.before ≡ last_asked bit (epoch_of epoch entries) 0 entries
-  pub list_is : progress.list.items ≡ requests_of bit (epoch_of epoch entries) 0 entries
+  pub before_is : progress.before ≡ last_asked bit (epoch_seconds epoch entries) 0 entries
+  pub list_is : progress.list.items ≡ requests_from bit (epoch_seconds epoch entries) 0 entries
 
 -- what is known after these readings
 abbrev pub IsProgress : List ℕ → ℕ → Epoch → List Line → Progress → Type 0

@@ -4,7 +4,7 @@ use Rattle.std.specs.Prelude.{Option}
 use Rattle.capl_tree.specs.declared.statement.Arm.{Arm}
 use Rattle.capl_tree.specs.declared.statement.Group.{Group}
 use Rattle.capl_tree.specs.declared.statement.Stmt.{Stmt}
-use Rattle.capl_meaning.specs.Calls.{calls_in, calls_in_labels, calls_in_part, calls_of}
+use Rattle.capl_meaning.specs.Calls.{calls_in, calls_in_labels, calls_in_part, names_called}
 use Rattle.check_calls.specs.Callees.{calls_of_all}
 use Rattle.check_calls.specs.Inside.Added.{AreAdded, calls_of_cases, calls_of_list, calls_of_other}
 use Rattle.check_calls.proofs.CalleeLemmas.{added_more, added_none, added_pair, added_triple, added_two}
@@ -16,7 +16,7 @@ add_calls_of_all-loop-statement-init t c = added_none _ _
 
 pub add_calls_of_all-loop-statement-preserved : goal.add_calls_of_all-loop-statement-preserved
 add_calls_of_all-loop-statement-preserved t c =
-    added_more c.args.names.now calls_of c.args.statements.now c.loop-statement.statement-index c.statement-item.result _ _ _
+    added_more c.args.names.now names_called c.args.statements.now c.loop-statement.statement-index c.statement-item.result _ _ _
     c.loop-statement-test.true c.statement-item.is c.loop-statement.invariant c.in_ok-add_calls_of.ensures
 
 pub add_calls_of_arms-loop-arm-init : goal.add_calls_of_arms-loop-arm-init
@@ -24,7 +24,7 @@ add_calls_of_arms-loop-arm-init t c = added_none _ _
 
 pub add_calls_of_arms-loop-arm-preserved : goal.add_calls_of_arms-loop-arm-preserved
 add_calls_of_arms-loop-arm-preserved t c =
-    added_more c.args.names.now (λ (arm : Arm). calls_in arm.test ++ calls_of arm.body) c.args.arms.now c.loop-arm.arm-index
+    added_more c.args.names.now (λ (arm : Arm). calls_in arm.test ++ names_called arm.body) c.args.arms.now c.loop-arm.arm-index
     c.arm-item.result _ _ _ c.loop-arm-test.true c.arm-item.is c.loop-arm.invariant
     (added_two c.args.names.now _ _ _ _ _ c.in_ok-add_calls.ensures c.in_ok-add_calls_of.ensures)
 
@@ -51,17 +51,17 @@ add_calls_of-returns-in_ok-add_calls_of_other-in-If t c =
 
 pub add_calls_of-returns-in_ok-add_calls_of-in-While : goal.add_calls_of-returns-in_ok-add_calls_of-in-While
 add_calls_of-returns-in_ok-add_calls_of-in-While t c =
-    added_pair calls_in calls_of c.args.names.now _ _ _ _ c.in-While.test c.in-While.test _ _ (while_calls _ _ _ c.in-While.is)
+    added_pair calls_in names_called c.args.names.now _ _ _ _ c.in-While.test c.in-While.test _ _ (while_calls _ _ _ c.in-While.is)
     refl c.get.ensures c.in_ok-add_calls-in-While.ensures c.in_ok-add_calls_of-in-While.ensures
 
 pub add_calls_of-returns-in_ok-add_calls-in-Do : goal.add_calls_of-returns-in_ok-add_calls-in-Do
 add_calls_of-returns-in_ok-add_calls-in-Do t c =
-    added_pair calls_of calls_in c.args.names.now _ _ _ _ _ _ c.in-Do.test c.in-Do.test (do_calls _ _ _ c.in-Do.is)
+    added_pair names_called calls_in c.args.names.now _ _ _ _ _ _ c.in-Do.test c.in-Do.test (do_calls _ _ _ c.in-Do.is)
     c.get-in-Do.ensures refl c.in_ok-add_calls_of-in-Do.ensures c.in_ok-add_calls-in-Do.ensures
 
 pub add_calls_of-returns-in_ok-add_calls_of-in-For : goal.add_calls_of-returns-in_ok-add_calls_of-in-For
 add_calls_of-returns-in_ok-add_calls_of-in-For t c =
-    added_triple calls_in_part calls_in_part (λ (body : Stmt). calls_in_part c.in-For.step ++ calls_of body) c.args.names.now
+    added_triple calls_in_part calls_in_part (λ (body : Stmt). calls_in_part c.in-For.step ++ names_called body) c.args.names.now
     _ _ _ _ _ c.in-For.init c.in-For.init c.in-For.test c.in-For.test _ _ (for_calls _ _ _ _ _ c.in-For.is)
     refl refl c.get-in-For.ensures c.in_ok-add_calls_in_boxed-in-For.ensures c.in_ok-add_calls_in_boxed-in-For-2.ensures
     (added_two c.args.names.now _ _ _ _ _ c.in_ok-add_calls_in_boxed-in-For-3.ensures c.in_ok-add_calls_of-in-For.ensures)

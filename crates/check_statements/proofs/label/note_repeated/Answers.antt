@@ -5,7 +5,7 @@ use Rattle.std.specs.Borrow.{Bor}
 use Rattle.std.specs.List.{list_any}
 use Rattle.capl_tree.specs.declared.statement.Label.{Label}
 use Rattle.capl_meaning.specs.StatementRules as meant
-use Rattle.capl_meaning.specs.StatementRules.{Said, repeated, said_by, same_saying}
+use Rattle.capl_meaning.specs.StatementRules.{SaidLabel, repeated, said_by, same_saying}
 use Rattle.check_names.specs.First.{noted}
 use Rattle.check_names.proofs.RepeatLemmas.{repeated_turn}
 use Rattle.check_statements.specs.Inside.Label.{label_offence, said_of, same_said}
@@ -20,7 +20,7 @@ loop-label-init c =
       earlier = [];
       has = c.new-seen.ensures;
       noting =
-          ap (λ (l : List Said). noted c.args.first.now (map (label_offence s) (repeated same_said [] l)))
+          ap (λ (l : List SaidLabel). noted c.args.first.now (map (label_offence s) (repeated same_said [] l)))
           (map_twice (λ (l : Bor Label). l.now) (said_by s c.args.on) c.args.labels.now);
     }
 
@@ -36,7 +36,7 @@ loop-label-preserved c =
           repeated_turn (said_of s c.args.on) same_said (label_offence s) earlier c.args.labels.now c.loop-label.label-index item
           c.loop-label.first c.note_broken.new.first c.has-known.result c.loop-label-test.true c.label-item.is
           (c.has-known.ensures earlier c.loop-label.invariant.has
-          ∙ ap (λ (x : meant.Saying). list_any (λ (t : Said). same_saying x t.saying) earlier) c.saying_of-saying.ensures)
+          ∙ ap (λ (x : meant.Saying). list_any (λ (t : SaidLabel). same_saying x t.saying) earlier) c.saying_of-saying.ensures)
           c.note_broken.ensures
           ∙ c.loop-label.invariant.noting;
     }

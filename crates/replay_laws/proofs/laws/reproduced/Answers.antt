@@ -4,7 +4,7 @@ use Rattle.std.specs.Prelude.{All}
 use Rattle.std.proofs.lemmas.List.Elements.{All-weaker}
 use Rattle.can_bus.specs.Bus.{new_bus}
 use Rattle.replay_node.specs.Log.{LogReads}
-use Rattle.replay_node.specs.Replay.{entries_on, requests_of}
+use Rattle.replay_node.specs.Replay.{entries_on, requests_from}
 use Rattle.replay_node.specs.Spaced.{lines_written}
 use Rattle.replay_node.specs.declared.replay.Request.{Request}
 use Rattle.replay_laws.proofs.Entries.{IsWithin, all_within, entry_of, frame_of, log_of_rounds, requests_are, same_entries, spaced_frames}
@@ -23,7 +23,7 @@ returns g c names bit epoch until log item replay nodes keys rounds after picks 
     let own : entries_on (names 1) reads ≡ es =
     log_reads c.one_reading.ensures c.written_lines_read.ensures (names 1) es reads can spaced.on_interface (subst (λ text. LogReads text reads) spaced.are is.1) in
     let list : replay.list ≡ replayed bit 0 (map (frame_of epoch) es) =
-    (is.2).list_is ∙ ap (λ second. requests_of bit second 0 (entries_on (names 1) reads)) epoch_is ∙ ap (requests_of bit epoch 0) own ∙ requests_are bit epoch until 0 es in
+    (is.2).list_is ∙ ap (λ second. requests_from bit second 0 (entries_on (names 1) reads)) epoch_is ∙ ap (requests_from bit epoch 0) own ∙ requests_are bit epoch until 0 es in
     let seen = run_replayed g.R.Reaction.reacts until bit nodes keys replay.list rounds after run tasks in
     let again = logged_again bit until (map (frame_of epoch) es) seen.instants timed short (spaced_frames bit epoch until es spaced.spaced)
     (subst (λ (rs : List Request). AreReplays until (new_bus bit) rs seen.instants) list seen.replays) in

@@ -7,14 +7,14 @@ use Rattle.std.specs.Borrow.{Bor}
 use Rattle.std.specs.declared.alloc.AllocError.{AllocError}
 use Rattle.std.proofs.lemmas.Iterator.Consumers.{YieldsList-from_filter, map_from_collect}
 use Rattle.std.proofs.lemmas.Iterator.Splits.{YieldsList-from_slice_split}
-use Rattle.scenario.specs.Item.{is_blank}
+use Rattle.scenario.specs.Item.{is_gap}
 use Rattle.scenario.proofs.fields.split_at_blanks.Goals as goal
 
 pub returns : goal.returns
 returns c =
     map_from_collect {E = AllocError} (Ok c.in_ok-fields.fields) c.in_ok-fields.ensures.ran
-    (YieldsList-from_filter {steps = slice.split_steps _} {v = λ (x : Bor (List ℕ)). x.now} {ys = slice_split is_blank c.args.line.now} {s = c.filter.result} _ (λ field. not (length field == 0))
+    (YieldsList-from_filter {steps = slice.split_steps _} {v = λ (x : Bor (List ℕ)). x.now} {ys = slice_split is_gap c.args.line.now} {s = c.filter.result} _ (λ field. not (length field == 0))
     (rw c.filter.ensures.source
-    (YieldsList-from_slice_split {s = c.split.result} _ is_blank c.args.line.now c.split.ensures.rest c.split.ensures.done c.split.ensures.closure
+    (YieldsList-from_slice_split {s = c.split.result} _ is_gap c.args.line.now c.split.ensures.rest c.split.ensures.done c.split.ensures.closure
     (λ x b q k. search (rules, tests))))
     c.filter.ensures.closure (λ x b q k. search (rules, tests)))

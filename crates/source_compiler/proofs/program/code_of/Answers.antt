@@ -1,8 +1,9 @@
 -- What is known of a typed program that is compiled, how large it is, and what is to blame of one that is too
 -- heavy.
 use Rattle.std.proofs.Common.{◌≡◌, ◌≤◌, ◌<◌, ◌∙◌, inr}
+use Rattle.texts.specs.Rule.{source_rule}
 use Rattle.bytecode.specs.declared.code.Code.{Code}
-use Rattle.capl_include.specs.Blame.{file_blame, source_rule}
+use Rattle.capl_include.specs.Blame.{file_blame}
 use Rattle.capl_tree.specs.Weight.{weight}
 use Rattle.check_names.specs.Names.{messages_of}
 use Rattle.code_listing.specs.Program.{IsCodeOf}

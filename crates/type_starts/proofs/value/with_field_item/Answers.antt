@@ -7,7 +7,7 @@ use Rattle.capl_tree.specs.declared.expr.Expr.{Expr}
 use Rattle.capl_tree.specs.declared.expr.Field.{Field}
 use Rattle.capl_tree.specs.declared.expr.Field.TheVariants as field
 use Rattle.capl_tree.proofs.FormLemmas.{bytes_form}
-use Rattle.capl_meaning.specs.Initial.{number_at, with_bytes_at, with_field_item}
+use Rattle.capl_meaning.specs.Initial.{constant_number, with_bytes_at, with_field_item}
 use Rattle.capl_meaning.specs.Names.{Scope}
 use Rattle.capl_meaning.specs.Store.{MessageRecord}
 use Rattle.check_sorts.specs.Scope.{scope_in}
@@ -18,11 +18,11 @@ use Rattle.type_starts.proofs.StartLemmas.{passed}
 use Rattle.type_starts.proofs.value.with_field_item.Goals as goal
 
 bytes_item : (s : Scope) (token : ℕ) (signals : Option (List DbcSignal)) (what : Field) (kind : Kind) (index other : Expr) (at : ℕ) (from n raw_from raw_n : ℤ) (m : MessageRecord) →
-    what ≡ field.Bytes kind index at → other ≡ index → raw_from ≡ from → raw_n ≡ n → from ≡ number_at s token other →
+    what ≡ field.Bytes kind index at → other ≡ index → raw_from ≡ from → raw_n ≡ n → from ≡ constant_number s token other →
     with_bytes_at kind raw_from raw_n m ≡ with_field_item s token signals what n m
 bytes_item s token signals what kind index other at from n raw_from raw_n m is same back back_n found =
-    ap (λ (z : ℤ). with_bytes_at kind z raw_n m) (back ∙ found ∙ ap (number_at s token) same)
-    ∙ ap (λ (z : ℤ). with_bytes_at kind (number_at s token index) z m) back_n
+    ap (λ (z : ℤ). with_bytes_at kind z raw_n m) (back ∙ found ∙ ap (constant_number s token) same)
+    ∙ ap (λ (z : ℤ). with_bytes_at kind (constant_number s token index) z m) back_n
     ∙ sym (ap (λ f. with_field_item s token signals f n m) (is ∙ bytes_form kind index at))
 
 pub returns-in-Bytes : goal.returns-in-Bytes

@@ -1,7 +1,7 @@
 -- Places in cells are places.
 use Rattle.std.proofs.Common.{ap, ◌∙◌}
 use Rattle.message_cells.specs.Message.{with_message as with_message_at}
-use Rattle.capl_meaning.specs.Store.{key_of}
+use Rattle.capl_meaning.specs.Store.{variable_key}
 use Rattle.capl_meaning.specs.Expression.{held_message}
 use Rattle.typed_laws.specs.Laid.{slot}
 use Rattle.typed_laws.proofs.Cells.{all_cells, copy_laid, message_laid, read_laid, write_laid}
@@ -16,7 +16,7 @@ returns-clause-stores c = λ names distinct this s spot n real stored. write_lai
 
 pub returns-clause-copies : goal.returns-clause-copies
 returns-clause-copies c = λ names distinct this s v type_ from form held.
-    ap (λ cells. with_message_at (slot names (key_of v)) cells (all_cells names this s)) (message_laid names distinct this s from held)
+    ap (λ cells. with_message_at (slot names (variable_key v)) cells (all_cells names this s)) (message_laid names distinct this s from held)
     ∙ copy_laid names distinct this s v type_ form (held_message this s from)
 
 pub returns-clause-first : goal.returns-clause-first

@@ -2,16 +2,16 @@
 use Rattle.std.proofs.Common.{◌≡◌, ◌∷◌, ◌∙◌, List, [], Bool, ap, false, refl, sym}
 use Rattle.std.specs.List.{list_any}
 use Rattle.capl_meaning.specs.StatementRules as meant
-use Rattle.capl_meaning.specs.StatementRules.{Said, same_saying}
+use Rattle.capl_meaning.specs.StatementRules.{SaidLabel, same_saying}
 use Rattle.check_statements.specs.declared.label.Saying.{Saying}
 use Rattle.check_statements.specs.Inside.Label.{saying_in}
 use Rattle.check_statements.proofs.label.Seen.has.Goals as goal
 
 -- no label says the same
-none : (earlier : List Said) → false ≡ list_any (λ (t : Said). same_saying meant.Unclear t.saying) earlier
+none : (earlier : List SaidLabel) → false ≡ list_any (λ (t : SaidLabel). same_saying meant.Unclear t.saying) earlier
 none [] = refl
 none (t ∷ earlier) = none earlier
 
 pub returns-in-Unclear : goal.returns-in-Unclear
 returns-in-Unclear c = λ earlier has.
-    none earlier ∙ ap (λ (x : Saying). list_any (λ (t : Said). same_saying (saying_in x) t.saying) earlier) (sym c.in-Unclear.is)
+    none earlier ∙ ap (λ (x : Saying). list_any (λ (t : SaidLabel). same_saying (saying_in x) t.saying) earlier) (sym c.in-Unclear.is)

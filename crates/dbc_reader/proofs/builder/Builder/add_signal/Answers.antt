@@ -4,7 +4,7 @@ use Rattle.std.specs.List.{list_any}
 use Rattle.std.specs.Str.{bytes_eq}
 use Rattle.std.specs.Prelude.{if◌then◌else◌}
 use Rattle.std.proofs.lemmas.Grind.{common_steps}
-use Rattle.dbc_reader.specs.Database.{names_of, last_signals, unmarked}
+use Rattle.dbc_reader.specs.Database.{signal_names, last_signals, unmarked}
 use Rattle.dbc_reader.specs.Inside.Builder.{said_of}
 use Rattle.dbc_reader.specs.declared.message.DbcMessage.{DbcMessage}
 use Rattle.dbc_reader.specs.declared.signals.DbcSignal.{DbcSignal}
@@ -26,7 +26,7 @@ returns-then-branch c =
     let is : last ≡ get_or ms i last = first_of (search rules, grind (arith, common_steps)) in
     let long : suc i ≡ length ms = omega (arith, some, builder.messages.ok.0) in
     let is_last : last_signals ms ≡ last.signals = last_signals-at ms i last long is in
-    let new : list_any (bytes_eq signal.name) (names_of last.signals) ≡ false = not_there _ (sym c.if-branch.true ∙ c.in_ok-push.ensures.added) in
+    let new : list_any (bytes_eq signal.name) (signal_names last.signals) ≡ false = not_there _ (sym c.if-branch.true ∙ c.in_ok-push.ensures.added) in
     let grows : c.push.new.self ≡ last.signals ++ signal ∷ [] =
     c.in_ok-push.ensures.signals ∙ ap (λ (b : Bool). if b then last.signals ++ signal ∷ [] else last.signals) c.if-branch.true in
     let after : DbcMessage = record { id = last.id; name = last.name; len = last.len; signals = c.push.new.self } in (
@@ -50,5 +50,5 @@ returns-else-branch c =
     let some : 0 < length ms = first_of (search rules, grind (arith, common_steps)) in
     let is : last ≡ get_or ms i last = first_of (search rules, grind (arith, common_steps)) in
     let long : suc i ≡ length ms = omega (arith, some, builder.messages.ok.0) in
-    let old : list_any (bytes_eq signal.name) (names_of last.signals) ≡ true = there _ (sym c.if-branch.false ∙ c.in_ok-push.ensures.added) in
+    let old : list_any (bytes_eq signal.name) (signal_names last.signals) ≡ true = there _ (sym c.if-branch.false ∙ c.in_ok-push.ensures.added) in
     signal_twice (said_of builder) signal c.args.line last kept (last_signals-at ms i last long is) old
