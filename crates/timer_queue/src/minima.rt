@@ -1,7 +1,7 @@
 // Moments of which the least, and the first up to a limit, are found at once.
 
 ghost use Rattle.std.specs.Prelude.{◌≡◌, ◌+◌, ◌-◌, ◌*◌, ◌^◌, ◌<◌, ◌≤◌, length, drop, replicate, slice_index, slice_set, All, IfOk, IfSome, IfNone};
-ghost use Rattle.timer_queue.specs.Inside.Minima.{IsTree, IsLesserOfTwo, IsFirstBelow, IsFirstUpTo, IsLeast};
+ghost use Rattle.timer_queue.specs.Inside.Minima.{IsTree, IsLesserOfTwo, IsFirstBelow, IsFirstFrom, IsFirstUpTo, IsLeast};
 
 use std::alloc::Global;
 use std::marker::Model;
@@ -14,11 +14,17 @@ pub(crate) const NEVER: u64 = u64::MAX;
 ///
 /// The moments are the leaves of a whole binary tree, which stands in one list from place 1 on. The
 /// two places below a place are at twice its number and behind that, and it holds the lesser of them.
+///
+/// Places with moments up to one limit mostly stand one behind the other, and each is looked for once the
+/// one before it has a later moment. So the last one that was found is kept, and the search begins there.
 #[derive(Drop)]
 pub(crate) struct Minima {
     nodes: Vec<u64>,
     leaves: usize,
     levels: u32,
+    /// A place: the moment at each place before it is above `limit`.
+    front: usize,
+    limit: u64,
 }
 
 impl Model for Minima {
@@ -46,6 +52,8 @@ impl Minima {
             nodes,
             leaves,
             levels: leaves.ilog2(),
+            front: 0,
+            limit: 0,
         })
     }
 
@@ -56,6 +64,7 @@ impl Minima {
         ensures in_range { moment ≤ NEVER }
     {
         set_leaf(&mut self.nodes, self.leaves, place, moment);
+        self.front = front_after(self.front, self.limit, place, moment);
     }
 
     /// The least of the moments.
@@ -65,9 +74,38 @@ impl Minima {
         self.nodes[1]
     }
 
+    /// The place of the first moment of at most the limit, or `None` where there is none. Takes constant
+    /// time where the place is the last one that was found for this limit or the one behind that, and
+    /// time logarithmic in the number of places else.
+    pub(crate) fn first_up_to(&mut self, limit: u64) -> Option<usize>
+        ensures same { self.new ≡ self.old }
+        ensures some { IfSome result (IsFirstUpTo self.old limit) }
+        ensures none { IfNone result (All (λ moment. limit < moment) self.old) }
+    {
+        let place = match self.near_front(limit) {
+            Some(place) => place,
+            None => self.from_top(limit)?,
+        };
+        self.front = place;
+        self.limit = limit;
+        Some(place)
+    }
+
+    /// The place of the first moment of at most the limit, if it is seen at the front or right behind it.
+    /// No clause says when it is: where it is not, it is found from the top.
+    fn near_front(&self, limit: u64) -> Option<usize>
+        ensures { IfSome result (IsFirstUpTo self.now limit) }
+    {
+        if limit > self.limit {
+            return None;
+        }
+        let node = first_of_two(&self.nodes, self.leaves + self.front, limit)?;
+        Some(node - self.leaves)
+    }
+
     /// The place of the first moment of at most the limit, or `None` where there is none. Takes time
     /// logarithmic in the number of places.
-    pub(crate) fn first_up_to(&self, limit: u64) -> Option<usize>
+    fn from_top(&self, limit: u64) -> Option<usize>
         ensures some { IfSome result (IsFirstUpTo self.now limit) }
         ensures none { IfNone result (All (λ moment. limit < moment) self.now) }
     {
@@ -77,6 +115,34 @@ impl Minima {
         let node = first_leaf(&self.nodes, self.leaves, self.levels, limit);
         Some(node - self.leaves)
     }
+}
+
+/// The front after a place got a moment: that place, where it comes before and the moment is up to the limit.
+fn front_after(front: usize, limit: u64, place: usize, moment: u64) -> usize
+    ensures no_later { result ≤ front }
+    ensures passed { place < result → limit < moment }
+{
+    if place < front && moment <= limit {
+        place
+    } else {
+        front
+    }
+}
+
+/// Of a node and the one behind it the first that is of at most the limit, or `None` where neither is.
+fn first_of_two(nodes: &[u64], node: usize, limit: u64) -> Option<usize>
+    requires { node < length nodes.now }
+    ensures some { IfSome result (IsFirstFrom nodes.now node limit) }
+    ensures none { IfNone result (limit < slice_index nodes.now node) }
+{
+    if nodes[node] <= limit {
+        return Some(node);
+    }
+    let next = node + 1;
+    if next < nodes.len() && nodes[next] <= limit {
+        return Some(next);
+    }
+    None
 }
 
 /// Puts a moment into a leaf, and the lesser of two into each node above it, up to the first that has it.

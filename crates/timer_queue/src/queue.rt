@@ -84,7 +84,8 @@ impl TimerQueue {
     /// The timer whose setting fires: of those that are due now or earlier the one that was set
     /// first, or `None` exactly where none is due. It becomes inactive, or where it is cyclic it is set
     /// again, as the newest setting, for one period after the moment at which it was due. Takes time
-    /// as a setting does.
+    /// as a setting does. Of that, the search takes constant time where the setting right before it
+    /// fired last, at the same moment `now`, and logarithmic time else.
     pub fn take_due(&mut self, now: u64) -> Option<u32>
         requires { now ≤ 2 ^ 63 }
         ensures taken { result ≡ option_map (λ fired. fired.timer) (first_due self.old.settings now) }

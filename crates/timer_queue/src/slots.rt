@@ -140,11 +140,13 @@ impl Slots {
         Some(self.moments.least())
     }
 
-    /// The first setting that is due at the moment or before. Takes time logarithmic in the number of
-    /// timers.
-    pub(crate) fn first_due(&self, now: u64) -> Option<Setting>
+    /// The first setting that is due at the moment or before. Takes constant time where it stands in the
+    /// slot of the last one that was found for this moment or in the next, and time logarithmic in the
+    /// number of timers else.
+    pub(crate) fn first_due(&mut self, now: u64) -> Option<Setting>
         requires { now < NEVER }
-        ensures { result ≡ first_due (settings_in self.now.slots) now }
+        ensures same { self.new ≡ self.old }
+        ensures first { result ≡ first_due (settings_in self.old.slots) now }
     {
         let place = self.moments.first_up_to(now)?;
         self.slots[place]

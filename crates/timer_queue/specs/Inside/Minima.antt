@@ -26,17 +26,30 @@ pub record IsFirstBelow (nodes : List ℕ) (place limit below : ℕ) : Type 0 wh
 abbrev pub leaves_of : Inside → List ℕ
 leaves_of m = drop m.leaves m.nodes.items
 
--- the leaves are at the last level of a whole tree
+-- the moment at each place before the front is above the limit
+abbrev pub IsPassed : List ℕ → ℕ → ℕ → Type 0
+IsPassed moments front limit = (before : ℕ) → before < front → limit < slice_index moments before
+
+-- the leaves are at the last level of a whole tree, and the front is the place of one
 pub record IsMinima (m : Inside) : Type 0 where
   pub size : length m.nodes.items ≡ 2 * m.leaves
   pub levels : m.leaves ≡ 2 ^ m.levels
   pub tree : IsTree m.nodes.items m.leaves
+  pub front : m.front < m.leaves
+  pub passed : IsPassed (leaves_of m) m.front m.limit
+
+-- of the nodes from one on, the other is the first of at most the limit
+pub record IsFirstFrom (nodes : List ℕ) (node limit other : ℕ) : Type 0 where
+  pub from : node ≤ other
+  pub within : other < length nodes
+  pub reached : slice_index nodes other ≤ limit
+  pub passed : (before : ℕ) → node ≤ before → before < other → limit < slice_index nodes before
 
 -- the place is that of the first moment of at most the limit
 pub record IsFirstUpTo (moments : List ℕ) (limit place : ℕ) : Type 0 where
   pub within : place < length moments
   pub reached : slice_index moments place ≤ limit
-  pub first : (before : ℕ) → before < place → limit < slice_index moments before
+  pub first : IsPassed moments place limit
 
 -- the moment is the least of the list
 pub record IsLeast (moments : List ℕ) (moment : ℕ) : Type 0 where

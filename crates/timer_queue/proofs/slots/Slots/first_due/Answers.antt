@@ -6,8 +6,8 @@ use Rattle.timer_queue.specs.Inside.Slots.{SlotList, settings_in}
 use Rattle.timer_queue.proofs.DueLemmas.{first_due_none, first_due_some, due_within}
 use Rattle.timer_queue.proofs.slots.Slots.first_due.Goals as goal
 
-pub returns-in_err-place : goal.returns-in_err-place
-returns-in_err-place c =
+pub returns-in_err-place-clause-first : goal.returns-in_err-place-clause-first
+returns-in_err-place-clause-first c =
     let slots = c.self.inside.slots.items in
     let none = first_due_none slots c.self.inside.moments c.args.now c.requires c.self.invariant.moments c.in_err-place.ensures.none in
     let same = ap (λ (v : SlotList). first_due (settings_in v.slots) c.args.now) c.self.view_is in
@@ -17,8 +17,8 @@ pub index-requires : goal.index-requires
 index-requires c =
     omega (arith, due_within c.self.inside.slots.items c.self.inside.moments c.args.now c.in_ok-place.place c.requires c.self.invariant.moments c.in_ok-place.ensures.some, c.self.inside.slots.ok.0)
 
-pub returns : goal.returns
-returns c =
+pub returns-clause-first : goal.returns-clause-first
+returns-clause-first c =
     let slots = c.self.inside.slots.items in
     let place = c.in_ok-place.place in
     let up = c.in_ok-place.ensures.some in

@@ -4,7 +4,7 @@ use Rattle.std.proofs.lemmas.Nat.{pow_pos}
 use Rattle.std.proofs.lemmas.Grind.{get_or_default_zero}
 use Rattle.timer_queue.specs.Inside.Minima.{IsLeast}
 use Rattle.timer_queue.proofs.MinimaLemmas.{first_is_least}
-use Rattle.timer_queue.proofs.minima.Minima.first_up_to.Goals as goal
+use Rattle.timer_queue.proofs.minima.Minima.from_top.Goals as goal
 
 pub returns-then-index-limit-clause-none : goal.returns-then-index-limit-clause-none
 returns-then-index-limit-clause-none c =
