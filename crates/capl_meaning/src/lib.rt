@@ -13,7 +13,7 @@
 //! The types are for these definitions and for the code that is held to them.
 #![tactic(auto)]
 
-pub use builtin::Builtin;
+pub use builtin::{Builtin, builtin_named, is_builtin};
 pub use field::MessageField;
 pub use offence::Offence;
 pub use sort::Sort;

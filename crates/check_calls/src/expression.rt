@@ -4,7 +4,7 @@ ghost use Rattle.std.specs.Prelude.{◌≡◌, ◌++◌, [], ◌∷◌, OnOk};
 ghost use Rattle.capl_meaning.specs.Calls.{calls_in, calls_in_field, calls_in_part};
 ghost use Rattle.check_calls.specs.Inside.Added.{AreAdded, calls_in_all};
 
-use crate::builtin::is_builtin;
+use capl_meaning::is_builtin;
 use capl_tree::{Expr, Field};
 use check_names::Names;
 use items::Boxed;

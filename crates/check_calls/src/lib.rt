@@ -7,7 +7,6 @@
 
 pub use calls::Calls;
 
-mod builtin;
 mod calls;
 mod components;
 mod depth;

@@ -36,4 +36,3 @@ mod seed;
 mod selector;
 mod table;
 mod variable;
-mod word;

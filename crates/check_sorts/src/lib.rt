@@ -15,7 +15,7 @@ pub use sort::{
     sort_of_assignment, sort_of_binary, sort_of_choice, sort_of_element, sort_of_form,
     sort_of_member, sort_of_number, sort_of_prefix, sort_of_step, sort_of_this, working_kind,
 };
-pub use words::{builtin_named, direction};
+pub use words::direction;
 
 mod constant;
 mod constants;

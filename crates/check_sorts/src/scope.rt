@@ -10,8 +10,7 @@ ghost use Rattle.check_sorts.specs.Scope.{IsMeaning, callee_in, scope_in, this_i
 
 use crate::form::{Form, form_of};
 use crate::signals::DeclaredSignals;
-use crate::words::builtin_named;
-use capl_meaning::Builtin;
+use capl_meaning::{Builtin, builtin_named};
 use capl_tree::{Head, Sel, SelWhat};
 use check_names::{Declared, Names};
 use int_kinds::Kind;
