@@ -12,13 +12,19 @@ use Rattle.typed_tree.specs.declared.statement.TGroup.{TGroup}
 use Rattle.typed_tree.specs.declared.statement.TStmt.{TStmt, Row_of-TStmt, end_of-TStmt, more_of-TStmt, items-the_row-TStmt}
 use Rattle.typed_tree.specs.declared.statement.TStmt.TheVariants as stmt
 use Rattle.typed_tree.specs.declared.statement.TStmt.TheVariants.{Block', If', Switch'}
-use Rattle.typed_tree.specs.declared.statement.TStmt.TheBlock.{Row_of-TArm, end_of-TArm, more_of-TArm, Row_of-TGroup, end_of-TGroup, more_of-TGroup, items-the_row-TArm, items-the_row-TGroup, items_hidden-the_row-TStmt-0, items_shown-the_row-TStmt-0, shown-the_row-TStmt-0, items_hidden-the_row-TArm-1, items_hidden-the_row-TGroup-3}
+use Rattle.typed_tree.specs.declared.statement.TStmt.TheBlock.{Held-TStmt-If-1, Row_of-TArm, end_of-TArm, more_of-TArm, Row_of-TGroup, end_of-TGroup, more_of-TGroup, items-the_row-TArm, items-the_row-TGroup, items_hidden-the_row-TStmt-0, items_shown-the_row-TStmt-0, shown-the_row-TStmt-0, items_hidden-the_row-TArm-1, items_hidden-the_row-TGroup-3}
 use Rattle.typed_tree.specs.declared.expression.TExpr.{TExpr}
 use Rattle.typed_tree.specs.declared.program.Typed.{Typed}
+use Rattle.typed_tree.specs.Forms.{NoPart}
 use Rattle.typed_tree.specs.SoundExpression.{IsSoundExpr}
-use Rattle.typed_tree.specs.SoundStatement.{AreSoundArms, AreSoundGroups, AreSoundStmts, Around, IsSoundOption, IsSoundStmt, all_labels, in_loop, in_switch}
+use Rattle.typed_tree.specs.SoundStatement.{AreSoundArms, AreSoundGroups, AreSoundStmts, Around, IsSoundOption, IsSoundPart, IsSoundStmt, all_labels, in_loop, in_switch}
 use Rattle.typed_tree.specs.Statement.{labels_of}
 use Rattle.sound_check.specs.Rows.{AreFew, IsPlainPartOf, IsSoundArm, IsSoundGroup, IsSoundPartOf, KeepsLabels}
+
+-- a statement that is another is sound where that is
+same_sound : (typed : Typed) (around : Around) {s other : TStmt} {A : Type 0} → s ≡ other →
+    IsSoundStmt typed around other ↔ A → IsSoundStmt typed around s ↔ A
+same_sound typed around {A = A} is sound = subst (λ s. IsSoundStmt typed around s ↔ A) (sym is) sound
 
 -- Statements in a row.
 
@@ -46,55 +52,18 @@ block_sound typed around s all is =
     let row = block_row (stmt.Block all) in
     let list = stmts_list typed around row.0 row.1 in
     let P : List TStmt → Type 0 = λ l. IsSoundStmt typed around (stmt.Block all) ↔ BlockAsks typed around l in
-    let here : P (items-the_row-TStmt row.0 row.1) = (
-      λ h. (h.0.short_lists, list.0 h.1),
-      λ h. (
-        record {
-          names_exist = tt;
-          labels_differ = tt;
-          labels_in_range = tt;
-          plain_parts = tt;
-          returns = tt;
-          leaves = tt;
-          writes = tt;
-          short_lists = h.0;
-        },
-        list.1 h.1,
-      ),
-    ) in
-    let there : P all = subst P (items_hidden-the_row-TStmt-0 all) here in
-    let Q : TStmt → Type 0 = λ s. IsSoundStmt typed around s ↔ BlockAsks typed around all in
-    subst Q (sym is) there
-
--- what is asked of a line that is written
-abbrev WriteAsks : Typed → Around → ℕ → List TExpr → Type 0
-WriteAsks typed around format args =
-    IsSomeAnd (slice_get typed.formats format) (λ (format : FormatText). length args ≡ numbers_taken format) ×
-    (length args < 2 ^ 32) × AllByRecursion (IsSoundExpr typed around.number) args
+    let here : P (items-the_row-TStmt row.0 row.1) = (λ h. (h.0.short_lists, list.0 h.1), λ h. (assumption, list.1 h.1)) in
+    same_sound typed around is (subst P (items_hidden-the_row-TStmt-0 all) here)
 
 -- a line that is written: its format is there where it is known how many numbers it takes
 pub write_sound : (typed : Typed) (around : Around) (s : TStmt) (format : ℕ) (args : List TExpr) →
     s ≡ stmt.Write format args → IsSoundStmt typed around s ↔
     (IsSomeAnd (slice_get typed.formats format) (λ (format : FormatText). length args ≡ numbers_taken format) ×
     (length args < 2 ^ 32) × AllByRecursion (IsSoundExpr typed around.number) args)
-write_sound typed around s format args is =
-    let Q : TStmt → Type 0 = λ s. IsSoundStmt typed around s ↔ WriteAsks typed around format args in
-    subst Q (sym is) (
-      λ h. (h.0.writes, h.0.short_lists, h.1),
-      λ h. (
-        record {
-          names_exist = some_within (λ (format : FormatText). length args ≡ numbers_taken format) typed.formats format h.0;
-          labels_differ = tt;
-          labels_in_range = tt;
-          plain_parts = tt;
-          returns = tt;
-          leaves = tt;
-          writes = h.0;
-          short_lists = h.1;
-        },
-        h.2,
-      ),
-    )
+write_sound typed around s format args is = same_sound typed around is (
+  λ h. assumption,
+  λ h. assumption (some_within (λ (format : FormatText). length args ≡ numbers_taken format) typed.formats format h.0),
+)
 
 -- Arms.
 
@@ -110,6 +79,18 @@ abbrev if_row : TStmt → (n : Count) × Row_of-TArm n
 if_row (If' _ row _) = (_, row)
 if_row _ = (_, end_of-TArm)
 
+-- what an `if` has where no arm is taken
+abbrev if_part : TStmt → Held-TStmt-If-1
+if_part (If' _ _ part) = part
+if_part _ = NoPart
+
+-- it is sound as what was put there
+part_sound : (typed : Typed) (around : Around) (arms : List TArm) (part : Option TStmt) →
+    IsSoundPart typed around (if_part (stmt.If arms part)) ↔ IsSoundPartOf typed around part
+unfolding Rattle.typed_tree.specs.declared.statement.TStmt.TheBlock.hidden-the_row-TArm-1 denote.Hole.Carrier.hidden
+part_sound typed around arms None = (λ h. h, λ h. h)
+part_sound typed around arms (Some part) = (λ h. h, λ h. h)
+
 -- what is asked of an `if`, given its arms as a list
 abbrev IfAsks : Typed → Around → Option TStmt → List TArm → Type 0
 IfAsks typed around other arms =
@@ -120,54 +101,16 @@ pub if_sound : (typed : Typed) (around : Around) (s : TStmt) (arms : List TArm) 
     s ≡ stmt.If arms other → IsSoundStmt typed around s ↔
     ((length arms < 2 ^ 32) × AllByRecursion (IsSoundArm typed around) arms × IsSoundPartOf typed around other)
 unfolding Rattle.typed_tree.specs.declared.statement.TStmt.TheBlock.hidden-the_row-TArm-1 denote.Hole.Carrier.hidden
-if_sound typed around s arms None is =
-    let row = if_row (stmt.If arms None) in
+if_sound typed around s arms other is =
+    let row = if_row (stmt.If arms other) in
     let list = arms_list typed around row.0 row.1 in
-    let P : List TArm → Type 0 = λ l. IsSoundStmt typed around (stmt.If arms None) ↔ IfAsks typed around None l in
+    let part = part_sound typed around arms other in
+    let P : List TArm → Type 0 = λ l. IsSoundStmt typed around (stmt.If arms other) ↔ IfAsks typed around other l in
     let here : P (items-the_row-TArm row.0 row.1) = (
-      λ h. (h.0.short_lists, list.0 h.1, tt),
-      λ h. (
-        record {
-          names_exist = tt;
-          labels_differ = tt;
-          labels_in_range = tt;
-          plain_parts = tt;
-          returns = tt;
-          leaves = tt;
-          writes = tt;
-          short_lists = h.0;
-        },
-        list.1 h.1,
-        tt,
-      ),
+      λ h. (h.0.short_lists, list.0 h.1, part.0 h.2),
+      λ h. (assumption, list.1 h.1, part.1 h.2),
     ) in
-    let there : P arms = subst P (items_hidden-the_row-TArm-1 arms) here in
-    let Q : TStmt → Type 0 = λ s. IsSoundStmt typed around s ↔ IfAsks typed around None arms in
-    subst Q (sym is) there
-if_sound typed around s arms (Some part) is =
-    let row = if_row (stmt.If arms (Some part)) in
-    let list = arms_list typed around row.0 row.1 in
-    let P : List TArm → Type 0 = λ l. IsSoundStmt typed around (stmt.If arms (Some part)) ↔ IfAsks typed around (Some part) l in
-    let here : P (items-the_row-TArm row.0 row.1) = (
-      λ h. (h.0.short_lists, list.0 h.1, h.2),
-      λ h. (
-        record {
-          names_exist = tt;
-          labels_differ = tt;
-          labels_in_range = tt;
-          plain_parts = tt;
-          returns = tt;
-          leaves = tt;
-          writes = tt;
-          short_lists = h.0;
-        },
-        list.1 h.1,
-        h.2,
-      ),
-    ) in
-    let there : P arms = subst P (items_hidden-the_row-TArm-1 arms) here in
-    let Q : TStmt → Type 0 = λ s. IsSoundStmt typed around s ↔ IfAsks typed around (Some part) arms in
-    subst Q (sym is) there
+    same_sound typed around is (subst P (items_hidden-the_row-TArm-1 arms) here)
 
 -- Groups.
 
@@ -255,31 +198,18 @@ switch_sound typed around s on groups is =
             list.0 h.2,
           ),
       λ h. (
-        record {
-          names_exist = tt;
-          labels_differ = subst Differ (sym labels) h.0.differ;
-          labels_in_range = subst InRange (sym labels) h.0.in_range;
-          plain_parts = tt;
-          returns = tt;
-          leaves = tt;
-          writes = tt;
-          short_lists = subst Few (sym of_groups) (subst Short (sym (length_of_labels items)) h.1.here, few_groups items h.1.labels);
-        },
+        assumption (
+          subst Differ (sym labels) h.0.differ,
+          subst InRange (sym labels) h.0.in_range,
+          subst Few (sym of_groups) (subst Short (sym (length_of_labels items)) h.1.here, few_groups items h.1.labels),
+        ),
         h.2,
         list.1 h.3,
       ),
     ) in
-    let there : P groups = subst P (items_hidden-the_row-TGroup-3 groups) here in
-    let Q : TStmt → Type 0 = λ s. IsSoundStmt typed around s ↔ SwitchAsks typed around on groups in
-    subst Q (sym is) there
+    same_sound typed around is (subst P (items_hidden-the_row-TGroup-3 groups) here)
 
 -- Loops.
-
--- what is asked of a `for`
-abbrev ForAsks : Typed → Around → Option TStmt → Option TExpr → Option TStmt → TStmt → Type 0
-ForAsks typed around init test step body = IsPlainPartOf init × IsPlainPartOf step ×
-    IsSoundPartOf typed around init × IsSoundOption typed around.number test ×
-    IsSoundPartOf typed around step × IsSoundStmt typed (in_loop around) body
 
 -- a `for`
 pub for_sound : (typed : Typed) (around : Around) (s : TStmt) (init : Option TStmt) (test : Option TExpr)
@@ -288,87 +218,7 @@ pub for_sound : (typed : Typed) (around : Around) (s : TStmt) (init : Option TSt
     IsSoundPartOf typed around init × IsSoundOption typed around.number test ×
     IsSoundPartOf typed around step × IsSoundStmt typed (in_loop around) body)
 unfolding Rattle.typed_tree.specs.declared.statement.TStmt.TheBlock.hidden-the_row-TStmt-2 denote.Hole.Carrier.hidden
-for_sound typed around s None test None body is =
-    let Q : TStmt → Type 0 = λ s. IsSoundStmt typed around s ↔ ForAsks typed around None test None body in
-    subst Q (sym is) (
-      λ h. (h.0.plain_parts.0, h.0.plain_parts.1, h.1, h.2, h.3, h.4),
-      λ h. (
-        record {
-          names_exist = tt;
-          labels_differ = tt;
-          labels_in_range = tt;
-          plain_parts = (h.0, h.1);
-          returns = tt;
-          leaves = tt;
-          writes = tt;
-          short_lists = tt;
-        },
-        h.2,
-        h.3,
-        h.4,
-        h.5,
-      ),
-    )
-for_sound typed around s None test (Some step) body is =
-    let Q : TStmt → Type 0 = λ s. IsSoundStmt typed around s ↔ ForAsks typed around None test (Some step) body in
-    subst Q (sym is) (
-      λ h. (h.0.plain_parts.0, h.0.plain_parts.1, h.1, h.2, h.3, h.4),
-      λ h. (
-        record {
-          names_exist = tt;
-          labels_differ = tt;
-          labels_in_range = tt;
-          plain_parts = (h.0, h.1);
-          returns = tt;
-          leaves = tt;
-          writes = tt;
-          short_lists = tt;
-        },
-        h.2,
-        h.3,
-        h.4,
-        h.5,
-      ),
-    )
-for_sound typed around s (Some init) test None body is =
-    let Q : TStmt → Type 0 = λ s. IsSoundStmt typed around s ↔ ForAsks typed around (Some init) test None body in
-    subst Q (sym is) (
-      λ h. (h.0.plain_parts.0, h.0.plain_parts.1, h.1, h.2, h.3, h.4),
-      λ h. (
-        record {
-          names_exist = tt;
-          labels_differ = tt;
-          labels_in_range = tt;
-          plain_parts = (h.0, h.1);
-          returns = tt;
-          leaves = tt;
-          writes = tt;
-          short_lists = tt;
-        },
-        h.2,
-        h.3,
-        h.4,
-        h.5,
-      ),
-    )
-for_sound typed around s (Some init) test (Some step) body is =
-    let Q : TStmt → Type 0 = λ s. IsSoundStmt typed around s ↔ ForAsks typed around (Some init) test (Some step) body in
-    subst Q (sym is) (
-      λ h. (h.0.plain_parts.0, h.0.plain_parts.1, h.1, h.2, h.3, h.4),
-      λ h. (
-        record {
-          names_exist = tt;
-          labels_differ = tt;
-          labels_in_range = tt;
-          plain_parts = (h.0, h.1);
-          returns = tt;
-          leaves = tt;
-          writes = tt;
-          short_lists = tt;
-        },
-        h.2,
-        h.3,
-        h.4,
-        h.5,
-      ),
-    )
+for_sound typed around s None test None body is = same_sound typed around is (λ h. assumption, λ h. assumption)
+for_sound typed around s None test (Some step) body is = same_sound typed around is (λ h. assumption, λ h. assumption)
+for_sound typed around s (Some init) test None body is = same_sound typed around is (λ h. assumption, λ h. assumption)
+for_sound typed around s (Some init) test (Some step) body is = same_sound typed around is (λ h. assumption, λ h. assumption)

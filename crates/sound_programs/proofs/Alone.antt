@@ -1,8 +1,8 @@
 -- The typed tree of an expression that stands alone and breaks no rule is sound, and may be the first or the third
 -- part of a `for`.
 use mathlib.Core.Former.{Count}
-use Rattle.std.proofs.Common.{◌≡◌, ℕ, suc, ◌+◌, ◌≤◌, ◌<◌, ◌^◌, Bool, true, false, not, ◌&&◌, ◌||◌, cond, List, [], ◌∷◌, ◌++◌, length, map, Option, Some, None, refl, sym, ap, ◌∙◌, subst, arith}
-use Rattle.std.specs.Prelude.{⊤, ◌==◌, IsSomeAnd, ℤ, pos, count_by, filter, flat_map, if◌then◌else◌, nat_le, slice_get}
+use Rattle.std.proofs.Common.{◌≡◌, ℕ, suc, ◌+◌, ◌≤◌, ◌<◌, ◌^◌, Bool, true, false, not, ◌||◌, cond, List, [], ◌∷◌, length, map, Option, Some, None, refl, sym, ap, ◌∙◌, subst, arith}
+use Rattle.std.specs.Prelude.{◌==◌, IsSomeAnd, pos, count_by, filter, flat_map, if◌then◌else◌, nat_le, slice_get}
 use Rattle.std.specs.List.{AllByRecursion, list_all}
 use Rattle.std.specs.Option.{option_map_or}
 use Rattle.std.proofs.lemmas.Int.{ints}
@@ -10,26 +10,24 @@ use Rattle.std.proofs.lemmas.List.{length-map}
 use Rattle.std.proofs.lemmas.List.Sums.{count_by-le-length, length-filter}
 use Rattle.std.proofs.lemmas.Option.{slice_get_within}
 use Rattle.texts.specs.declared.text.Text.{Text}
-use Rattle.int_kinds.specs.declared.kinds.Kind.{Kind}
 use Rattle.int_kinds.specs.declared.kinds.Kind.TheVariants as kind
 use Rattle.int_kinds.specs.declared.operators.BinOp.{BinOp}
 use Rattle.int_kinds.specs.declared.operators.UnOp.{UnOp}
 use Rattle.int_kinds.specs.declared.operators.UnOp.TheVariants as prefix
-use Rattle.write_format.specs.declared.piece.Piece.{Piece}
+use Rattle.int_kinds.specs.Kind.{IsNumber}
 use Rattle.write_format.specs.Format.{FormatText, numbers_taken}
 use Rattle.message_cells.specs.Message.{IsMessage}
 use Rattle.capl_tree.specs.declared.expr.Expr.{Expr, Row_of-Expr, end_of-Expr, more_of-Expr, items-the_row-Expr}
 use Rattle.capl_tree.specs.declared.expr.Expr.TheVariants as expr
 use Rattle.capl_tree.specs.declared.expr.Field.{Field}
-use Rattle.capl_tree.specs.declared.expr.Field.TheVariants.{Named}
 use Rattle.capl_tree.specs.Forms as tree
-use Rattle.capl_tree.specs.Grammar.{AreExpressions, IsExpression}
+use Rattle.capl_tree.specs.Grammar.{IsExpression}
 use Rattle.typed_tree.specs.declared.expression.TExpr.{TExpr, items-the_row-TExpr}
 use Rattle.typed_tree.specs.declared.expression.TExpr.TheVariants.{Const, Call'}
 use Rattle.typed_tree.specs.declared.program.TFun.{TFun}
 use Rattle.typed_tree.specs.declared.program.Typed.{Typed}
 use Rattle.typed_tree.specs.declared.statement.TStmt.{TStmt}
-use Rattle.typed_tree.specs.declared.statement.TStmt.TheVariants.{Cancel, Copy, Empty, Eval, Send, Set, Write}
+use Rattle.typed_tree.specs.declared.statement.TStmt.TheVariants.{Cancel, Empty, Eval, Send}
 use Rattle.typed_tree.specs.SoundExpression.{AreSoundArguments, IsSoundAlone, IsSoundExpr}
 use Rattle.typed_tree.specs.SoundStatement.{Around, IsPlainStmt, IsSoundStmt}
 use Rattle.capl_meaning.specs.declared.builtin.Builtin.{Builtin}
@@ -39,26 +37,26 @@ use Rattle.capl_meaning.specs.declared.sort.Sort.TheVariants as sort
 use Rattle.capl_meaning.specs.Rule.{E16}
 use Rattle.capl_meaning.specs.Variable.{Form, Number, Array, Message, Timer, Misfit, Variable}
 use Rattle.capl_meaning.specs.Names.{Callee, Function, OfLanguage, OfProgram, Unknown, Scope, ThisForm, NoThis, ThisFrame, ThisKey, callee, direction, means}
-use Rattle.capl_meaning.specs.Calls.{calls_in, calls_in_row}
-use Rattle.capl_meaning.specs.Format.{first_text, quoted_text}
+use Rattle.capl_meaning.specs.Calls.{calls_in}
+use Rattle.capl_meaning.specs.Format.{first_text}
 use Rattle.capl_meaning.specs.Message.{Held, HeldFrame, HeldVariable, is_message_place, is_number_place, is_variable, message_in, signals_of}
-use Rattle.capl_meaning.specs.Sort.{is_number, sort_of, sort_of_assignment, sort_of_binary, sort_of_builtin, sort_of_call, sort_of_choice, sort_of_direction, sort_of_element, sort_of_form, sort_of_name, sort_of_number, sort_of_part, sort_of_prefix, sort_of_step, sort_of_this, sorts_of}
-use Rattle.capl_meaning.specs.ExpressionRules.{argument_rule, builtin_rules, call_rules, function_rules, integer_needed, is_message_sort, is_timer_sort, left_rule, offence, offences, offences_of_row, right_rule, sides_rule}
+use Rattle.capl_meaning.specs.Sort.{is_number, sort_of, sort_of_assignment, sort_of_binary, sort_of_builtin, sort_of_call, sort_of_choice, sort_of_direction, sort_of_form, sort_of_name, sort_of_number, sort_of_part, sort_of_prefix, sort_of_step, sort_of_this, sorts_of}
+use Rattle.capl_meaning.specs.ExpressionRules.{argument_rule, builtin_rules, call_rules, function_rules, integer_needed, is_message_sort, is_timer_sort, left_rule, offence, offences, offences_of_row, sides_rule}
 use Rattle.capl_meaning.specs.Expression.{timer_in}
-use Rattle.capl_meaning.specs.Store.{variable_key, timer_number}
-use Rattle.typed_laws.specs.Laid.{HasForm, IsHeld, message_slot, slot}
+use Rattle.capl_meaning.specs.Store.{timer_number}
+use Rattle.typed_laws.specs.Laid.{IsHeld, message_slot}
 use Rattle.typed_laws.proofs.Places.{message_named}
 use Rattle.typed_laws.proofs.Timers.{timer_named}
-use Rattle.typed_source.specs.Expression.{expression_of, loaded, of_call, of_name, of_this, place_in, place_of_form, row_of}
+use Rattle.typed_source.specs.Expression.{expression_of, loaded, of_call, of_name, of_this, place_of_form, row_of}
 use Rattle.typed_source.specs.Statement.{StandFrom, alone_of, format_of, formats_of_alone, formats_of_call, formats_written, numbers_of, of_assignment, of_call_alone, pieces_written, setting, text_written, writing}
-use Rattle.typed_source.specs.Sound.{CanBeMade, CanRowBeMade, HasTables, IsCallable, IsOfNumber}
+use Rattle.typed_source.specs.Sound.{CanBeMade, CanRowBeMade, HasTables, IsOfNumber}
 use Rattle.typed_source.proofs.SoundExpressions.{sound}
 use Rattle.sound_programs.specs.Given.{AreCallable, HaveForms}
-use Rattle.sound_programs.specs.Small.{AreSmallExprs, IsSmallExpr}
+use Rattle.sound_programs.specs.Small.{IsSmallExpr}
 use Rattle.sound_programs.proofs.Empty.{back, front, full}
-use Rattle.sound_programs.proofs.Sorts.{IsFine, element_fine, from_fine, needed, of_message, of_number, of_timer}
+use Rattle.sound_programs.proofs.Sorts.{IsFine, element_fine, from_fine, of_message, of_number, of_timer}
 use Rattle.sound_programs.proofs.Fine.{all_integers, argument_so, as_many, fine, fine_assigned, fine_row, integer, left_place, message_place, message_sort, part_number, place_number, right_message, right_number}
-use Rattle.sound_programs.proofs.Made.{made, made_row}
+use Rattle.sound_programs.proofs.Made.{made}
 use Rattle.sound_programs.proofs.Named.{message_there, timer_there}
 use Rattle.sound_programs.proofs.Written.{Fits, and_both, fits, numbers_counted}
 
@@ -97,9 +95,7 @@ prefix_fine : (s : Scope) (operator : UnOp) (e : Expr) → IsFine (sort_of_prefi
 prefix_fine s prefix.Up e good = step_fine s e (is_number_place s e) refl good
 prefix_fine s prefix.Down e good = step_fine s e (is_number_place s e) refl good
 prefix_fine s prefix.Not e good = from_fine (sort_of s e) kind.Long good
-prefix_fine s prefix.Minus e good = from_fine (sort_of s e) _ good
-prefix_fine s prefix.Plus e good = from_fine (sort_of s e) _ good
-prefix_fine s prefix.Inv e good = from_fine (sort_of s e) _ good
+prefix_fine s other e good = from_fine (sort_of s e) _ good
 
 -- the functions of the language that give something give a number
 active_fine : (text : Option (List ℕ)) (sorts : List Sort) → IsFine (sort_of_builtin builtin.IsTimerActive text sorts) → IsOfNumber (sort_of_builtin builtin.IsTimerActive text sorts)
@@ -117,14 +113,9 @@ count_fine text sorts good = elim good [ ]
 module _ (typed : Typed) (around : Around) where
   -- zero is sound
   sound_zero : IsSoundExpr typed around.number (Const (pos 0))
-  sound_zero = record {
-    names_exist = tt;
-    constant_in_range = record { at_least = omega (arith, ints); below = omega (arith, ints) };
-    operation = tt;
-    calls_earlier = tt;
-    few_arguments = tt;
-    can_give_back = tt;
-  }
+  sound_zero =
+      let in_range : IsNumber (pos 0) = record { at_least = omega (arith, ints); below = omega (arith, ints) } in
+      assumption in_range
 
   -- what is sound where a number is used is sound alone
   alone_from : (t : TExpr) → IsSoundExpr typed around.number t → IsSoundAlone typed around.number t
@@ -154,19 +145,8 @@ module _ (typed : Typed) (around : Around) where
         IsSoundPlain (option_map_or (λ held. Send (message_slot s.names held)) (message_in s message) Empty)
     sound_output at message good none =
         let there = message_there s message (of_message (sort_of s message) (argument_so s at is_message_sort message good none)) in
-        subst (λ o. IsSoundPlain (option_map_or (λ held. Send (message_slot s.names held)) o Empty)) (sym there.1) (
-          record {
-            names_exist = held_there message there.0 there.1;
-            labels_differ = tt;
-            labels_in_range = tt;
-            plain_parts = tt;
-            returns = tt;
-            leaves = tt;
-            writes = tt;
-            short_lists = tt;
-          },
-          tt,
-        )
+        subst (λ o. IsSoundPlain (option_map_or (λ held. Send (message_slot s.names held)) o Empty)) (sym there.1)
+        (assumption (held_there message there.0 there.1))
 
     -- the timer of a call is there
     timer_exists : (at : ℕ) (timer : Expr) → IsFine (sort_of s timer) → argument_rule s at is_timer_sort timer ≡ [] →
@@ -180,40 +160,13 @@ module _ (typed : Typed) (around : Around) where
         IsSoundPlain (setting s.names (timer_in s timer) cyclic t)
     sound_set at timer cyclic t good none duration =
         let there = timer_exists at timer good none in
-        subst (λ o. IsSoundPlain (setting s.names o cyclic t)) (sym there.1) (
-          (
-            record {
-              names_exist = there.2;
-              labels_differ = tt;
-              labels_in_range = tt;
-              plain_parts = tt;
-              returns = tt;
-              leaves = tt;
-              writes = tt;
-              short_lists = tt;
-            },
-            duration,
-          ),
-          tt,
-        )
+        subst (λ o. IsSoundPlain (setting s.names o cyclic t)) (sym there.1) (assumption (there.2, duration))
 
     sound_cancel : (at : ℕ) (timer : Expr) → IsFine (sort_of s timer) → argument_rule s at is_timer_sort timer ≡ [] →
         IsSoundPlain (option_map_or (λ v. Cancel (timer_number s.names v)) (timer_in s timer) Empty)
     sound_cancel at timer good none =
         let there = timer_exists at timer good none in
-        subst (λ o. IsSoundPlain (option_map_or (λ v. Cancel (timer_number s.names v)) o Empty)) (sym there.1) (
-          record {
-            names_exist = there.2;
-            labels_differ = tt;
-            labels_in_range = tt;
-            plain_parts = tt;
-            returns = tt;
-            leaves = tt;
-            writes = tt;
-            short_lists = tt;
-          },
-          tt,
-        )
+        subst (λ o. IsSoundPlain (option_map_or (λ v. Cancel (timer_number s.names v)) o Empty)) (sym there.1) (assumption there.2)
 
     -- the arguments of a `write` that are numbers
     sound_numbers : {m : Count} (row : Row_of-Expr m) → CanRowBeMade s order typed around.number row →
@@ -243,22 +196,12 @@ module _ (typed : Typed) (around : Around) where
         let all : length (filter (λ e. is_number (sort_of s e)) arguments) ≡ count_by (λ e. is_number (sort_of s e)) arguments = length-filter (λ e. is_number (sort_of s e)) arguments in
         let some : count_by (λ e. is_number (sort_of s e)) arguments ≤ length arguments = count_by-le-length (λ e. is_number (sort_of s e)) arguments in
         omega (arith, all, some) in
-        subst (λ o. IsSoundPlain (writing s order before o arguments)) (sym fit.are) (
-          (
-            record {
-              names_exist = slice_get_within typed.formats before (format_of s (text_written format) fit.pieces arguments) at;
-              labels_differ = tt;
-              labels_in_range = tt;
-              plain_parts = tt;
-              returns = tt;
-              leaves = tt;
-              writes = subst (λ o. IsSomeAnd o (λ (format : FormatText). length (numbers_of s order arguments) ≡ numbers_taken format)) (sym at) (long ∙ sym taken);
-              short_lists = omega (arith, long, most, few);
-            },
-            numbers,
-          ),
-          tt,
-        )
+        let short : length (numbers_of s order arguments) < 2 ^ 32 = omega (arith, long, most, few) in
+        subst (λ o. IsSoundPlain (writing s order before o arguments)) (sym fit.are) (assumption (
+          slice_get_within typed.formats before (format_of s (text_written format) fit.pieces arguments) at,
+          subst (λ o. IsSomeAnd o (λ (format : FormatText). length (numbers_of s order arguments) ≡ numbers_taken format)) (sym at) (long ∙ sym taken),
+          short,
+        ))
 
     -- ---- calls
 
@@ -290,32 +233,21 @@ module _ (typed : Typed) (around : Around) where
         CanRowBeMade s order typed around.number row → length (items-the_row-Expr m row) < 2 ^ 32 → StandFrom before (formats_of_call s (OfLanguage b) (items-the_row-Expr m row)) typed.formats →
         (IsOfNumber (sort_of_builtin b (first_text row) (sorts_of s row)) → IsSoundAlone typed around.number other) → IsFine (sort_of_builtin b (first_text row) (sorts_of s row)) →
         IsSoundPlain (of_call_alone s order before (OfLanguage b) (items-the_row-Expr m row) (Eval other))
-    sound_builtin at before builtin.Output end_of-Expr other good none can few formats is all = absurd (full _ _ none)
     sound_builtin at before builtin.Output (more_of-Expr message end_of-Expr) other good none can few formats is all = sound_output at message good.0 none
-    sound_builtin at before builtin.Output (more_of-Expr message (more_of-Expr more rest)) other good none can few formats is all = absurd (full _ _ none)
-    sound_builtin at before builtin.Write end_of-Expr other good none can few formats is all = absurd (full _ _ none)
     sound_builtin at before builtin.Write (more_of-Expr format rest) other good none can few formats is all =
         sound_write before format _ (fits s format rest good.0 good.1 none) (omega (arith, few)) formats (sound_numbers rest can.1)
-    sound_builtin at before builtin.SetTimer end_of-Expr other good none can few formats is all = absurd (full _ _ none)
-    sound_builtin at before builtin.SetTimer (more_of-Expr timer end_of-Expr) other good none can few formats is all = absurd (full _ _ none)
     sound_builtin at before builtin.SetTimer (more_of-Expr timer (more_of-Expr duration end_of-Expr)) other good none can few formats is all =
         sound_set at timer false (expression_of s order duration) good.0 (front (argument_rule s at is_timer_sort timer) _ none)
         (sound typed around.number s order tables duration (integer s duration (good.1).0 (back (argument_rule s at is_timer_sort timer) _ none)) (can.1).0)
-    sound_builtin at before builtin.SetTimer (more_of-Expr timer (more_of-Expr duration (more_of-Expr more rest))) other good none can few formats is all = absurd (full _ _ none)
-    sound_builtin at before builtin.SetTimerCyclic end_of-Expr other good none can few formats is all = absurd (full _ _ none)
-    sound_builtin at before builtin.SetTimerCyclic (more_of-Expr timer end_of-Expr) other good none can few formats is all = absurd (full _ _ none)
     sound_builtin at before builtin.SetTimerCyclic (more_of-Expr timer (more_of-Expr duration end_of-Expr)) other good none can few formats is all =
         sound_set at timer true (expression_of s order duration) good.0 (front (argument_rule s at is_timer_sort timer) _ none)
         (sound typed around.number s order tables duration (integer s duration (good.1).0 (back (argument_rule s at is_timer_sort timer) _ none)) (can.1).0)
-    sound_builtin at before builtin.SetTimerCyclic (more_of-Expr timer (more_of-Expr duration (more_of-Expr more rest))) other good none can few formats is all = absurd (full _ _ none)
-    sound_builtin at before builtin.CancelTimer end_of-Expr other good none can few formats is all = absurd (full _ _ none)
     sound_builtin at before builtin.CancelTimer (more_of-Expr timer end_of-Expr) other good none can few formats is all = sound_cancel at timer good.0 none
-    sound_builtin at before builtin.CancelTimer (more_of-Expr timer (more_of-Expr more rest)) other good none can few formats is all = absurd (full _ _ none)
     sound_builtin at before builtin.Stop end_of-Expr other good none can few formats is all = (tt, tt)
-    sound_builtin at before builtin.Stop (more_of-Expr more rest) other good none can few formats is all = absurd (full _ _ none)
     sound_builtin at before builtin.IsTimerActive row other good none can few formats is all = eval other (is (active_fine (first_text row) (sorts_of s row) all))
     sound_builtin at before builtin.TimeNow row other good none can few formats is all = eval other (is (now_fine (first_text row) (sorts_of s row) all))
     sound_builtin at before builtin.ElCount row other good none can few formats is all = eval other (is (count_fine (first_text row) (sorts_of s row) all))
+    sound_builtin at before b row other good none can few formats is all = absurd (full _ _ none)
 
     -- a call, by what is called
     sound_call : (at before : ℕ) (c : Callee) {m : Count} (row : Row_of-Expr m) (other : TExpr) → AllByRecursion IsFine (sorts_of s row) → call_rules s at c (items-the_row-Expr m row) ≡ [] →
@@ -333,19 +265,7 @@ module _ (typed : Typed) (around : Around) where
     sound_copy : (left right : Held) (other : TStmt) → is_variable left ≡ true → IsMessage typed.cells (message_slot s.names left) → IsMessage typed.cells (message_slot s.names right) →
         IsSoundPlain (of_assignment s.names (Some left) (Some right) other)
     sound_copy (HeldFrame signals) right other is one two = absurd (let f : false ≡ true = is in cc)
-    sound_copy (HeldVariable v signals) right other is one two = (
-      record {
-        names_exist = (one, two);
-        labels_differ = tt;
-        labels_in_range = tt;
-        plain_parts = tt;
-        returns = tt;
-        leaves = tt;
-        writes = tt;
-        short_lists = tt;
-      },
-      tt,
-    )
+    sound_copy (HeldVariable v signals) right other is one two = assumption (one, two)
 
     -- an assignment
     sound_assign : (left right : Expr) (at : ℕ) → IsFine (sort_of s left) → IsFine (sort_of s right) → left_rule s None left ≡ [] → sides_rule s at (sort_of s left) (sort_of s right) ≡ [] →
@@ -382,10 +302,7 @@ module _ (typed : Typed) (around : Around) where
       where
         go : (f : Form) → (IsOfNumber (sort_of_form f) → IsSoundAlone typed around.number (loaded (place_of_form s.names v f))) → IsSoundAlone typed around.number (loaded (place_of_form s.names v f))
         go (Number k fixed) number = number tt
-        go (Array k fixed size) number = sound_zero
-        go (Message type_) number = sound_zero
-        go (Timer unit) number = sound_zero
-        go Misfit number = sound_zero
+        go other number = sound_zero
 
     -- `this`
     this_alone : (this : ThisForm) → (IsOfNumber (sort_of_this this) → IsSoundAlone typed around.number (of_this this)) → IsSoundAlone typed around.number (of_this this)
@@ -415,17 +332,12 @@ module _ (typed : Typed) (around : Around) where
         let callable = can.0 f is in
         let given = called_arguments at f args good (subst (λ c. call_rules s at c (items-the_row-Expr _ args) ≡ []) is rules) can.1 in
         subst (λ c. IsSoundAlone typed around.number (of_call s order c (items-the_row-Expr _ args) (λ k. Call' k shape (row_of s order args)))) (sym is)
-        (subst (λ o. IsSoundAlone typed around.number (option_map_or (λ k. Call' k shape (row_of s order args)) o (Const (pos 0)))) (sym callable.is_there) (
-          record {
-            names_exist = tt;
-            constant_in_range = tt;
-            operation = tt;
-            calls_earlier = (callable.earlier, subst (λ o. IsSomeAnd o (λ (function : TFun). length (items-the_row-TExpr _ (row_of s order args)) ≡ length function.params)) (sym callable.is_function) (given.0 ∙ sym callable.same_count));
-            few_arguments = subst (λ n. n < 2 ^ 32) (sym given.0) callable.few_parameters;
-            can_give_back = tt;
-          },
+        (subst (λ o. IsSoundAlone typed around.number (option_map_or (λ k. Call' k shape (row_of s order args)) o (Const (pos 0)))) (sym callable.is_there) (assumption (
+          callable.earlier,
+          subst (λ o. IsSomeAnd o (λ (function : TFun). length (items-the_row-TExpr _ (row_of s order args)) ≡ length function.params)) (sym callable.is_function) (given.0 ∙ sym callable.same_count),
+          subst (λ n. n < 2 ^ 32) (sym given.0) callable.few_parameters,
           given.1,
-        )))
+        ))))
     alone before (tree.Assign None left right at) formed few none called formats =
         let rest = back (offences s left) _ none in
         let rules = back (offences s right) _ rest in

@@ -72,13 +72,7 @@ module _ (names : Names) (owner file : ℕ) (one other : ThisForm) (gives given 
       ap (λ g. sort_of_choice g (sort_of here chosen_one) (sort_of here chosen_other)) (sort_same known chosen_by parts.0)
       ∙ ap (λ g. sort_of_choice (sort_of there chosen_by) g (sort_of here chosen_other)) (sort_same known chosen_one two.0)
       ∙ ap (λ g. sort_of_choice (sort_of there chosen_by) (sort_of there chosen_one) g) (sort_same known chosen_other two.1)
-  sort_same known (expr.Str text at) is = absurd (let f : false ≡ true = is in cc)
-  sort_same known (expr.This at) is = absurd (let f : false ≡ true = is in cc)
-  sort_same known (expr.Call' name shape args at) is = absurd (let f : false ≡ true = is in cc)
-  sort_same known (tree.Index base index at) is = absurd (let f : false ≡ true = is in cc)
-  sort_same known (tree.Member base field at) is = absurd (let f : false ≡ true = is in cc)
-  sort_same known (tree.Post up inner at) is = absurd (let f : false ≡ true = is in cc)
-  sort_same known (tree.Assign operator left right at) is = absurd (let f : false ≡ true = is in cc)
+  sort_same known other is = absurd (let f : false ≡ true = is in cc)
 
   -- and one value
   value_same : (known : List Constant) (e : Expr) → is_constant known here e ≡ true → constant_value known here e ≡ constant_value known there e
@@ -105,13 +99,7 @@ module _ (names : Names) (owner file : ℕ) (one other : ThisForm) (gives given 
       ∙ ap (λ o. option_map (wrap (join (kind_in (sort_of there chosen_one)) (kind_in (sort_of there chosen_other)))) (chosen o (constant_value known here chosen_one) (constant_value known here chosen_other))) (value_same known chosen_by parts.0)
       ∙ ap (λ o. option_map (wrap (join (kind_in (sort_of there chosen_one)) (kind_in (sort_of there chosen_other)))) (chosen (constant_value known there chosen_by) o (constant_value known here chosen_other))) (value_same known chosen_one two.0)
       ∙ ap (λ o. option_map (wrap (join (kind_in (sort_of there chosen_one)) (kind_in (sort_of there chosen_other)))) (chosen (constant_value known there chosen_by) (constant_value known there chosen_one) o)) (value_same known chosen_other two.1)
-  value_same known (expr.Str text at) is = absurd (let f : false ≡ true = is in cc)
-  value_same known (expr.This at) is = absurd (let f : false ≡ true = is in cc)
-  value_same known (expr.Call' name shape args at) is = absurd (let f : false ≡ true = is in cc)
-  value_same known (tree.Index base index at) is = absurd (let f : false ≡ true = is in cc)
-  value_same known (tree.Member base field at) is = absurd (let f : false ≡ true = is in cc)
-  value_same known (tree.Post up inner at) is = absurd (let f : false ≡ true = is in cc)
-  value_same known (tree.Assign operator left right at) is = absurd (let f : false ≡ true = is in cc)
+  value_same known other is = absurd (let f : false ≡ true = is in cc)
 
   -- the number of a constant
   number_same : (known : List Constant) (e : Expr) → constant known here e ≡ constant known there e

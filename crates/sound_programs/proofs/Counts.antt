@@ -39,9 +39,7 @@ module _ (names : Names) where
   kinds_few : (elements : ℕ) (form : Form) → length (kinds_by elements form) ≤ size_of_form elements form
   kinds_few elements (Number k fixed) = omega arith
   kinds_few elements (Array k fixed count) = let long : length (kinds_by elements (Array k fixed count)) ≡ elements = replicate_long elements k in omega (arith, long)
-  kinds_few elements (Message type_) = omega arith
-  kinds_few elements (Timer unit) = omega arith
-  kinds_few elements Misfit = omega arith
+  kinds_few elements other = omega arith
 
   cells_few : (vs : List Variable) → length (flat_map (λ v. kinds_by (elements_of names v) v.form) vs) ≤ sum_by size vs
   cells_few [] = omega arith

@@ -62,9 +62,7 @@ module _ (s : Scope) where
     clean around (tree.For init given step body) none =
         clean in_loop body (back (alone_offences s step) _ (back (needed_offences s given) _ (back (alone_offences s init) _ none)))
     clean around (stmt.Switch' on shape groups) none = clean_groups (source.in_switch around) groups (back (labels_rule s (sort_of s on) (labels_said groups)) _ (back (integer_offences s on) _ none))
-    clean around (stmt.Break at) none = tt
-    clean around (stmt.Continue at) none = tt
-    clean around (stmt.Return value at) none = tt
+    clean around other none = tt
 
     clean_row : (around : source.Around) {m : Count} (row : Row_of-Stmt m) → offences_of_statements s around row ≡ [] → AllByRecursion Clean (declarations_of row)
     clean_row around end_of-Stmt none = tt

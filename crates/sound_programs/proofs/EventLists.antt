@@ -62,9 +62,7 @@ module _ (names : Names) (forms : HaveForms names) where
       by : (v : Variable) → global names name ≡ Some v → (form : Form) → v.form ≡ form → timer_rule s at (Some (record v { form = form })) ≡ [] → is_timer form ≡ true
       by v is (Timer unit) e none = refl
       by v is Misfit e none = absurd (forms v (record { among = found_among (is_global name) names.variables v is; form_is = e }))
-      by v is (Number k fixed) e none = absurd (full _ _ none)
-      by v is (Array k fixed size) e none = absurd (full _ _ none)
-      by v is (Message type_) e none = absurd (full _ _ none)
+      by v is other e none = absurd (full _ _ none)
 
       go : (o : Option Variable) → global names name ≡ o → timer_rule s at o ≡ [] → option_map_or (λ v. is_timer v.form) o false ≡ true
       go None is none = absurd (full _ _ none)

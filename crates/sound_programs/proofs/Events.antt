@@ -146,10 +146,7 @@ timer_there names name h = go (global names name) refl h
             test_of : (b : Bool) → test u ≡ b → cond b (Some u) (find test us) ≡ Some v → (find test us ≡ Some v → test v ≡ true) → test v ≡ true
             test_of true is e further = let f : Some u ≡ Some v = e in let same : u ≡ v = cc in subst (λ x. test x ≡ true) same is
             test_of false is e further = further e
-    by v is (Number k fixed) e h = absurd (let f : false ≡ true = h in cc)
-    by v is (Array k fixed size) e h = absurd (let f : false ≡ true = h in cc)
-    by v is (Message type_) e h = absurd (let f : false ≡ true = h in cc)
-    by v is Misfit e h = absurd (let f : false ≡ true = h in cc)
+    by v is other e h = absurd (let f : false ≡ true = h in cc)
 
     go : (o : Option Variable) → global names name ≡ o → option_map_or (λ v. is_timer v.form) o false ≡ true → TimerNamed names name
     go None is h = absurd (let f : false ≡ true = h in cc)

@@ -115,10 +115,7 @@ message_sort s (expr.Name name at) held is = go (means s name at) is
   where
     by : (v : Variable) (f : Form) → held_by v f ≡ Some held → sort_of_form f ≡ sort.Message
     by v (Message type_) e = refl
-    by v (Number k fixed) e = absurd (let f : None ≡ Some held = e in cc)
-    by v (Array k fixed size) e = absurd (let f : None ≡ Some held = e in cc)
-    by v (Timer unit) e = absurd (let f : None ≡ Some held = e in cc)
-    by v Misfit e = absurd (let f : None ≡ Some held = e in cc)
+    by v other e = absurd (let f : None ≡ Some held = e in cc)
 
     go : (o : Option Variable) → option_and_then (λ v. held_by v v.form) o ≡ Some held → sort_of_name name o ≡ sort.Message
     go None e = absurd (let f : None ≡ Some held = e in cc)
@@ -159,10 +156,7 @@ place_number s (expr.Name name at) is fine = go (means s name at) is
   where
     by : (f : Form) → is_open_number f ≡ true → IsOfNumber (sort_of_form f)
     by (Number k fixed) e = tt
-    by (Array k fixed size) e = absurd (let f : false ≡ true = e in cc)
-    by (Message type_) e = absurd (let f : false ≡ true = e in cc)
-    by (Timer unit) e = absurd (let f : false ≡ true = e in cc)
-    by Misfit e = absurd (let f : false ≡ true = e in cc)
+    by other e = absurd (let f : false ≡ true = e in cc)
 
     go : (o : Option Variable) → option_map_or (λ v. is_open_number v.form) o false ≡ true → IsOfNumber (sort_of_name name o)
     go None e = absurd (let f : false ≡ true = e in cc)
@@ -258,40 +252,24 @@ fine_set text g h is number = absurd (cc)
 
 fine_builtin : (s : Scope) (at : ℕ) (b : Builtin) {m : Count} (row : Row_of-Expr m) → AreFine (sorts_of s row) → builtin_rules s at b (items-the_row-Expr m row) ≡ [] →
     IsFine (sort_of_builtin b (first_text row) (sorts_of s row))
-fine_builtin s at builtin.Output end_of-Expr fine none = absurd (full _ _ none)
 fine_builtin s at builtin.Output (more_of-Expr message end_of-Expr) fine none =
     fine_one builtin.Output (quoted_text message) _ sort.Message (of_message (sort_of s message) (argument_so s at is_message_sort message fine.0 none)) tt
-fine_builtin s at builtin.Output (more_of-Expr message (more_of-Expr other rest)) fine none = absurd (full _ _ none)
-fine_builtin s at builtin.Write end_of-Expr fine none = absurd (full _ _ none)
 fine_builtin s at builtin.Write (more_of-Expr format rest) fine none = fine_write s at format rest fine.0 fine.1 none
-fine_builtin s at builtin.SetTimer end_of-Expr fine none = absurd (full _ _ none)
-fine_builtin s at builtin.SetTimer (more_of-Expr timer end_of-Expr) fine none = absurd (full _ _ none)
 fine_builtin s at builtin.SetTimer (more_of-Expr timer (more_of-Expr duration end_of-Expr)) fine none =
     (fine_set (quoted_text timer) (sort_of s timer) (sort_of s duration) (of_timer (sort_of s timer) (argument_so s at is_timer_sort timer fine.0 (front (argument_rule s at is_timer_sort timer) (integer_needed s duration) none)))
     (integer s duration (fine.1).0 (back (argument_rule s at is_timer_sort timer) (integer_needed s duration) none))).0
-fine_builtin s at builtin.SetTimer (more_of-Expr timer (more_of-Expr duration (more_of-Expr other rest))) fine none = absurd (full _ _ none)
-fine_builtin s at builtin.SetTimerCyclic end_of-Expr fine none = absurd (full _ _ none)
-fine_builtin s at builtin.SetTimerCyclic (more_of-Expr timer end_of-Expr) fine none = absurd (full _ _ none)
 fine_builtin s at builtin.SetTimerCyclic (more_of-Expr timer (more_of-Expr duration end_of-Expr)) fine none =
     (fine_set (quoted_text timer) (sort_of s timer) (sort_of s duration) (of_timer (sort_of s timer) (argument_so s at is_timer_sort timer fine.0 (front (argument_rule s at is_timer_sort timer) (integer_needed s duration) none)))
     (integer s duration (fine.1).0 (back (argument_rule s at is_timer_sort timer) (integer_needed s duration) none))).1
-fine_builtin s at builtin.SetTimerCyclic (more_of-Expr timer (more_of-Expr duration (more_of-Expr other rest))) fine none = absurd (full _ _ none)
-fine_builtin s at builtin.CancelTimer end_of-Expr fine none = absurd (full _ _ none)
 fine_builtin s at builtin.CancelTimer (more_of-Expr timer end_of-Expr) fine none =
     fine_one builtin.CancelTimer (quoted_text timer) _ sort.Timer (of_timer (sort_of s timer) (argument_so s at is_timer_sort timer fine.0 none)) tt
-fine_builtin s at builtin.CancelTimer (more_of-Expr timer (more_of-Expr other rest)) fine none = absurd (full _ _ none)
 fine_builtin s at builtin.Stop end_of-Expr fine none = tt
-fine_builtin s at builtin.Stop (more_of-Expr other rest) fine none = absurd (full _ _ none)
-fine_builtin s at builtin.IsTimerActive end_of-Expr fine none = absurd (full _ _ none)
 fine_builtin s at builtin.IsTimerActive (more_of-Expr timer end_of-Expr) fine none =
     fine_one builtin.IsTimerActive (quoted_text timer) _ sort.Timer (of_timer (sort_of s timer) (argument_so s at is_timer_sort timer fine.0 none)) tt
-fine_builtin s at builtin.IsTimerActive (more_of-Expr timer (more_of-Expr other rest)) fine none = absurd (full _ _ none)
 fine_builtin s at builtin.TimeNow end_of-Expr fine none = tt
-fine_builtin s at builtin.TimeNow (more_of-Expr other rest) fine none = absurd (full _ _ none)
-fine_builtin s at builtin.ElCount end_of-Expr fine none = absurd (full _ _ none)
 fine_builtin s at builtin.ElCount (more_of-Expr array end_of-Expr) fine none =
     let is = of_array (sort_of s array) (argument_so s at is_array array fine.0 none) in fine_one builtin.ElCount (quoted_text array) _ (sort.Array is.0) is.1 tt
-fine_builtin s at builtin.ElCount (more_of-Expr array (more_of-Expr other rest)) fine none = absurd (full _ _ none)
+fine_builtin s at b row fine none = absurd (full _ _ none)
 
 -- ---- calls of functions of the program
 
@@ -342,9 +320,7 @@ fine_prefix : (s : Scope) (operator : UnOp) (e : Expr) → IsFine (sort_of s e) 
 fine_prefix s prefix.Up e fine none = fine_step (is_number_place s e) (sort_of s e) (stepped s e fine none) fine
 fine_prefix s prefix.Down e fine none = fine_step (is_number_place s e) (sort_of s e) (stepped s e fine none) fine
 fine_prefix s prefix.Not e fine none = number_fine _ (from_number (sort_of s e) kind.Long (integer s e fine none))
-fine_prefix s prefix.Minus e fine none = number_fine _ (from_number (sort_of s e) _ (integer s e fine none))
-fine_prefix s prefix.Plus e fine none = number_fine _ (from_number (sort_of s e) _ (integer s e fine none))
-fine_prefix s prefix.Inv e fine none = number_fine _ (from_number (sort_of s e) _ (integer s e fine none))
+fine_prefix s other e fine none = number_fine _ (from_number (sort_of s e) _ (integer s e fine none))
 
 -- an element of an array
 fine_index : (s : Scope) (at : ℕ) (base index : Expr) → IsFine (sort_of s base) → IsFine (sort_of s index) → index_rule s at (sort_of s base) ≡ [] → integer_needed s index ≡ [] →
@@ -406,10 +382,7 @@ module _ (s : Scope) (forms : HaveForms s.names) where
     where
       go : (f : Form) → v.form ≡ f → IsFine (sort_of_form f)
       go Misfit e = forms v (record { among = means_among s name at v is; form_is = e })
-      go (Number k fixed) e = tt
-      go (Array k fixed size) e = tt
-      go (Message type_) e = tt
-      go (Timer unit) e = tt
+      go other e = tt
 
   mutual
     -- an expression that breaks no rule is not bad

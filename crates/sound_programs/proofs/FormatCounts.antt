@@ -24,34 +24,13 @@ module _ (s : Scope) where
   call_one : (c : Callee) (arguments : List Expr) → length (formats_of_call s c arguments) ≤ 1
   call_one (OfLanguage builtin.Write) [] = omega arith
   call_one (OfLanguage builtin.Write) (format ∷ arguments) = written_one (text_written format) (pieces_written s format arguments) arguments
-  call_one (OfLanguage builtin.Output) arguments = omega arith
-  call_one (OfLanguage builtin.SetTimer) arguments = omega arith
-  call_one (OfLanguage builtin.SetTimerCyclic) arguments = omega arith
-  call_one (OfLanguage builtin.CancelTimer) arguments = omega arith
-  call_one (OfLanguage builtin.Stop) arguments = omega arith
-  call_one (OfLanguage builtin.IsTimerActive) arguments = omega arith
-  call_one (OfLanguage builtin.TimeNow) arguments = omega arith
-  call_one (OfLanguage builtin.ElCount) arguments = omega arith
-  call_one (OfProgram f) arguments = omega arith
-  call_one Unknown arguments = omega arith
+  call_one other arguments = omega arith
 
   alone_light : (e : Expr) → 8 * length (formats_of_alone s e) ≤ expression_weight e
   alone_light (tree.Paren inner at) = let h : 8 * length (formats_of_alone s inner) ≤ expression_weight inner = alone_light inner in omega (arith, h)
   alone_light (expr.Call' name shape args at) =
       let h : length (formats_of_call s (callee s.names name) (items-the_row-Expr _ args)) ≤ 1 = call_one (callee s.names name) (items-the_row-Expr _ args) in omega (arith, h)
-  alone_light (expr.Num value extended at) = omega arith
-  alone_light (expr.Char value at) = omega arith
-  alone_light (expr.Str text at) = omega arith
-  alone_light (expr.This at) = omega arith
-  alone_light (expr.Name name at) = omega arith
-  alone_light (tree.Index base index at) = omega arith
-  alone_light (tree.Member base field at) = omega arith
-  alone_light (tree.Cast k inner at) = omega arith
-  alone_light (tree.Unary operator inner at) = omega arith
-  alone_light (tree.Post up inner at) = omega arith
-  alone_light (tree.Binary operator left right at) = omega arith
-  alone_light (tree.Cond given one other at) = omega arith
-  alone_light (tree.Assign operator left right at) = omega arith
+  alone_light other = omega arith
 
   part_light : (part : Option Expr) → 8 * length (formats_of_part s part) ≤ part_weight part
   part_light None = omega arith
@@ -82,9 +61,7 @@ module _ (s : Scope) where
         let d : length (formats_of_part s step ++ formats_of s body) ≡ length (formats_of_part s step) + length (formats_of s body) = both (formats_of_part s step) (formats_of s body) in
         omega (arith, h, f, g, e, d)
     light (stmt.Switch' on shape groups) = let h : 8 * length (formats_of_groups s groups) ≤ groups_weight groups = groups_light groups in omega (arith, h)
-    light (stmt.Break at) = omega arith
-    light (stmt.Continue at) = omega arith
-    light (stmt.Return value at) = omega arith
+    light other = omega arith
 
     row_light : {m : Count} (row : Row_of-Stmt m) → 8 * length (formats_of_row s row) ≤ statements_weight row
     row_light end_of-Stmt = omega arith

@@ -79,9 +79,7 @@ module _ (s : Scope) (P : FormatText → Type 0) (each : (e : Expr) → IsSmallE
         (all_append P (formats_of_part s step) (formats_of s body) (part_formats step few.2 (front (alone_offences s step) _ last)) (statement_formats in_loop body few.3 (back (alone_offences s step) _ last)))
     statement_formats around (stmt.Switch' on shape groups) few none =
         group_formats (source.in_switch around) groups few.2 (back (labels_rule s (sort_of s on) (labels_said groups)) _ (back (integer_offences s on) _ none))
-    statement_formats around (stmt.Break at) few none = tt
-    statement_formats around (stmt.Continue at) few none = tt
-    statement_formats around (stmt.Return value at) few none = tt
+    statement_formats around other few none = tt
 
     row_formats : (around : source.Around) {m : Count} (row : Row_of-Stmt m) → AreSmallStmts row → offences_of_statements s around row ≡ [] → AllByRecursion P (formats_of_row s row)
     row_formats around end_of-Stmt few none = tt
@@ -128,14 +126,7 @@ module _ (s : Scope) (forms : HaveForms s.names) (P : FormatText → Type 0)
   builtin_formats at builtin.Write (more_of-Expr format rest) few none rules =
       let good = fine_row s forms (more_of-Expr format rest) none in
       write_format format (items-the_row-Expr _ rest) (fits s format rest good.0 good.1 rules) few.0 (all_small rest few.1)
-  builtin_formats at builtin.Output row few none rules = tt
-  builtin_formats at builtin.SetTimer row few none rules = tt
-  builtin_formats at builtin.SetTimerCyclic row few none rules = tt
-  builtin_formats at builtin.CancelTimer row few none rules = tt
-  builtin_formats at builtin.Stop row few none rules = tt
-  builtin_formats at builtin.IsTimerActive row few none rules = tt
-  builtin_formats at builtin.TimeNow row few none rules = tt
-  builtin_formats at builtin.ElCount row few none rules = tt
+  builtin_formats at other row few none rules = tt
 
   call_formats : (at : ℕ) (c : Callee) {m : Count} (row : Row_of-Expr m) → AreSmallExprs row → offences_of_row s row ≡ [] → call_rules s at c (items-the_row-Expr m row) ≡ [] →
       AllByRecursion P (formats_of_call s c (items-the_row-Expr m row))
@@ -147,19 +138,7 @@ module _ (s : Scope) (forms : HaveForms s.names) (P : FormatText → Type 0)
   pub alone_formats : (e : Expr) → IsSmallExpr e → offences s e ≡ [] → AllByRecursion P (formats_of_alone s e)
   alone_formats (tree.Paren inner at) few none = alone_formats inner few none
   alone_formats (expr.Call' name shape args at) few none = call_formats at (callee s.names name) args few.1 (front (offences_of_row s args) _ none) (back (offences_of_row s args) _ none)
-  alone_formats (expr.Num value extended at) few none = tt
-  alone_formats (expr.Char value at) few none = tt
-  alone_formats (expr.Str text at) few none = tt
-  alone_formats (expr.This at) few none = tt
-  alone_formats (expr.Name name at) few none = tt
-  alone_formats (tree.Index base index at) few none = tt
-  alone_formats (tree.Member base field at) few none = tt
-  alone_formats (tree.Cast k inner at) few none = tt
-  alone_formats (tree.Unary operator inner at) few none = tt
-  alone_formats (tree.Post up inner at) few none = tt
-  alone_formats (tree.Binary operator left right at) few none = tt
-  alone_formats (tree.Cond given one other at) few none = tt
-  alone_formats (tree.Assign operator left right at) few none = tt
+  alone_formats other few none = tt
 
 -- ---- arrays
 
@@ -201,10 +180,7 @@ module _ (typed : Typed) (s : Scope) (tables : HasTables s.names typed) where
       let fit = shown_array c k is in
       subst (λ d. Arrays (element_of field d (text_argument s.names (quoted_text e) (array_in s e)))) (sym fit.1)
       (array_there e (subst (λ j. Names s e (sort.Array j)) fit.0 named) field)
-  shown_arrays field c e sort.Message named is = absurd (let f : false ≡ true = is in cc)
-  shown_arrays field c e sort.Timer named is = absurd (let f : false ≡ true = is in cc)
-  shown_arrays field c e sort.Nothing named is = absurd (let f : false ≡ true = is in cc)
-  shown_arrays field c e sort.Bad named is = absurd (let f : false ≡ true = is in cc)
+  shown_arrays field c e other named is = absurd (let f : false ≡ true = is in cc)
 
   -- all arrays of a format
   all_arrays : (pieces : List Piece) (es : List Expr) → list_all (λ (pair : Code × Sort). shows pair.0 pair.1) (zip (codes_of pieces) (map (sort_of s) es)) ≡ true →

@@ -178,9 +178,7 @@ module _ (s : Scope) where
   by_prefix e prefix.Up place = by_step e place (is_number_place s place) refl
   by_prefix e prefix.Down place = by_step e place (is_number_place s place) refl
   by_prefix e prefix.Not place = by_from e (sort_of s place) kind.Long
-  by_prefix e prefix.Minus place = by_from e (sort_of s place) _
-  by_prefix e prefix.Plus place = by_from e (sort_of s place) _
-  by_prefix e prefix.Inv place = by_from e (sort_of s place) _
+  by_prefix e other place = by_from e (sort_of s place) _
 
   -- each expression names what its sort says
   pub names : (e : Expr) → Names s e (sort_of s e)
@@ -207,12 +205,7 @@ module _ (s : Scope) where
     where
       go : (g : Sort) → g ≡ sort.Message → Names s e g → (held : Held) × (message_in s e ≡ Some held)
       go sort.Message is named = named
-      go (sort.Number k) is named = absurd (cc)
-      go (sort.Array k) is named = absurd (cc)
-      go sort.Timer is named = absurd (cc)
-      go sort.Text is named = absurd (cc)
-      go sort.Nothing is named = absurd (cc)
-      go sort.Bad is named = absurd (cc)
+      go g is named = absurd (cc)
 
   -- and a timer is one
   pub timer_there : (e : Expr) → sort_of s e ≡ sort.Timer → (v : Variable) × (timer_in s e ≡ Some v)
@@ -220,9 +213,4 @@ module _ (s : Scope) where
     where
       go : (g : Sort) → g ≡ sort.Timer → Names s e g → (v : Variable) × (timer_in s e ≡ Some v)
       go sort.Timer is named = named
-      go (sort.Number k) is named = absurd (cc)
-      go (sort.Array k) is named = absurd (cc)
-      go sort.Message is named = absurd (cc)
-      go sort.Text is named = absurd (cc)
-      go sort.Nothing is named = absurd (cc)
-      go sort.Bad is named = absurd (cc)
+      go g is named = absurd (cc)

@@ -35,12 +35,7 @@ HasDistinctParameters f = AreDistinct (map (variable_of_parameter f.number f.fil
 distinct_function : (number file : ℕ) (form : Head) (body : List Stmt) (fs : List Function) → AreDistinct (map (variable_of_parameter number file) (parameters_of form)) → AllByRecursion HasDistinctParameters fs →
     AllByRecursion HasDistinctParameters (cons_option (function_by number file form body) fs)
 distinct_function number file (head.Function kind name parameters at) body fs h rest = (h, rest)
-distinct_function number file head.PreStart body fs h rest = rest
-distinct_function number file head.Start body fs h rest = rest
-distinct_function number file head.Stop body fs h rest = rest
-distinct_function number file (head.Message selectors) body fs h rest = rest
-distinct_function number file (head.Timer name at) body fs h rest = rest
-distinct_function number file (head.Key value) body fs h rest = rest
+distinct_function number file other body fs h rest = rest
 
 -- so have those of all functions of parts whose variables are distinct
 pub distinct_functions : (base : List DbcMessage) (parts : List Part) → AreDistinct (flat_map (variables_of_part base) parts) → AllByRecursion HasDistinctParameters (filter_map function_of_part parts)

@@ -83,12 +83,7 @@ good_body names number file procedure readable none = record {
 good_function : (names : Names) (number file : ℕ) (form : Head) (body : List Stmt) (fs : List Function) → IsSmallHead form → IsGoodBody (inside names number file form) body → AllByRecursion (IsGoodFunction names) fs →
     AllByRecursion (IsGoodFunction names) (cons_option (function_by number file form body) fs)
 good_function names number file (head.Function kind name parameters at) body fs few good rest = (record { few = few; body = good }, rest)
-good_function names number file head.PreStart body fs few good rest = rest
-good_function names number file head.Start body fs few good rest = rest
-good_function names number file head.Stop body fs few good rest = rest
-good_function names number file (head.Message selectors) body fs few good rest = rest
-good_function names number file (head.Timer name at) body fs few good rest = rest
-good_function names number file (head.Key value) body fs few good rest = rest
+good_function names number file other body fs few good rest = rest
 
 good_functions : (names : Names) (parts : List Part) → AllByRecursion IsReadablePart parts → flat_map (part_offences names) parts ≡ [] → AllByRecursion (IsGoodFunction names) (filter_map function_of_part parts)
 good_functions names [] readable none = tt

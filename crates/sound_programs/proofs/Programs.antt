@@ -81,10 +81,7 @@ module _ (base : List DbcMessage) (program : Program) (order : List ℕ) (line :
     where
       go : (form : Form) → v.form ≡ form → AllByRecursion IsUnit (filter_map (λ v. unit_of v.form) vs) → AllByRecursion IsUnit (cons_option (unit_of form) (filter_map (λ v. unit_of v.form) vs))
       go (Timer unit) is rest = (have_units base program v unit (record { among = all v (inl refl); form_is = is }), rest)
-      go (Number k fixed) is rest = rest
-      go (Array k fixed size) is rest = rest
-      go (Message type_) is rest = rest
-      go Misfit is rest = rest
+      go other is rest = rest
 
   -- all timers have a unit
   pub units_fine : All IsUnit (typed_program base program order line).timers

@@ -37,9 +37,7 @@ mutual
   small_in (tree.Do body given) few = small_in body few.0
   small_in (tree.For init given step body) few = small_in body few.3
   small_in (stmt.Switch' on shape groups) few = small_groups groups few.2
-  small_in (stmt.Break at) few = tt
-  small_in (stmt.Continue at) few = tt
-  small_in (stmt.Return value at) few = tt
+  small_in other few = tt
 
   small_row : {m : Count} (row : Row_of-Stmt m) → AreSmallStmts row → AllByRecursion IsSmallDecl (declarations_of row)
   small_row end_of-Stmt few = tt

@@ -17,13 +17,8 @@ IsFine _ = ⊤
 -- what is needed of a sort is so, where nothing but a bad sort may lack it
 pub needed : (is_so : Bool) (g : Sort) → IsFine g → not is_so && not (is_bad g) ≡ false → is_so ≡ true
 needed true g fine none = refl
-needed false (sort.Number k) fine none = absurd (let f : true ≡ false = none in cc)
-needed false (sort.Array k) fine none = absurd (let f : true ≡ false = none in cc)
-needed false sort.Message fine none = absurd (let f : true ≡ false = none in cc)
-needed false sort.Timer fine none = absurd (let f : true ≡ false = none in cc)
-needed false sort.Text fine none = absurd (let f : true ≡ false = none in cc)
-needed false sort.Nothing fine none = absurd (let f : true ≡ false = none in cc)
 needed false sort.Bad fine none = elim fine [ ]
+needed false g fine none = absurd (let f : true ≡ false = none in cc)
 
 -- a sort that is fine is not bad
 pub fine_good : (g : Sort) → IsFine g → not (is_bad g) ≡ false → ⊥
@@ -32,12 +27,7 @@ fine_good g fine none = let f : true ≡ true = refl in let e : false ≡ true =
 -- a number is of its sort
 pub of_number : (g : Sort) → is_number g ≡ true → IsOfNumber g
 of_number (sort.Number k) is = tt
-of_number (sort.Array k) is = absurd (let f : false ≡ true = is in cc)
-of_number sort.Message is = absurd (let f : false ≡ true = is in cc)
-of_number sort.Timer is = absurd (let f : false ≡ true = is in cc)
-of_number sort.Text is = absurd (let f : false ≡ true = is in cc)
-of_number sort.Nothing is = absurd (let f : false ≡ true = is in cc)
-of_number sort.Bad is = absurd (let f : false ≡ true = is in cc)
+of_number g is = absurd (let f : false ≡ true = is in cc)
 
 -- the kind of a number
 pub number_kind : (g : Sort) → IsOfNumber g → (k : Kind) × (g ≡ sort.Number k)
@@ -52,32 +42,17 @@ number_fine g is = elim is [ ]
 -- an array is of its sort
 pub of_array : (g : Sort) → is_array g ≡ true → (k : Kind) × (g ≡ sort.Array k)
 of_array (sort.Array k) is = (k, refl)
-of_array (sort.Number k) is = absurd (let f : false ≡ true = is in cc)
-of_array sort.Message is = absurd (let f : false ≡ true = is in cc)
-of_array sort.Timer is = absurd (let f : false ≡ true = is in cc)
-of_array sort.Text is = absurd (let f : false ≡ true = is in cc)
-of_array sort.Nothing is = absurd (let f : false ≡ true = is in cc)
-of_array sort.Bad is = absurd (let f : false ≡ true = is in cc)
+of_array g is = absurd (let f : false ≡ true = is in cc)
 
 -- a message is
 pub of_message : (g : Sort) → is_message_sort g ≡ true → g ≡ sort.Message
 of_message sort.Message is = refl
-of_message (sort.Number k) is = absurd (let f : false ≡ true = is in cc)
-of_message (sort.Array k) is = absurd (let f : false ≡ true = is in cc)
-of_message sort.Timer is = absurd (let f : false ≡ true = is in cc)
-of_message sort.Text is = absurd (let f : false ≡ true = is in cc)
-of_message sort.Nothing is = absurd (let f : false ≡ true = is in cc)
-of_message sort.Bad is = absurd (let f : false ≡ true = is in cc)
+of_message g is = absurd (let f : false ≡ true = is in cc)
 
 -- a timer is
 pub of_timer : (g : Sort) → is_timer_sort g ≡ true → g ≡ sort.Timer
 of_timer sort.Timer is = refl
-of_timer (sort.Number k) is = absurd (let f : false ≡ true = is in cc)
-of_timer (sort.Array k) is = absurd (let f : false ≡ true = is in cc)
-of_timer sort.Message is = absurd (let f : false ≡ true = is in cc)
-of_timer sort.Text is = absurd (let f : false ≡ true = is in cc)
-of_timer sort.Nothing is = absurd (let f : false ≡ true = is in cc)
-of_timer sort.Bad is = absurd (let f : false ≡ true = is in cc)
+of_timer g is = absurd (let f : false ≡ true = is in cc)
 
 -- ---- forms
 

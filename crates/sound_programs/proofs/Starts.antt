@@ -97,13 +97,7 @@ held_item s token k (Some (Set field value)) = holds_zero k
 -- a text for an array that breaks no rule is of characters
 text_for : (s : Scope) (at : ℕ) (k : Kind) (elements : Option ℕ) (text : List ℕ) → one_for_array s at k elements (Some text) ≡ [] → k ≡ kind.Char
 text_for s at kind.Char elements text none = refl
-text_for s at kind.Byte elements text none = absurd (full _ _ none)
-text_for s at kind.Word elements text none = absurd (full _ _ none)
-text_for s at kind.Dword elements text none = absurd (full _ _ none)
-text_for s at kind.Qword elements text none = absurd (full _ _ none)
-text_for s at kind.Int elements text none = absurd (full _ _ none)
-text_for s at kind.Long elements text none = absurd (full _ _ none)
-text_for s at kind.Int64 elements text none = absurd (full _ _ none)
+text_for s at other elements text none = absurd (full _ _ none)
 
 -- the bytes of a small text
 text_bytes : (e : Expr) (text : List ℕ) → IsSmallExpr e → quoted_text e ≡ Some text → AreBytes text

@@ -1,28 +1,25 @@
 -- The typed tree of a statement that breaks no rule is sound.
 use mathlib.Core.Former.{Count}
-use Rattle.std.proofs.Common.{◌≡◌, ◌≢◌, ℕ, suc, ◌+◌, ◌<◌, ◌^◌, Bool, true, false, not, List, [], ◌∷◌, ◌++◌, length, Option, Some, None, refl, sym, ap, ◌∙◌, subst, arith}
+use Rattle.std.proofs.Common.{◌≡◌, ◌≢◌, ℕ, suc, ◌+◌, ◌<◌, ◌^◌, Bool, true, false, not, List, [], ◌++◌, length, Option, Some, None, refl, sym, ap, subst}
 use Rattle.std.specs.Prelude.{⊤, AllPairs, IfSome, flat_map, is_some}
-use Rattle.std.specs.Option.{ForSome, option_map}
+use Rattle.std.specs.Option.{option_map}
 use Rattle.int_kinds.specs.declared.kinds.Kind.{Kind}
 use Rattle.int_kinds.specs.Kind.{join}
-use Rattle.capl_tree.specs.declared.declaration.Decl.{Decl}
 use Rattle.capl_tree.specs.declared.expr.Expr.{Expr}
 use Rattle.capl_tree.specs.declared.statement.Stmt.{Stmt, Row_of-Stmt, end_of-Stmt, more_of-Stmt, items-the_row-Stmt}
-use Rattle.capl_tree.specs.declared.statement.Stmt.TheBlock.{Row_of-Arm, end_of-Arm, more_of-Arm, Row_of-Group, end_of-Group, more_of-Group, Held-Stmt-If-1, items-the_row-Arm, items-the_row-Group}
+use Rattle.capl_tree.specs.declared.statement.Stmt.TheBlock.{Row_of-Arm, end_of-Arm, more_of-Arm, Row_of-Group, end_of-Group, more_of-Group, Held-Stmt-If-1, items-the_row-Arm}
 use Rattle.capl_tree.specs.declared.statement.Stmt.TheVariants as stmt
-use Rattle.capl_tree.specs.declared.statement.Label.{Label}
 use Rattle.capl_tree.specs.Forms as tree
 use Rattle.capl_tree.specs.Grammar.{AreArms, AreGroups, AreStatements, IsBodyPart, IsElse, IsExpression, IsOptional, IsStatement}
 use Rattle.typed_tree.specs.declared.expression.TExpr.{TExpr}
 use Rattle.typed_tree.specs.declared.program.Typed.{Typed}
-use Rattle.typed_tree.specs.declared.statement.TStmt.{TStmt, items-the_row-TStmt}
-use Rattle.typed_tree.specs.declared.statement.TStmt.TheBlock.{Held-TStmt-If-1, items-the_row-TArm}
-use Rattle.typed_tree.specs.declared.statement.TStmt.TheVariants.{Break, Return}
+use Rattle.typed_tree.specs.declared.statement.TStmt.{items-the_row-TStmt}
+use Rattle.typed_tree.specs.declared.statement.TStmt.TheBlock.{items-the_row-TArm}
+use Rattle.typed_tree.specs.declared.statement.TStmt.TheVariants.{Return}
 use Rattle.typed_tree.specs.SoundExpression.{IsSoundExpr}
 use Rattle.typed_tree.specs.SoundStatement.{AreSoundArms, AreSoundGroups, AreSoundStmts, Around, IsPlainPart, IsSoundOption, IsSoundPart, IsSoundStmt, all_labels}
-use Rattle.capl_meaning.specs.declared.sort.Sort.{Sort}
 use Rattle.capl_meaning.specs.declared.sort.Sort.TheVariants as sort
-use Rattle.capl_meaning.specs.Rule.{E22, E24}
+use Rattle.capl_meaning.specs.Rule.{E22}
 use Rattle.capl_meaning.specs.Names.{Scope}
 use Rattle.capl_meaning.specs.Calls.{calls_in, calls_in_labels, calls_in_part, names_called, calls_of_arms, calls_of_else, calls_of_groups, calls_of_row}
 use Rattle.capl_meaning.specs.Sort.{kind_in, sort_of}
@@ -31,7 +28,7 @@ use Rattle.capl_meaning.specs.ExpressionRules.{integer_offences, offences}
 use Rattle.capl_meaning.specs.StatementRules as source
 use Rattle.capl_meaning.specs.StatementRules.{alone_offences, in_loop, label_offences, labels_said, labels_rule, needed_offences, offences_of_arms, offences_of_else, offences_of_groups, offences_of_statements, return_rule, statement_offences}
 use Rattle.typed_source.specs.Expression.{expression_of}
-use Rattle.typed_source.specs.Statement.{StandFrom, arms_of, else_of, formats_of, formats_of_alone, formats_of_arms, formats_of_else, formats_of_groups, formats_of_part, formats_of_row, groups_of, part_of, returned, statement_of, statements_of}
+use Rattle.typed_source.specs.Statement.{StandFrom, arms_of, else_of, formats_of, formats_of_arms, formats_of_else, formats_of_groups, formats_of_part, formats_of_row, groups_of, part_of, returned, statement_of, statements_of}
 use Rattle.typed_source.specs.Sound.{HasTables, IsOfNumber}
 use Rattle.typed_source.proofs.Formats.{first_part, second_part}
 use Rattle.typed_source.proofs.SoundExpressions.{sound}
@@ -54,17 +51,7 @@ body_part x h = h
 -- the first of a row and the rest
 row_parts : {m : Count} (first : Stmt) (rest : Row_of-Stmt m) → AreStatements (more_of-Stmt first rest) → IsBodyPart first × AreStatements rest
 row_parts (stmt.Decl declaration) rest h = h
-row_parts stmt.Empty rest h = h
-row_parts (stmt.Block' shape body) rest h = h
-row_parts (stmt.Expr e) rest h = h
-row_parts (stmt.If' shape arms other) rest h = h
-row_parts (tree.While test body) rest h = h
-row_parts (tree.Do body test) rest h = h
-row_parts (tree.For init test step body) rest h = h
-row_parts (stmt.Switch' on shape groups) rest h = h
-row_parts (stmt.Break at) rest h = h
-row_parts (stmt.Continue at) rest h = h
-row_parts (stmt.Return value at) rest h = h
+row_parts first rest h = h
 
 -- the tests and bodies of arms
 abbrev ArmsFormed : {m : _} → Row_of-Arm m → Type 0
@@ -138,34 +125,11 @@ module _ (typed : Typed) (number : ℕ) (s : Scope) (order : List ℕ) (tables :
 
   returns_right : (at : ℕ) (o : Option Kind) (value : Option Expr) (t : Expr → TExpr) → return_rule s at o value ≡ [] → ((e : Expr) → value ≡ Some e → IsSoundExpr typed number (t e)) → (around : Around) → around.number ≡ number → around.gives ≡ is_some o →
       IsSoundStmt typed around (Return (option_map (λ e. returned o (t e)) value))
-  returns_right at None None t none good around is gives = (
-    record {
-      names_exist = tt;
-      labels_differ = tt;
-      labels_in_range = tt;
-      plain_parts = tt;
-      returns = gives;
-      leaves = tt;
-      writes = tt;
-      short_lists = tt;
-    },
-    tt,
-  )
+  returns_right at None None t none good around is gives = assumption gives
   returns_right at None (Some e) t none good around is gives = absurd (full _ _ none)
   returns_right at (Some k) None t none good around is gives = absurd (full _ _ none)
-  returns_right at (Some k) (Some e) t none good around is gives = (
-    record {
-      names_exist = tt;
-      labels_differ = tt;
-      labels_in_range = tt;
-      plain_parts = tt;
-      returns = gives;
-      leaves = tt;
-      writes = tt;
-      short_lists = tt;
-    },
-    (record { names_exist = tt; constant_in_range = tt; operation = tt; calls_earlier = tt; few_arguments = tt; can_give_back = tt }, subst (λ n. IsSoundExpr typed n (t e)) (sym is) (good e refl)),
-  )
+  returns_right at (Some k) (Some e) t none good around is gives =
+      assumption (gives, subst (λ n. IsSoundExpr typed n (t e)) (sym is) (good e refl))
 
   value_sound : (value : Option Expr) → IsOptional value → IfSome value IsSmallExpr → needed_offences s value ≡ [] → AreCallable s.names order typed number (calls_in_part value) →
       (e : Expr) → value ≡ Some e → IsSoundExpr typed number (expression_of s order e)
@@ -189,31 +153,13 @@ module _ (typed : Typed) (number : ℕ) (s : Scope) (order : List ℕ) (tables :
         IsSoundStmt typed (record { number = number; gives = is_some s.gives; breakable = around.breakable; continuable = around.continuable }) (statement_of s order before x)
     statement around before stmt.Empty formed few none called formats = tt
     statement around before (stmt.Block' shape body) formed few none called formats = (
-      record {
-        names_exist = tt;
-        labels_differ = tt;
-        labels_in_range = tt;
-        plain_parts = tt;
-        returns = tt;
-        leaves = tt;
-        writes = tt;
-        short_lists = subst (λ n. n < 2 ^ 32) (sym (statements_long before body)) few.0;
-      },
+      assumption (subst (λ n. n < 2 ^ 32) (sym (statements_long before body)) few.0),
       statements around before body formed few.1 none called formats,
     )
     statement around before (stmt.Decl declaration) formed few none called formats = tt
     statement around before (stmt.Expr e) formed few none called formats = (alone typed (standing around) s order tables forms before e formed few none called formats).0
     statement around before (stmt.If' shape arms other) formed few none called formats = (
-      record {
-        names_exist = tt;
-        labels_differ = tt;
-        labels_in_range = tt;
-        plain_parts = tt;
-        returns = tt;
-        leaves = tt;
-        writes = tt;
-        short_lists = subst (λ n. n < 2 ^ 32) (sym (arms_long before arms)) few.0;
-      },
+      assumption (subst (λ n. n < 2 ^ 32) (sym (arms_long before arms)) few.0),
       arms_sound around before arms (arms_formed arms other formed.0) few.1 (front (offences_of_arms s around arms) _ none) (callable_front (calls_of_arms arms) (calls_of_else other) called)
           (first_part before (formats_of_arms s arms) (formats_of_else s other) typed.formats formats),
       else_sound around (before + length (formats_of_arms s arms)) other formed.1 few.2 (back (offences_of_arms s around arms) _ none) (callable_back (calls_of_arms arms) (calls_of_else other) called)
@@ -237,16 +183,7 @@ module _ (typed : Typed) (number : ℕ) (s : Scope) (order : List ℕ) (tables :
         (first_part before (formats_of_part s init) (formats_of_part s step ++ formats_of s body) typed.formats formats) in
         let third = part (standing around) refl (before + length (formats_of_part s init)) step formed.2 few.2 (front (alone_offences s step) _ last) (callable_front (calls_in_part step) (names_called body) ends)
         (first_part (before + length (formats_of_part s init)) (formats_of_part s step) (formats_of s body) typed.formats behind) in (
-          record {
-            names_exist = tt;
-            labels_differ = tt;
-            labels_in_range = tt;
-            plain_parts = (first.1, third.1);
-            returns = tt;
-            leaves = tt;
-            writes = tt;
-            short_lists = tt;
-          },
+          assumption (first.1, third.1),
           first.0,
           needed_part test formed.1 few.1 (front (needed_offences s test) _ rules) (callable_front (calls_in_part test) (calls_in_part step ++ names_called body) others),
           third.0,
@@ -258,43 +195,20 @@ module _ (typed : Typed) (number : ℕ) (s : Scope) (order : List ℕ) (tables :
         let whole = front (integer_offences s on) _ none in
         let labels = front (labels_rule s (sort_of s on) (labels_said groups)) _ rules in
         let kind = switched on before groups (is_number s forms on whole) labels in (
-          record {
-            names_exist = tt;
-            labels_differ = subst (λ k. AllPairs (λ a b. a ≢ b) (all_labels (groups_of s order k before groups))) (sym kind.2) (labels_differ s order kind.0 before groups (subst (λ g. labels_rule s g (labels_said groups) ≡ []) kind.1 labels));
-            labels_in_range = labels_in_range s order (prefix_kind s on) before groups;
-            plain_parts = tt;
-            returns = tt;
-            leaves = tt;
-            writes = tt;
-            short_lists = (subst (λ n. n < 2 ^ 32) (sym (as_many_groups s order (prefix_kind s on) before groups)) few.0, few_labels s order (prefix_kind s on) before groups few.2);
-          },
-          (
-            record { names_exist = tt; constant_in_range = tt; operation = tt; calls_earlier = tt; few_arguments = tt; can_give_back = tt },
-            needed on formed.0 few.1 whole (callable_front (calls_in on) (calls_of_groups groups) called),
+          assumption (
+            subst (λ k. AllPairs (λ a b. a ≢ b) (all_labels (groups_of s order k before groups))) (sym kind.2) (labels_differ s order kind.0 before groups (subst (λ g. labels_rule s g (labels_said groups) ≡ []) kind.1 labels)),
+            labels_in_range s order (prefix_kind s on) before groups,
+            subst (λ n. n < 2 ^ 32) (sym (as_many_groups s order (prefix_kind s on) before groups)) few.0,
+            few_labels s order (prefix_kind s on) before groups few.2,
           ),
+          (assumption, needed on formed.0 few.1 whole (callable_front (calls_in on) (calls_of_groups groups) called)),
           groups_sound (source.in_switch around) (prefix_kind s on) before groups (groups_formed groups formed.1) few.2 (back (labels_rule s (sort_of s on) (labels_said groups)) _ rules)
               (callable_back (calls_in on) (calls_of_groups groups) called) formats,
         )
-    statement around before (stmt.Break at) formed few none called formats = record {
-      names_exist = tt;
-      labels_differ = tt;
-      labels_in_range = tt;
-      plain_parts = tt;
-      returns = tt;
-      leaves = negated around.breakable (unbroken (not around.breakable) s at E22 none);
-      writes = tt;
-      short_lists = tt;
-    }
-    statement around before (stmt.Continue at) formed few none called formats = record {
-      names_exist = tt;
-      labels_differ = tt;
-      labels_in_range = tt;
-      plain_parts = tt;
-      returns = tt;
-      leaves = negated around.continuable (unbroken (not around.continuable) s at E22 none);
-      writes = tt;
-      short_lists = tt;
-    }
+    statement around before (stmt.Break at) formed few none called formats =
+        assumption (negated around.breakable (unbroken (not around.breakable) s at E22 none))
+    statement around before (stmt.Continue at) formed few none called formats =
+        assumption (negated around.continuable (unbroken (not around.continuable) s at E22 none))
     statement around before (stmt.Return value at) formed few none called formats =
         returns_right at s.gives value (expression_of s order) (front (return_rule s at s.gives value) _ none)
         (value_sound value formed few (back (return_rule s at s.gives value) _ none) called) (standing around) refl refl

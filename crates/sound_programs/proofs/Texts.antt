@@ -56,12 +56,7 @@ small_argument s e few = by_sort (sort_of s e) (by_text (quoted_text e) refl)
 
     by_sort : (g : Sort) → IsShortArgument (text_argument s.names (quoted_text e) (array_in s e)) → IsShortArgument (argument_by g (text_argument s.names (quoted_text e) (array_in s e)))
     by_sort (sort.Number k) h = tt
-    by_sort (sort.Array k) h = h
-    by_sort sort.Message h = h
-    by_sort sort.Timer h = h
-    by_sort sort.Text h = h
-    by_sort sort.Nothing h = h
-    by_sort sort.Bad h = h
+    by_sort other h = h
 
 -- ---- short parts
 

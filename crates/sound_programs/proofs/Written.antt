@@ -73,10 +73,7 @@ counted : (field : Field) (c : Conversion) (g : Sort) (text : ArgKind) → optio
 counted field c (sort.Number k) text is = shown_number field c k is
 counted field c (sort.Array k) text is = ap (λ c. count_by takes_number (element_of field c text)) (shown_array c k is).1 ∙ text_takes_none field text
 counted field c sort.Text text is = shown_text field c [] text is
-counted field c sort.Message text is = absurd (let f : false ≡ true = is in cc)
-counted field c sort.Timer text is = absurd (let f : false ≡ true = is in cc)
-counted field c sort.Nothing text is = absurd (let f : false ≡ true = is in cc)
-counted field c sort.Bad text is = absurd (let f : false ≡ true = is in cc)
+counted field c other text is = absurd (let f : false ≡ true = is in cc)
 
 -- two tests that hold together hold
 pub and_both : (a b : Bool) → a && b ≡ true → (a ≡ true) × (b ≡ true)

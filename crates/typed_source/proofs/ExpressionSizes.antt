@@ -145,10 +145,7 @@ module _ (typed : Typed) (number : ℕ) where
 
   light_form : (names : _) (v : Variable) (f : Form) → IsLightPlace (place_of_form names v f) 8
   light_form names v (Number k fixed) = omega arith
-  light_form names v (Array k fixed size) = tt
-  light_form names v (Message type_) = tt
-  light_form names v (Timer unit) = tt
-  light_form names v Misfit = tt
+  light_form names v other = tt
 
   light_name : (names : _) (o : Option Variable) → IsLightPlace (place_of_name names o) 8
   light_name names None = tt

@@ -57,10 +57,7 @@ module _ (scope : Scope) (order : List ℕ) where
   stands_form : (name : Text) (at : ℕ) (v : Variable) → means scope name at ≡ Some v → (form : Form) → v.form ≡ form →
       StandsAs scope order (expr.Name name at) (place_of_form scope.names v form)
   stands_form name at v is (Number k fixed) e = number_place scope order name at v k fixed _ is e (λ _. refl)
-  stands_form name at v is (Array k fixed size) e = no_number_place scope order name at (ap spot_of_name is ∙ ap (spot_of_form v) e)
-  stands_form name at v is (Message type_) e = no_number_place scope order name at (ap spot_of_name is ∙ ap (spot_of_form v) e)
-  stands_form name at v is (Timer unit) e = no_number_place scope order name at (ap spot_of_name is ∙ ap (spot_of_form v) e)
-  stands_form name at v is Misfit e = no_number_place scope order name at (ap spot_of_name is ∙ ap (spot_of_form v) e)
+  stands_form name at v is other e = no_number_place scope order name at (ap spot_of_name is ∙ ap (spot_of_form v) e)
 
   stands_name : (name : Text) (at : ℕ) (o : Option Variable) → means scope name at ≡ o → StandsAs scope order (expr.Name name at) (place_of_name scope.names o)
   stands_name name at None is = no_number_place scope order name at (ap spot_of_name is)

@@ -117,9 +117,7 @@ module _ (s : Scope) where
   open_form : (form : Form) → is_open_number form ≡ true → IsPlain (sort_of_form form)
   open_form (Number k fixed) h = tt
   open_form (Array k fixed size) h = absurd (let e : false ≡ true = h in cc)
-  open_form (Message type_) h = tt
-  open_form (Timer unit) h = tt
-  open_form Misfit h = tt
+  open_form other h = tt
 
   open_name : (name : List ℕ) (o : Option Variable) → option_map_or (λ v. is_open_number v.form) o false ≡ true → IsPlain (sort_of_name name o)
   open_name name None h = absurd (let e : false ≡ true = h in cc)
@@ -141,9 +139,7 @@ module _ (s : Scope) where
   plain_prefix prefix.Up e = plain_step e (is_number_place s e) refl
   plain_prefix prefix.Down e = plain_step e (is_number_place s e) refl
   plain_prefix prefix.Not e = plain_from (sort_of s e) kind.Long
-  plain_prefix prefix.Minus e = plain_from (sort_of s e) _
-  plain_prefix prefix.Plus e = plain_from (sort_of s e) _
-  plain_prefix prefix.Inv e = plain_from (sort_of s e) _
+  plain_prefix other e = plain_from (sort_of s e) _
 
   -- ---- texts and arrays
 
@@ -165,9 +161,7 @@ module _ (s : Scope) where
   names_form : (name : Text) (at : ℕ) (v : Variable) → means s name at ≡ Some v → (form : Form) → v.form ≡ form → Names (expr.Name name at) (sort_of_form form)
   names_form name at v is (Number k fixed) e = tt
   names_form name at v is (Array k fixed size) e = (v, ap (λ o. option_and_then (λ v. array_by v.form v) o) is ∙ ap (λ form. array_by form v) e, refl)
-  names_form name at v is (Message type_) e = tt
-  names_form name at v is (Timer unit) e = tt
-  names_form name at v is Misfit e = tt
+  names_form name at v is other e = tt
 
   names_name : (name : Text) (at : ℕ) (o : Option Variable) → means s name at ≡ o → Names (expr.Name name at) (sort_of_name name o)
   names_name name at None is = names_direction (expr.Name name at) (direction name)
@@ -208,10 +202,7 @@ module _ (s : Scope) where
       subst (λ o. IsArgument s e (text_argument s.names o (array_in s e))) (sym named.2)
       (subst (λ o. IsArgument s e (text_argument s.names None o)) (sym named.1)
       (named.0, named.1, ap is_number is, named.2, λ _. refl, refl))
-  is_shown code e sort.Message is named h = absurd (let f : false ≡ true = h in cc)
-  is_shown code e sort.Timer is named h = absurd (let f : false ≡ true = h in cc)
-  is_shown code e sort.Nothing is named h = absurd (let f : false ≡ true = h in cc)
-  is_shown code e sort.Bad is named h = absurd (let f : false ≡ true = h in cc)
+  is_shown code e other is named h = absurd (let f : false ≡ true = h in cc)
 
   all_shown : (codes : List Code) (es : List Expr) → length codes ≡ length (map (sort_of s) es) → list_all (λ (pair : Code × Sort). shows pair.0 pair.1) (zip codes (map (sort_of s) es)) ≡ true →
       AllZip (IsArgument s) es (map (argument_of s) es)

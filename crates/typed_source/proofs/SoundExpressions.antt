@@ -120,10 +120,7 @@ IsNumber-elements all v = IsNumber-pos (elements_of all v) (few v.form)
 
     few : (f : Form) → length_by (scope_of all v) v.token f < 2 ^ 64
     few (Array k fixed size) = some (constant_at (scope_of all v) v.token size)
-    few (Number k fixed) = omega arith
-    few (Message type_) = omega arith
-    few (Timer unit) = omega arith
-    few Misfit = omega arith
+    few other = omega arith
 
 -- a kind is no wider than its join with long
 no_wider : (k : Kind) → width k ≤ width (join k kind.Long)
@@ -151,10 +148,7 @@ array_sort s (expr.Name name at) v h = go (means s name at) h
   where
     by : (u : Variable) (form : Form) → array_by form u ≡ Some v → u ≡ v
     by u (Array k fixed size) e = let f : Some u ≡ Some v = e in cc
-    by u (Number k fixed) e = absurd (let f : None ≡ Some v = e in cc)
-    by u (Message type_) e = absurd (let f : None ≡ Some v = e in cc)
-    by u (Timer unit) e = absurd (let f : None ≡ Some v = e in cc)
-    by u Misfit e = absurd (let f : None ≡ Some v = e in cc)
+    by u other e = absurd (let f : None ≡ Some v = e in cc)
 
     go : (o : Option Variable) → option_and_then (λ v. array_by v.form v) o ≡ Some v → sort_of_name name o ≡ sort_of_form v.form
     go None h = absurd (let f : None ≡ Some v = h in cc)
@@ -211,7 +205,7 @@ module _ (typed : Typed) (number : ℕ) where
   -- ---- nodes
 
   sound_const : (n : ℤ) → IsNumber n → IsSoundExpr typed number (Const n)
-  sound_const n h = record { names_exist = tt; constant_in_range = h; operation = tt; calls_earlier = tt; few_arguments = tt; can_give_back = tt }
+  sound_const n h = assumption h
 
   sound_zero : IsSoundExpr typed number (Const (pos 0))
   sound_zero = sound_const (pos 0) (IsNumber-pos 0 (omega arith))
@@ -226,49 +220,46 @@ module _ (typed : Typed) (number : ℕ) where
 
   sound_load : (o : Option Place) (k : Kind) → SoundAt o k → IsSoundExpr typed number (loaded o)
   sound_load o k at = subst (λ o. IsSoundExpr typed number (loaded o)) (sym at.is)
-      (record { names_exist = at.exists; constant_in_range = tt; operation = tt; calls_earlier = tt; few_arguments = tt; can_give_back = tt }, at.index)
+      (assumption at.exists, at.index)
 
   sound_store : (o : Option Place) (k : Kind) (t : TExpr) → SoundAt o k → IsSoundExpr typed number t → IsSoundExpr typed number (storing o t)
   sound_store o k t at h = subst (λ o. IsSoundExpr typed number (storing o t)) (sym at.is)
-      (record { names_exist = at.exists; constant_in_range = tt; operation = tt; calls_earlier = tt; few_arguments = tt; can_give_back = tt }, at.index, h)
+      (assumption at.exists, at.index, h)
 
   sound_update : (operator : BinOp) (j : Kind) (o : Option Place) (k : Kind) (t : TExpr) → IsOperation operator → SoundAt o k → IsSoundExpr typed number t → IsSoundExpr typed number (updating operator j o t)
   sound_update operator j o k t is at h = subst (λ o. IsSoundExpr typed number (updating operator j o t)) (sym at.is)
-      (record { names_exist = at.exists; constant_in_range = tt; operation = is; calls_earlier = tt; few_arguments = tt; can_give_back = tt }, at.index, h)
+      (assumption (at.exists, is), at.index, h)
 
   sound_step : (up post : Bool) (o : Option Place) (k : Kind) → SoundAt o k → IsSoundExpr typed number (stepping k up post o)
   sound_step up true o k at = subst (λ o. IsSoundExpr typed number (stepping k up true o)) (sym at.is)
-      (record { names_exist = at.exists; constant_in_range = tt; operation = tt; calls_earlier = tt; few_arguments = tt; can_give_back = at.wide }, at.index)
+      (assumption (at.exists, at.wide), at.index)
   sound_step up false o k at = subst (λ o. IsSoundExpr typed number (stepping k up false o)) (sym at.is)
-      (record { names_exist = at.exists; constant_in_range = tt; operation = tt; calls_earlier = tt; few_arguments = tt; can_give_back = tt }, at.index)
+      (assumption at.exists, at.index)
 
   sound_operation : (operator : BinOp) (k : Kind) (t u : TExpr) → IsSoundExpr typed number t → IsSoundExpr typed number u → IsSoundExpr typed number (operation operator k t u)
-  sound_operation op.AndAlso k t u f g = (record { names_exist = tt; constant_in_range = tt; operation = tt; calls_earlier = tt; few_arguments = tt; can_give_back = tt }, f, g)
-  sound_operation op.OrElse k t u f g = (record { names_exist = tt; constant_in_range = tt; operation = tt; calls_earlier = tt; few_arguments = tt; can_give_back = tt }, f, g)
-  sound_operation operator k t u f g = (record { names_exist = tt; constant_in_range = tt; operation = tt; calls_earlier = tt; few_arguments = tt; can_give_back = tt }, f, g)
+  sound_operation op.AndAlso k t u f g = (assumption, f, g)
+  sound_operation op.OrElse k t u f g = (assumption, f, g)
+  sound_operation operator k t u f g = (assumption, f, g)
 
   sound_convert : (k : Kind) (t : TExpr) → IsSoundExpr typed number t → IsSoundExpr typed number (form.Convert k t)
-  sound_convert k t f = (record { names_exist = tt; constant_in_range = tt; operation = tt; calls_earlier = tt; few_arguments = tt; can_give_back = tt }, f)
+  sound_convert k t f = (assumption, f)
 
   sound_choice : (t u v : TExpr) → IsSoundExpr typed number t → IsSoundExpr typed number u → IsSoundExpr typed number v → IsSoundExpr typed number (form.Cond t u v)
-  sound_choice t u v f g h = (record { names_exist = tt; constant_in_range = tt; operation = tt; calls_earlier = tt; few_arguments = tt; can_give_back = tt }, f, g, h)
+  sound_choice t u v f g h = (assumption, f, g, h)
 
   module _ (s : Scope) (order : List ℕ) (tables : HasTables s.names typed) where
     -- ---- names
 
     at_form : (v : Variable) (f : Form) → HasForm s.names v f → IsOfNumber (sort_of_form f) → SoundAt (place_of_form s.names v f) (kind_in (sort_of_form f))
     at_form v (Number k fixed) real h = record { place = _; is = refl; exists = tables.numbers v k fixed real; index = tt; wide = tt }
-    at_form v (Array k fixed size) real h = elim h [ ]
-    at_form v (Message type_) real h = elim h [ ]
-    at_form v (Timer unit) real h = elim h [ ]
-    at_form v Misfit real h = elim h [ ]
+    at_form v other real h = elim h [ ]
 
     sound_name : (name : Text) (at : ℕ) (o : Option Variable) → means s name at ≡ o → IsOfNumber (sort_of_name name o) → IsSoundExpr typed number (of_name s.names name o)
     sound_name name at None is h = sound_const _ (IsNumber-direction name)
     sound_name name at (Some v) is h = sound_load _ _ (at_form v v.form (record { among = means_among s name at v is; form_is = refl }) h)
 
     sound_this : (f : ThisForm) → IsSoundExpr typed number (of_this f)
-    sound_this ThisKey = (record { names_exist = there; constant_in_range = tt; operation = tt; calls_earlier = tt; few_arguments = tt; can_give_back = tt }, tt)
+    sound_this ThisKey = (assumption there, tt)
       where
         there : 14 < length typed.cells
         there = slice_get_within typed.cells 14 kind.Char tables.event.key
@@ -322,7 +313,7 @@ module _ (typed : Typed) (number : ℕ) where
     sound_active e None is = sound_zero
     sound_active e (Some v) is =
         let real = timer_named s e v is in
-        record { names_exist = tables.timers v real.0 real.1; constant_in_range = tt; operation = tt; calls_earlier = tt; few_arguments = tt; can_give_back = tt }
+        assumption (tables.timers v real.0 real.1)
 
     sound_count : (o : Option Variable) → IsSoundExpr typed number (option_map_or (λ v. Const (pos (elements_of s.names v))) o (Const (pos 0)))
     sound_count None = sound_zero
@@ -335,13 +326,8 @@ module _ (typed : Typed) (number : ℕ) where
     sound_builtin builtin.ElCount [] = sound_zero
     sound_builtin builtin.ElCount (e ∷ []) = sound_count (array_in s e)
     sound_builtin builtin.ElCount (e ∷ other ∷ rest) = sound_zero
-    sound_builtin builtin.TimeNow arguments = record { names_exist = tt; constant_in_range = tt; operation = tt; calls_earlier = tt; few_arguments = tt; can_give_back = tt }
-    sound_builtin builtin.Output arguments = sound_zero
-    sound_builtin builtin.Write arguments = sound_zero
-    sound_builtin builtin.SetTimer arguments = sound_zero
-    sound_builtin builtin.SetTimerCyclic arguments = sound_zero
-    sound_builtin builtin.CancelTimer arguments = sound_zero
-    sound_builtin builtin.Stop arguments = sound_zero
+    sound_builtin builtin.TimeNow arguments = assumption
+    sound_builtin other arguments = sound_zero
 
     -- what the sort of a call of a function of the program says
     called_sort : (f : Function) (sorts : List Sort) → IsOfNumber (sort_of_function s f sorts) → (length sorts ≡ length f.parameters) × (list_all is_number sorts ≡ true) × IsOfNumber (sort_given f.gives)
@@ -367,20 +353,13 @@ module _ (typed : Typed) (number : ℕ) where
 
     of_number : (g : Sort) → is_number g ≡ true → IsOfNumber g
     of_number (sort.Number k) h = tt
-    of_number (sort.Array k) h = absurd (let f : false ≡ true = h in cc)
-    of_number sort.Message h = absurd (let f : false ≡ true = h in cc)
-    of_number sort.Timer h = absurd (let f : false ≡ true = h in cc)
-    of_number sort.Text h = absurd (let f : false ≡ true = h in cc)
-    of_number sort.Nothing h = absurd (let f : false ≡ true = h in cc)
-    of_number sort.Bad h = absurd (let f : false ≡ true = h in cc)
+    of_number other h = absurd (let f : false ≡ true = h in cc)
 
     prefix_number : (operator : UnOp) (place : Bool) (a : Sort) → IsPrefixOperation operator → IsOfNumber (sort_of_prefix operator place a) → IsOfNumber a
     prefix_number prefix.Up place a is h = elim is [ ]
     prefix_number prefix.Down place a is h = elim is [ ]
     prefix_number prefix.Not place a is h = number_before a kind.Long h
-    prefix_number prefix.Minus place a is h = number_before a _ h
-    prefix_number prefix.Plus place a is h = number_before a _ h
-    prefix_number prefix.Inv place a is h = number_before a _ h
+    prefix_number other place a is h = number_before a _ h
 
     -- a call, by what is called
     sound_call : (c0 c : Callee) (text : Option (List ℕ)) (arguments : List Expr) (called : ℕ → TExpr) (sorts : List Sort) → c0 ≡ c → IsOfNumber (sort_of_call s c text sorts) →
@@ -449,14 +428,8 @@ module _ (typed : Typed) (number : ℕ) where
       sound (tree.Cast k inner at) h made = sound_convert k _ (sound inner (number_before (sort_of s inner) k h) made)
       sound (tree.Unary prefix.Up inner at) h made = sound_stepped true false inner h (λ is i. at_place inner is i made)
       sound (tree.Unary prefix.Down inner at) h made = sound_stepped false false inner h (λ is i. at_place inner is i made)
-      sound (tree.Unary prefix.Minus inner at) h made =
-          (record { names_exist = tt; constant_in_range = tt; operation = tt; calls_earlier = tt; few_arguments = tt; can_give_back = tt }, sound inner (prefix_number prefix.Minus (is_number_place s inner) (sort_of s inner) tt h) made)
-      sound (tree.Unary prefix.Plus inner at) h made =
-          (record { names_exist = tt; constant_in_range = tt; operation = tt; calls_earlier = tt; few_arguments = tt; can_give_back = tt }, sound inner (prefix_number prefix.Plus (is_number_place s inner) (sort_of s inner) tt h) made)
-      sound (tree.Unary prefix.Not inner at) h made =
-          (record { names_exist = tt; constant_in_range = tt; operation = tt; calls_earlier = tt; few_arguments = tt; can_give_back = tt }, sound inner (prefix_number prefix.Not (is_number_place s inner) (sort_of s inner) tt h) made)
-      sound (tree.Unary prefix.Inv inner at) h made =
-          (record { names_exist = tt; constant_in_range = tt; operation = tt; calls_earlier = tt; few_arguments = tt; can_give_back = tt }, sound inner (prefix_number prefix.Inv (is_number_place s inner) (sort_of s inner) tt h) made)
+      sound (tree.Unary operator inner at) h made =
+          (assumption, sound inner (prefix_number operator (is_number_place s inner) (sort_of s inner) tt h) made)
       sound (tree.Post up inner at) h made = sound_stepped up true inner h (λ is i. at_place inner is i made)
       sound (tree.Binary operator left right at) h made =
           let given = both_numbers operator (sort_of s left) (sort_of s right) h in

@@ -44,9 +44,7 @@ starts_make front (n ∷ ns) = go (int_eq n (pos 0)) refl (λ m. starts_make (fr
 as_many : (names : Names) (s : Store) (v : Variable) (elements : ℕ) (form : Form) → length (kinds_by elements form) ≡ length (cells_by s (variable_key v) elements form)
 as_many names s v elements (Number k fixed) = refl
 as_many names s v elements (Array k fixed size) = replicate_long elements k ∙ sym (row_long (s.element (variable_key v)) 0 elements)
-as_many names s v elements (Message type_) = refl
-as_many names s v elements (Timer unit) = refl
-as_many names s v elements Misfit = refl
+as_many names s v elements other = refl
 
 all_as_many : (names : Names) (s : Store) (vs : List Variable) → length (flat_map (λ v. kinds_by (elements_of names v) v.form) vs) ≡ length (flat_map (cells_of names s) vs)
 all_as_many names s [] = refl

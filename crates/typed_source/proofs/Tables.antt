@@ -38,9 +38,7 @@ module _ (names : Names) where
   own_long : (elements : ℕ) (form : Form) → length (kinds_by elements form) ≡ cells_by_form elements form
   own_long elements (Number k fixed) = refl
   own_long elements (Array k fixed size) = replicate_long elements k
-  own_long elements (Message type_) = refl
-  own_long elements (Timer unit) = refl
-  own_long elements Misfit = refl
+  own_long elements other = refl
 
   -- the kinds of all cells, around those of one variable
   record Around (v : Variable) : Type 0 where
