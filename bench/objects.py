@@ -274,12 +274,17 @@ def too_great_count(size):
     return code_text()[:-17] + listing(bytes([15]) * size, (1 << 32) - 1)
 
 
+def count_of_all_bytes(size):
+    """Instructions of one byte, of which the count says as many as there are bytes, and nothing behind them."""
+    return code_text()[:-17] + listing(bytes([15]) * size, size)
+
+
 TEXTS = {
     "procedures": procedures, "instructions of a byte": short_instructions, "formats": short_formats,
     "one format of letters": long_format, "texts of a format": texts_of_formats,
     "arrays of a format": arrays_of_formats, "cells": cells, "initial values": initial_values,
     "functions of a place": functions, "selectors": selectors, "timers": timers,
-    "a count of 2^32 - 1": too_great_count,
+    "a count of 2^32 - 1": too_great_count, "a count of all bytes": count_of_all_bytes,
 }
 
 

@@ -10,7 +10,7 @@ ghost use Rattle.object_file.specs.Inside.Instructions.{instruction_by, operands
 ghost use Rattle.object_file.specs.declared.stored.ReadRefusal.TheVariants.{Bad};
 
 use crate::operand::{Operands, Pair};
-use crate::stored::{ReadRefusal, Stored};
+use crate::stored::{ReadRefusal, Record, Stored};
 use bytecode::Instr;
 use int_kinds::{BinOp, Kind};
 use signal_codec::Layout;
@@ -496,4 +496,12 @@ impl Stored for Instr {
         <(i128, u32) as Stored>::complete();
         <(u32, bool) as Stored>::complete();
     }
+}
+
+impl Record for Instr {
+    ghost LEAST = { 1 };
+
+    const LEAST: u8 = 1;
+
+    fn long_enough() {}
 }

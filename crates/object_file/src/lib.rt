@@ -7,8 +7,8 @@
 //! which it verifies. A text is of one code at most, so what is stored is loaded as the same code. Code
 //! has a text unless a format of it is too long for lengths of four bytes.
 //!
-//! A count is not believed before its records are there: memory is taken as they come, so it is linear
-//! in the text whatever its counts say.
+//! A count of more records than the bytes behind it can hold is refused at once. Else memory is taken as
+//! the records come, so it is linear in the text whatever its counts say.
 //!
 //! Where code comes to hold more, its text has to say it: the selectors of an event procedure have one
 //! key for all channels, in `Selector`, and a message that is sent goes out on the channel that its

@@ -1,11 +1,11 @@
 // Texts and lists.
 
-ghost use Rattle.std.specs.Prelude.{◌≡◌, ◌++◌, ◌<◌, ◌^◌, ◌∷◌, All, IfOk, IsErrOf, None, OnOk, flat_map, length, true};
+ghost use Rattle.std.specs.Prelude.{◌≡◌, ◌++◌, ◌*◌, ◌<◌, ◌≤◌, ◌^◌, ◌∷◌, All, IfOk, IsErrOf, None, OnOk, flat_map, length, true};
 ghost use Rattle.object_file.specs.Number.{list, text};
 ghost use Rattle.object_file.specs.Inside.Reading.{items_at};
 ghost use Rattle.object_file.specs.declared.stored.ReadRefusal.TheVariants.{Bad};
 
-use crate::stored::{ReadRefusal, Stored};
+use crate::stored::{ReadRefusal, Record, Stored};
 use items::Items;
 use std::alloc::Global;
 use texts::{NoMemory, Text};
@@ -42,11 +42,12 @@ fn write_records<T: Stored>(records: &[T], into: &mut Vec<u8>) -> Result<(), NoM
 }
 
 /// So many records, and what stands behind them. Memory is taken as they come.
-fn read_records<T: Stored>(
+fn read_records<T: Record>(
     alloc: Global,
     count: u32,
     bytes: &[u8],
 ) -> Result<(Vec<T>, &[u8]), ReadRefusal>
+    requires room { count * T.LEAST ≤ length bytes.now }
     ensures spelled { IfOk result (λ found.
         bytes.now ≡ flat_map T.spelling (found.0).items ++ found.1.now) }
     ensures count { IfOk result (λ found. length (found.0).items ≡ count) }
@@ -96,7 +97,7 @@ impl Stored for Text {
     }
 }
 
-impl<T: Stored> Stored for Items<T> {
+impl<T: Record> Stored for Items<T> {
     ghost use Rattle.std.specs.Prelude.{◌<◌, ◌^◌, All, length};
     ghost use Rattle.object_file.specs.Number.{list};
     ghost use Rattle.object_file.specs.Inside.Reading.{list_at};
@@ -115,7 +116,11 @@ impl<T: Stored> Stored for Items<T> {
 
     fn read(alloc: Global, bytes: &[u8]) -> Result<(Items<T>, &[u8]), ReadRefusal> {
         u32::complete();
+        T::long_enough();
         let (count, rest) = u32::read(alloc, bytes)?;
+        if count as usize * usize::from(T::LEAST) > rest.len() {
+            return Err(ReadRefusal::Bad);
+        }
         let (records, rest) = read_records(alloc, count, rest)?;
         Ok((Items::from_list(records), rest))
     }

@@ -2,7 +2,7 @@
 
 ghost use Rattle.std.specs.Prelude.{◌≡◌, ◌+◌, ◌*◌, ◌<◌, ◌^◌, false, ⊤};
 
-use crate::stored::{ReadRefusal, Stored};
+use crate::stored::{ReadRefusal, Record, Stored};
 use std::alloc::Global;
 use texts::NoMemory;
 
@@ -121,6 +121,14 @@ impl Stored for u32 {
     }
 }
 
+impl Record for u32 {
+    ghost LEAST = { 4 };
+
+    const LEAST: u8 = 4;
+
+    fn long_enough() {}
+}
+
 impl Stored for u64 {
     ghost use Rattle.object_file.specs.Number.{qword};
     ghost use Rattle.object_file.specs.Inside.Reading.{qword_at};
@@ -149,6 +157,14 @@ impl Stored for u64 {
     fn complete() {
         u32::complete();
     }
+}
+
+impl Record for u64 {
+    ghost LEAST = { 8 };
+
+    const LEAST: u8 = 8;
+
+    fn long_enough() {}
 }
 
 impl Stored for u128 {

@@ -1,7 +1,7 @@
 // What is stored as bytes and read again.
 
 ghost use Rattle.std.specs.Prelude.{◌≡◌, ◌++◌, ◌||◌, ℕ, Bool, true, List, Option, Some, None, IfOk, OnOk, IsErrOf};
-ghost use Rattle.object_file.specs.Inside.Reading.{pair_at};
+ghost use Rattle.object_file.specs.Inside.Reading.{IsLong, pair_at};
 ghost use Rattle.object_file.specs.declared.stored.ReadRefusal.TheVariants.{Bad};
 
 use std::alloc::{AllocFailed, Global};
@@ -67,6 +67,20 @@ pub(crate) trait Stored: Drop {
     /// What is spelled at the front is what stands there. The call does nothing: its contract is the law.
     fn complete()
         ensures { (x : Self) (rest : List ℕ) → holds x → at (spelling x ++ rest) ≡ Some (x, rest) };
+}
+
+/// What a list holds: the bytes that are left say how many of it there can be.
+pub(crate) trait Record: Stored {
+    /// How many bytes its spelling has at least.
+    ghost LEAST: { ℕ };
+
+    /// The same number.
+    const LEAST: u8;
+
+    /// What stands at the front of bytes takes so many of them. The call does nothing: its contract is the
+    /// law.
+    fn long_enough()
+        ensures { IsLong LEAST Self.at };
 }
 
 impl<A: Stored, B: Stored> Stored for (A, B) {

@@ -8,7 +8,7 @@ ghost use Rattle.object_file.specs.Inside.Tables.{format_of, kind_of};
 ghost use Rattle.object_file.specs.declared.stored.ReadRefusal.TheVariants.{Bad};
 
 use crate::list::{write_list, write_text};
-use crate::stored::{ReadRefusal, Stored};
+use crate::stored::{ReadRefusal, Record, Stored};
 use bytecode::{Fun, Handler};
 use int_kinds::Kind;
 use items::Items;
@@ -81,6 +81,22 @@ impl Stored for Kind {
     fn complete() {}
 }
 
+impl Record for Kind {
+    ghost LEAST = { 1 };
+
+    const LEAST: u8 = 1;
+
+    fn long_enough() {}
+}
+
+impl Record for (u32, i128) {
+    ghost LEAST = { 20 };
+
+    const LEAST: u8 = 20;
+
+    fn long_enough() {}
+}
+
 impl Stored for ArgKind {
     ghost use Rattle.write_format.specs.Format.{IsShortArgument};
     ghost use Rattle.object_file.specs.Table.{argument_text};
@@ -130,6 +146,14 @@ impl Stored for ArgKind {
         <(u32, u32) as Stored>::complete();
         Text::complete();
     }
+}
+
+impl Record for ArgKind {
+    ghost LEAST = { 2 };
+
+    const LEAST: u8 = 2;
+
+    fn long_enough() {}
 }
 
 /// Whether an argument is no text of 2^32 bytes or more.
@@ -212,6 +236,14 @@ impl Stored for Format {
     }
 }
 
+impl Record for Format {
+    ghost LEAST = { 8 };
+
+    const LEAST: u8 = 8;
+
+    fn long_enough() {}
+}
+
 impl Stored for Fun {
     ghost use Rattle.object_file.specs.Table.{function_text};
     ghost use Rattle.object_file.specs.Inside.Tables.{function_at};
@@ -238,6 +270,14 @@ impl Stored for Fun {
     }
 }
 
+impl Record for Fun {
+    ghost LEAST = { 9 };
+
+    const LEAST: u8 = 9;
+
+    fn long_enough() {}
+}
+
 impl Stored for Selector {
     ghost use Rattle.object_file.specs.Table.{selector_text};
     ghost use Rattle.object_file.specs.Inside.Tables.{selector_at};
@@ -262,6 +302,14 @@ impl Stored for Selector {
     fn complete() {
         <(u8, (u32, u32)) as Stored>::complete();
     }
+}
+
+impl Record for Selector {
+    ghost LEAST = { 9 };
+
+    const LEAST: u8 = 9;
+
+    fn long_enough() {}
 }
 
 impl Stored for Option<u8> {
@@ -389,4 +437,12 @@ impl Stored for Handler {
     fn complete() {
         <(Event, (u32, (u32, u32))) as Stored>::complete();
     }
+}
+
+impl Record for Handler {
+    ghost LEAST = { 13 };
+
+    const LEAST: u8 = 13;
+
+    fn long_enough() {}
 }

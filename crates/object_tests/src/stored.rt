@@ -62,6 +62,16 @@ fn bytes_behind_the_last_list_are_bad(rt: HostRuntime) -> Result<(), Fail> {
     Ok(())
 }
 
+// The count of the instructions stands at place 83.
+#[test]
+fn a_count_of_more_instructions_than_bytes_is_bad(rt: HostRuntime) -> Result<(), Fail> {
+    let mut bytes = Vec::from_slice(rt.alloc(), &TEXT[..83])?;
+    bytes.extend_from_slice(&0xFFFF_FFFFu32.to_le_bytes())?;
+    bytes.extend_from_slice(&TEXT[87..])?;
+    assert_eq!(rt; load(rt.alloc(), &bytes).err(), Some(LoadRefusal::Bad));
+    Ok(())
+}
+
 // The first letter; the count of the cells as 2^24 more; a kind; the code of the format, which no
 // code of formats has; its argument's tag; the truth value of the function; an event; an instruction.
 #[test]

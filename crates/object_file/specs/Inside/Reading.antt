@@ -1,5 +1,5 @@
 -- What stands at the front of bytes, and what stands behind it.
-use Rattle.std.specs.Prelude.{ℕ, zero, suc, ◌+◌, ◌*◌, ◌^◌, ◌==◌, Bool, true, false, nat_le, List, [], ◌∷◌, length, take, drop, ℤ, Option, Some, None, if◌then◌else◌}
+use Rattle.std.specs.Prelude.{ℕ, zero, suc, ◌+◌, ◌*◌, ◌^◌, ◌≤◌, ◌==◌, Bool, true, false, nat_le, List, [], ◌∷◌, length, take, drop, ℤ, ⊤, Option, Some, None, if◌then◌else◌}
 use Rattle.std.specs.Option.{option_and_then, option_map}
 use Rattle.std.specs.Int.{w128, cast_signed}
 
@@ -74,3 +74,12 @@ items_at item (suc count) bytes = made_at (λ all. all.0 ∷ all.1) (pair_at ite
 -- a list
 abbrev pub list_at : {A : Type 0} → Reader A → Reader (List A)
 list_at item bytes = option_and_then (λ count. items_at item count.0 count.1) (dword_at bytes)
+
+-- what is found at the front of bytes takes so many of them at least
+abbrev pub Takes : {A : Type 0} → ℕ → List ℕ → Option (A × List ℕ) → Type 0
+Takes least bytes None = ⊤
+Takes least bytes (Some found) = least + length found.1 ≤ length bytes
+
+-- each item takes so many bytes at least
+abbrev pub IsLong : {A : Type 0} → ℕ → Reader A → Type 0
+IsLong least item = (bytes : List ℕ) → Takes least bytes (item bytes)
