@@ -15,6 +15,8 @@ use Rattle.typed_laws.proofs.Distinct.{distinct_without_offences}
 use Rattle.capl_meaning.specs.Size.{cells_of_program}
 use Rattle.sound_programs.specs.Given.{HasShortLists, IsReadable}
 use Rattle.typed_source.specs.Program.{HasEach, HasNoOther, IsGoodOrder, formats_of_functions, formats_of_handlers, typed_program}
+use Rattle.check_names.specs.First.{IsFirstOf}
+use Rattle.check_names.specs.Named.{named_offences}
 use Rattle.check_calls.specs.declared.calls.Calls.{Calls}
 use Rattle.check_calls.specs.Calls.{AreCallsOf, GoForward, order_of}
 use Rattle.type_expressions.specs.declared.layout.Layout.{Layout}
@@ -30,6 +32,13 @@ of_own_base base program names built = built ∙ ap (λ b. names_of b program) (
 -- the database is that of the names
 same_base : (base : List DbcMessage) (program : Program) (names : Names) → names ≡ names_of base program → names.base ≡ base
 same_base base program names built = ap (λ (n : Names). n.base) built
+
+-- the first of what names break is that of their own database
+pub first_of_own_base : (base : List DbcMessage) (program : Program) (names : Names) (first : Option Offence) →
+    names ≡ names_of base program → IsFirstOf first (named_offences base program) →
+    IsFirstOf first (named_offences names.base program)
+first_of_own_base base program names first built is =
+    subst (λ b. IsFirstOf first (named_offences b program)) (sym (same_base base program names built)) is
 
 -- the first offence
 pub first_refused : (base : List DbcMessage) (program : Program) (names : Names) → names ≡ names_of base program →

@@ -3,8 +3,8 @@
 ghost use Rattle.int_kinds.specs.Kind.{IsNumber};
 
 use int_kinds::{
-    BinOp, Kind, add, and, bits, div, holds, inv, is_number, join, laws, mul, neg, or, rem,
-    residue, shl, shr, sub, truth, wrap, xor,
+    BinOp, Kind, add, and, bits, div, holds, inv, is_equal, is_number, join, laws, mul, neg, or,
+    rem, residue, shl, shr, sub, truth, value, wrap, xor,
 };
 
 /// The least and the greatest number that a call takes.
@@ -405,7 +405,15 @@ fn operators_answer_as_in_c(rt: HostRuntime) {
             Some(result),
             "{op:?} {k:?} {a} {b}"
         );
+        assert_eq!(rt; value(op, k, a, b), Some(result));
     }
+}
+
+#[test]
+fn comparisons_are_of_wrapped_numbers(rt: HostRuntime) {
+    assert_eq!(rt; value(BinOp::Less, Kind::Int, 0x1_0001, 2), Some(1));
+    assert_eq!(rt; value(BinOp::OrElse, Kind::Int, 1, 2), None);
+    assert!(rt; is_equal(-1, -1));
 }
 
 /// Operands that are wrapped first.

@@ -5,6 +5,7 @@ ghost use Rattle.write_format.specs.Arrays.{IsCharArray};
 ghost use Rattle.write_format.specs.Format.{char_arrays};
 
 use int_kinds::Kind;
+use items::Items;
 use std::alloc::Global;
 use std::test::Fail;
 use texts::{NoMemory, Text};
@@ -322,5 +323,14 @@ fn arrays_are_looked_for(rt: HostRuntime) -> Result<(), Fail> {
     assert!(rt; !has_arrays(rt.alloc(), &format, &[Kind::Byte; 5])?);
     laws::one_format();
     laws::pieces_are_found();
+    Ok(())
+}
+
+#[test]
+fn a_format_keeps_what_it_is_given(rt: HostRuntime) -> Result<(), Fail> {
+    let text = Text::make(rt.alloc(), b"100%%")?;
+    let format = Format::of_owned(rt.alloc(), text, Items::from_list(Vec::new(rt.alloc())))?;
+    assert_eq!(rt; format.text(), b"100%%".as_slice());
+    assert_eq!(rt; format.args().len(), 0);
     Ok(())
 }

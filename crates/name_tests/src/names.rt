@@ -2,7 +2,7 @@
 
 ghost use Rattle.check_names.specs.Few.{IsFew};
 
-use capl_meaning::Offence;
+use capl_meaning::{Builtin, Offence, builtin_named, is_builtin};
 use capl_tree::{DeclType, Expr, Program, Sel, SelWhat};
 use check_names::{Names, laws, note, note_type, push_ranges};
 use dbc_reader::{Database, read};
@@ -53,6 +53,7 @@ fn check_variables(rt: &impl Abort, names: &Names) {
         assert_eq!(rt; found.place.owner, *owner);
         assert_eq!(rt; found.token(), *token);
         assert_eq!(rt; found.name(), [*letter].as_slice());
+        assert!(rt; found.init().is_none());
     }
 }
 
@@ -163,6 +164,13 @@ fn a_name_is_declared_once(rt: HostRuntime) -> Result<(), Fail> {
         assert_eq!(rt; first(rt.alloc(), source)?, wanted);
     }
     Ok(())
+}
+
+#[test]
+fn functions_of_the_language_are_known(rt: HostRuntime) {
+    assert_eq!(rt; builtin_named(b"stop"), Some(Builtin::Stop));
+    assert_eq!(rt; builtin_named(b"Stop"), None);
+    assert!(rt; is_builtin(b"elCount"));
 }
 
 #[test]

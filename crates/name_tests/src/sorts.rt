@@ -83,6 +83,9 @@ fn check_array(rt: &impl Abort, alloc: Global, names: &Names) -> Result<(), Fail
     let scope = Scope::outside(names, 0);
     assert_eq!(rt; scope.array_in(&word), Some(1));
     assert_eq!(rt; scope.timer_in(&word), None);
+    for declared in names.variables() {
+        assert_eq!(rt; Scope::of_declared(names, declared).owner, 0);
+    }
     Ok(())
 }
 

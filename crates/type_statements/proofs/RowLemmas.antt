@@ -36,15 +36,15 @@ formats_list s n end_of-Stmt = refl
 formats_list s n (more_of-Stmt first row) = ap (λ fs. formats_of s first ++ fs) (formats_list s _ row)
 
 -- the row in a block
-abbrev body_of : Stmt → (n : Count) × Row_of-Stmt n
-body_of (stmt.Block' _ row) = (_, row)
-body_of _ = (_, end_of-Stmt)
+abbrev row_of_block : Stmt → (n : Count) × Row_of-Stmt n
+row_of_block (stmt.Block' _ row) = (_, row)
+row_of_block _ = (_, end_of-Stmt)
 
 -- the formats of a block
 pub block_formats : (s : Scope) (statement : Stmt) (body : List Stmt) → statement ≡ stmt.Block body
     → formats_of s statement ≡ formats_of_body s body
 block_formats s statement body is =
-    let row = body_of (stmt.Block body) in
+    let row = row_of_block (stmt.Block body) in
     ap (formats_of s) is ∙ formats_list s row.0 row.1 ∙ ap (formats_of_body s) (items_hidden-the_row-Stmt-0 body)
 
 -- ---- trees
@@ -71,7 +71,7 @@ trees_list s order before n (more_of-Stmt first rest) =
 pub block_tree : (s : Scope) (order : List ℕ) (before : ℕ) (statement : Stmt) (body : List Stmt) → statement ≡ stmt.Block body
     → statement_of s order before statement ≡ Block (body_of s order before body)
 block_tree s order before statement body is =
-    let row = body_of (stmt.Block body) in
+    let row = row_of_block (stmt.Block body) in
     ap (statement_of s order before) is
     ∙ sym (block_form _ (statements_of s order before row.1))
     ∙ ap Block (trees_list s order before row.0 row.1 ∙ ap (body_of s order before) (items_hidden-the_row-Stmt-0 body))

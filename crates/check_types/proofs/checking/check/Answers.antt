@@ -1,7 +1,7 @@
 -- What is built of the program tells why it is refused or accepted.
 use Rattle.check_names.specs.Names.{messages_of}
 use Rattle.check_calls.specs.Calls.{order_of}
-use Rattle.check_types.proofs.CheckLemmas.{cells_few, distinct_names, first_refused, formats_few, good_calls, laid_out, none_refused, of_own_base, too_large, typed_of, typed_sound}
+use Rattle.check_types.proofs.CheckLemmas.{cells_few, distinct_names, first_of_own_base, first_refused, formats_few, good_calls, laid_out, none_refused, of_own_base, too_large, typed_of, typed_sound}
 use Rattle.check_types.proofs.checking.check.Goals as goal
 
 pub first_offence-requires-clause-names : goal.first_offence-requires-clause-names
@@ -9,7 +9,9 @@ first_offence-requires-clause-names c =
     of_own_base (messages_of c.args.base) c.args.program.now c.in_ok-named.named.names c.in_ok-named.ensures.names
 
 pub first_offence-requires-clause-named : goal.first_offence-requires-clause-named
-first_offence-requires-clause-named c = c.in_ok-named.ensures.first
+first_offence-requires-clause-named c =
+    first_of_own_base (messages_of c.args.base) c.args.program.now c.in_ok-named.named.names c.in_ok-named.named.first
+    c.in_ok-named.ensures.names c.in_ok-named.ensures.first
 
 pub returns-in-Some-clause-refused : goal.returns-in-Some-clause-refused
 returns-in-Some-clause-refused c =

@@ -1,5 +1,5 @@
 -- The variable of that name is the parameter.
-use Rattle.std.proofs.Common.{◌≡◌, ◌∙◌, ℕ, List, Option, None, ap, sym}
+use Rattle.std.proofs.Common.{◌≡◌, ◌∙◌, ℕ, List, None, ap, sym}
 use Rattle.std.specs.Prelude.{position}
 use Rattle.capl_meaning.specs.Variable.{Variable}
 use Rattle.capl_meaning.specs.Variable.{variable_of_parameter}
