@@ -15,23 +15,22 @@ fn gather<'p>(statement: &'p Stmt, into: &mut Vec<&'p Decl>) -> Result<(), NoMem
     ensures { OnOk result (lent into.new.items ≡ lent into.old.items ++ declarations_in statement.now) }
 {
     match statement {
-        Stmt::Decl(decl) => into.push(decl)?,
-        Stmt::Block(body) => gather_all(body.as_slice(), into)?,
+        Stmt::Decl(decl) => Ok(into.push(decl)?),
+        Stmt::Block(body) => gather_all(body.as_slice(), into),
         Stmt::If { arms, other } => {
             gather_in_arms(arms.as_slice(), into)?;
-            gather_in_else(other, into)?;
+            gather_in_else(other, into)
         }
-        Stmt::While { body, .. } => gather(body.get(), into)?,
-        Stmt::Do { body, .. } => gather(body.get(), into)?,
-        Stmt::For { body, .. } => gather(body.get(), into)?,
-        Stmt::Switch { groups, .. } => gather_in_groups(groups.as_slice(), into)?,
+        Stmt::While { body, .. } => gather(body.get(), into),
+        Stmt::Do { body, .. } => gather(body.get(), into),
+        Stmt::For { body, .. } => gather(body.get(), into),
+        Stmt::Switch { groups, .. } => gather_in_groups(groups.as_slice(), into),
         Stmt::Empty
         | Stmt::Expr(_)
         | Stmt::Break { .. }
         | Stmt::Continue { .. }
-        | Stmt::Return { .. } => {}
+        | Stmt::Return { .. } => Ok(()),
     }
-    Ok(())
 }
 
 /// Appends the declarations in statements.

@@ -1,9 +1,10 @@
 // What the names of a program mean.
 
-ghost use Rattle.std.specs.Prelude.{◌≡◌, ◌==◌, ◌&&◌, ◌∷◌, ◌<◌, ◌^◌, IfOk, length, map, position, slice_get};
+ghost use Rattle.std.specs.Prelude.{◌≡◌, ◌==◌, ◌&&◌, ◌∷◌, ◌<◌, ◌^◌, List, IfOk, length, map, position, slice_get};
 ghost use Rattle.std.specs.Option.{option_and_then, option_copied, option_map};
 ghost use Rattle.std.specs.List.Sorted.{IsStrictlyIncreasing};
 ghost use Rattle.std.specs.Str.{bytes_eq};
+ghost use Rattle.dbc_reader.specs.declared.message.DbcMessage.{DbcMessage};
 ghost use Rattle.capl_meaning.specs.Names.{Scope, is_global, is_local, means, names_of};
 ghost use Rattle.capl_meaning.specs.Variable.{message_named, parts_of};
 ghost use Rattle.capl_tree.specs.declared.file.Program.{Program};
@@ -102,21 +103,7 @@ impl<'p> Names<'p> {
             IsFirstOf named.first (named_offences (messages_of base.entry) program.now)) }
     {
         let parts = program_parts(alloc, program)?;
-        let variables = declared_variables(alloc, parts.as_slice())?;
-        let functions = declared_functions(alloc, parts.as_slice())?;
-        let seed = Seed::of(variables.as_slice(), functions.as_slice());
-        let tables = tables_of(alloc, seed, variables.as_slice())?;
-        let in_order = are_in_order(tables.as_slice(), variables.as_slice());
-        let called = called_functions(alloc, seed, functions.as_slice())?;
-        let names = Names {
-            base,
-            variables,
-            functions,
-            seed,
-            tables,
-            in_order,
-            called,
-        };
+        let names = Names::of_parts(alloc, parts.as_slice(), base)?;
         let first = names.first_of(alloc, parts.as_slice())?;
         Ok(Named { names, first })
     }
@@ -220,11 +207,38 @@ impl<'p> Names<'p> {
         self.base?.message_by_name(name)
     }
 
+    /// What a program of these parts declares.
+    fn of_parts(
+        alloc: Global,
+        parts: &[ProgramPart<'p>],
+        base: Option<&'p Database>,
+    ) -> Result<Names<'p>, NoMemory>
+        requires { (program : Program) × (parts_in parts.now ≡ parts_of program) × IsFew program }
+        ensures { (program : Program) → parts_in parts.now ≡ parts_of program →
+            IfOk result (λ names. names ≡ names_of (messages_of base.entry) program) }
+    {
+        let variables = declared_variables(alloc, parts)?;
+        let functions = declared_functions(alloc, parts)?;
+        let seed = Seed::of(variables.as_slice(), functions.as_slice());
+        let tables = tables_of(alloc, seed, variables.as_slice())?;
+        let in_order = are_in_order(tables.as_slice(), variables.as_slice());
+        let called = called_functions(alloc, seed, functions.as_slice())?;
+        Ok(Names {
+            base,
+            variables,
+            functions,
+            seed,
+            tables,
+            in_order,
+            called,
+        })
+    }
+
     /// The first of what names break in a program of these parts.
     fn first_of(&self, alloc: Global, parts: &[ProgramPart]) -> Result<Option<Offence>, NoMemory>
-        ensures { (program : Program) → self.now ≡ names_of self.now.base program →
+        ensures { (base : List DbcMessage) (program : Program) → self.now ≡ names_of base program →
             parts_in parts.now ≡ parts_of program →
-            IfOk result (λ first. IsFirstOf first (named_offences self.now.base program)) }
+            IfOk result (λ first. IsFirstOf first (named_offences base program)) }
     {
         let seed = self.seed;
         let mut first = None;
