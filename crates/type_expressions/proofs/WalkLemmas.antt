@@ -1,7 +1,8 @@
 -- What is made of an expression, by what is made of its parts.
-use Rattle.std.proofs.Common.{◌≡◌, ℕ, Bool, List, Option, Some, None, refl, sym, ap, ◌∙◌}
+use Rattle.std.proofs.Common.{◌≡◌, ℕ, Bool, false, true, IfOk, List, Option, Result, Some, None, refl, subst, sym, ap, ◌∙◌}
 use Rattle.std.specs.Prelude.{map}
 use Rattle.std.specs.Option.{option_and_then, option_map, option_map_or}
+use Rattle.std.proofs.lemmas.Result.{IfOk-weaker}
 use Rattle.int_kinds.specs.declared.kinds.Kind.{Kind}
 use Rattle.int_kinds.specs.declared.operators.BinOp.{BinOp}
 use Rattle.int_kinds.specs.declared.operators.UnOp.{UnOp}
@@ -12,7 +13,8 @@ use Rattle.capl_tree.specs.declared.expr.Expr.TheVariants as expr
 use Rattle.capl_tree.specs.declared.expr.Field.{Field}
 use Rattle.capl_tree.specs.declared.expr.Field.TheVariants as field
 use Rattle.capl_tree.specs.Forms as tree
-use Rattle.capl_tree.proofs.FormLemmas.{assign_form, bytes_form, cond_form, member_form, unary_form}
+use Rattle.capl_tree.proofs.FormLemmas.{assign_form, binary_form, bytes_form, cond_form, member_form, paren_form, post_form, unary_form}
+use Rattle.typed_tree.specs.declared.expression.Place.{Place}
 use Rattle.typed_tree.specs.declared.expression.TExpr.{TExpr}
 use Rattle.typed_tree.specs.declared.expression.TExpr.TheVariants.{Call}
 use Rattle.typed_tree.specs.Forms.{Bytes, Cond, Convert}
@@ -20,16 +22,16 @@ use Rattle.capl_meaning.specs.declared.sort.Sort.{Sort}
 use Rattle.capl_meaning.specs.declared.sort.Sort.TheVariants as sort
 use Rattle.capl_meaning.specs.Names.{Scope, callee}
 use Rattle.capl_meaning.specs.Message as meant
-use Rattle.capl_meaning.specs.Message.{is_number_place, member_named, message_in, signals_of}
-use Rattle.capl_meaning.specs.Sort.{kind_in, number_from, sort_of, sort_of_call, sort_of_choice, sort_of_member, sort_of_part}
+use Rattle.capl_meaning.specs.Message.{is_message_place, is_number_place, member_named, message_in, signals_of}
+use Rattle.capl_meaning.specs.Sort.{kind_in, number_from, sort_of, sort_of_assignment, sort_of_binary, sort_of_call, sort_of_choice, sort_of_member, sort_of_part, sort_of_prefix, sort_of_step, working_kind}
 use Rattle.typed_laws.specs.Laid.{message_slot}
-use Rattle.typed_source.specs.Expression.{assigned, expression_of, loaded, of_call, place_of, place_of_member, place_of_part}
+use Rattle.typed_source.specs.Expression.{assigned, expression_of, loaded, of_call, operation, place_of, place_of_member, place_of_part, stepping}
 use Rattle.check_sorts.specs.declared.message.Held.{Held}
 use Rattle.check_sorts.specs.Message.{held_in}
 use Rattle.type_expressions.specs.declared.made.Shape.TheVariants as shape
 use Rattle.type_expressions.specs.declared.made.Walked.{Walked}
 use Rattle.type_expressions.specs.Made.{assigning, place_in, prefix_tree, text_of_first, value_in}
-use Rattle.type_expressions.proofs.CallLemmas.{call_sort, call_value}
+use Rattle.type_expressions.proofs.CallLemmas.{call_place, call_sort, call_value}
 
 -- ---- calls
 
@@ -55,13 +57,42 @@ call_sort_made s e name other args one two at sorts found is name_is one_is two_
     ∙ ap (λ n. sort_of_call s (callee s.names n) (text_of_first args) (map (sort_of s) args)) name_is
     ∙ sym (call_sort s e name args at is)
 
--- ---- members
+-- ---- results
 
 -- an expression was walked over
 pub record IsWalked (s : Scope) (order : List ℕ) (e : Expr) (w : Walked) : Type 0 where
   pub value : value_in w.shape ≡ expression_of s order e
   pub place : place_in w.shape ≡ place_of s order e
   pub sort : w.sort ≡ sort_of s e
+
+-- an expression was walked over, if there was room
+pub record WasWalked {E : Type 0} (s : Scope) (order : List ℕ) (e : Expr) (made : Result Walked E) : Type 0 where
+  pub value : IfOk made (λ w. value_in w.shape ≡ expression_of s order e)
+  pub place : IfOk made (λ w. place_in w.shape ≡ place_of s order e)
+  pub sort : IfOk made (λ w. w.sort ≡ sort_of s e)
+
+-- what is known of each result holds of the one that there is
+was_walked : {E : Type 0} (s : Scope) (order : List ℕ) (e : Expr) (made : Result Walked E) (known : Walked) →
+    IfOk made (λ w. w ≡ known) → ((w : Walked) → w ≡ known → IsWalked s order e w) → WasWalked s order e made
+was_walked s order e made known is by = record {
+  value = IfOk-weaker made (λ w. w ≡ known) (λ w. value_in w.shape ≡ expression_of s order e) (λ w same. (by w same).value) is;
+  place = IfOk-weaker made (λ w. w ≡ known) (λ w. place_in w.shape ≡ place_of s order e) (λ w same. (by w same).place) is;
+  sort = IfOk-weaker made (λ w. w ≡ known) (λ w. w.sort ≡ sort_of s e) (λ w same. (by w same).sort) is;
+}
+
+-- what stands under parentheses was walked over
+pub paren_walked : {E : Type 0} (s : Scope) (order : List ℕ) (e inner given : Expr) (at : ℕ) (made : Result Walked E) →
+    e ≡ expr.Paren inner at → given ≡ inner → IfOk made (λ w. value_in w.shape ≡ expression_of s order given) →
+    IfOk made (λ w. place_in w.shape ≡ place_of s order given) → IfOk made (λ w. w.sort ≡ sort_of s given) → WasWalked s order e made
+paren_walked s order e inner given at made is given_is value place sort =
+    let whole = is ∙ paren_form inner at in
+    record {
+      value = subst (λ x. IfOk made (λ w. value_in w.shape ≡ x)) (ap (expression_of s order) given_is ∙ sym (ap (expression_of s order) whole)) value;
+      place = subst (λ x. IfOk made (λ w. place_in w.shape ≡ x)) (ap (place_of s order) given_is ∙ sym (ap (place_of s order) whole)) place;
+      sort = subst (λ x. IfOk made (λ w. w.sort ≡ x)) (ap (sort_of s) given_is ∙ sym (ap (sort_of s) whole)) sort;
+    }
+
+-- ---- members
 
 -- the message that is held
 pub record There (s : Scope) (held : Held) (base : Expr) : Type 0 where
@@ -135,6 +166,23 @@ bytes_made s order e base other what at kind index walked index_at held made_tre
     (is ∙ ap (λ f. expr.Member base f at) (what_is ∙ bytes_form kind index index_at) ∙ member_form base (tree.Bytes kind index index_at) at) t.named
     (made t.message t.held_is ∙ ap by_tree (tree_is ∙ ap (expression_of s order) walked_is) ∙ ap by_sort (sort_is ∙ ap (sort_of s) walked_is))
 
+-- ---- calls that are made
+
+-- a call was walked over
+pub call_walked : {E : Type 0} (s : Scope) (order : List ℕ) (e : Expr) (name other : List ℕ) (args one two : List Expr) (at : ℕ) (trees : List TExpr)
+    (sorts : List Sort) (made : Result Walked E) →
+    e ≡ expr.Call name args at → other ≡ name → one ≡ args → two ≡ args → trees ≡ map (expression_of s order) one → sorts ≡ map (sort_of s) one →
+    IfOk made (λ w. value_in w.shape ≡ of_call s order (callee s.names other) two (λ f. Call f trees)) → IfOk made (λ w. place_in w.shape ≡ None) →
+    IfOk made (λ w. w.sort ≡ sort_of_call s (callee s.names other) (text_of_first two) sorts) → WasWalked s order e made
+call_walked s order e name other args one two at trees sorts made is name_is one_is two_is trees_are sorts_are value place sort = record {
+  value = IfOk-weaker made (λ w. value_in w.shape ≡ of_call s order (callee s.names other) two (λ f. Call f trees))
+      (λ w. value_in w.shape ≡ expression_of s order e)
+      (λ w same. call_tree_made s order e name other args one two at trees (value_in w.shape) is name_is one_is two_is trees_are same) value;
+  place = subst (λ p. IfOk made (λ w. place_in w.shape ≡ p)) (sym (call_place s order e name args at is)) place;
+  sort = IfOk-weaker made (λ w. w.sort ≡ sort_of_call s (callee s.names other) (text_of_first two) sorts) (λ w. w.sort ≡ sort_of s e)
+      (λ w same. call_sort_made s e name other args one two at sorts w.sort is name_is one_is two_is sorts_are same) sort;
+}
+
 -- ---- operators
 
 prefix_of : (s : Scope) (order : List ℕ) (op : UnOp) (inner : Expr) (at : ℕ) →
@@ -148,21 +196,54 @@ prefix_of s order prefix.Not inner at = refl
 prefix_of s order prefix.Inv inner at = refl
 
 -- a prefix operator
-pub prefix_made : (s : Scope) (order : List ℕ) (e : Expr) (op : UnOp) (inner one two : Expr) (at : ℕ) (is_place : Bool) (inner_walked w : Walked) (found : Sort) →
-    e ≡ expr.Unary op inner at → one ≡ inner → two ≡ inner → is_place ≡ is_number_place s one →
-    value_in inner_walked.shape ≡ expression_of s order two → place_in inner_walked.shape ≡ place_of s order two → inner_walked.sort ≡ sort_of s two →
-    w ≡ record {
-      shape = shape.Value (prefix_tree op inner_walked.sort (assigned is_place (place_in inner_walked.shape)) (value_in inner_walked.shape));
-      sort = found;
-    } → value_in w.shape ≡ expression_of s order e
-prefix_made s order e op inner one two at is_place i w found is one_is two_is place_known value_is place_is sort_is made =
-    ap (λ (w : Walked). value_in w.shape) made
-    ∙ ap (λ v. prefix_tree op i.sort (assigned is_place (place_in i.shape)) v) (value_is ∙ ap (expression_of s order) two_is)
-    ∙ ap (λ p. prefix_tree op i.sort (assigned is_place p) (expression_of s order inner)) (place_is ∙ ap (place_of s order) two_is)
-    ∙ ap (λ b. prefix_tree op i.sort (assigned b (place_of s order inner)) (expression_of s order inner)) (place_known ∙ ap (is_number_place s) one_is)
-    ∙ ap (λ k. prefix_tree op k (assigned (is_number_place s inner) (place_of s order inner)) (expression_of s order inner)) (sort_is ∙ ap (sort_of s) two_is)
-    ∙ prefix_of s order op inner at
-    ∙ sym (ap (expression_of s order) (is ∙ unary_form op inner at))
+pub prefix_walked : {E : Type 0} (s : Scope) (order : List ℕ) (e : Expr) (op : UnOp) (inner one two : Expr) (at : ℕ) (is_place : Bool) (i : Walked) (made : Result Walked E) →
+    e ≡ expr.Unary op inner at → one ≡ inner → two ≡ inner → is_place ≡ is_number_place s one → IsWalked s order two i →
+    IfOk made (λ w. w ≡ record {
+      shape = shape.Value (prefix_tree op i.sort (assigned is_place (place_in i.shape)) (value_in i.shape));
+      sort = sort_of_prefix op is_place i.sort;
+    }) → WasWalked s order e made
+prefix_walked s order e op inner one two at is_place i made is one_is two_is place_known known there =
+    let whole = is ∙ unary_form op inner at in
+    let sort_is : i.sort ≡ sort_of s inner = known.sort ∙ ap (sort_of s) two_is in
+    let place_is : is_place ≡ is_number_place s inner = place_known ∙ ap (is_number_place s) one_is in
+    was_walked s order e made _ there (λ w same. record {
+      value = ap (λ (w : Walked). value_in w.shape) same
+          ∙ ap (λ v. prefix_tree op i.sort (assigned is_place (place_in i.shape)) v) (known.value ∙ ap (expression_of s order) two_is)
+          ∙ ap (λ p. prefix_tree op i.sort (assigned is_place p) (expression_of s order inner)) (known.place ∙ ap (place_of s order) two_is)
+          ∙ ap (λ b. prefix_tree op i.sort (assigned b (place_of s order inner)) (expression_of s order inner)) place_is
+          ∙ ap (λ k. prefix_tree op k (assigned (is_number_place s inner) (place_of s order inner)) (expression_of s order inner)) sort_is
+          ∙ prefix_of s order op inner at
+          ∙ sym (ap (expression_of s order) whole);
+      place = ap (λ (w : Walked). place_in w.shape) same ∙ sym (ap (place_of s order) whole);
+      sort = ap (λ (w : Walked). w.sort) same
+          ∙ ap (λ b. sort_of_prefix op b i.sort) place_is
+          ∙ ap (sort_of_prefix op (is_number_place s inner)) sort_is
+          ∙ sym (ap (sort_of s) whole);
+    })
+
+-- `++` or `--` behind a place
+pub step_walked : {E : Type 0} (s : Scope) (order : List ℕ) (e : Expr) (up : Bool) (inner one two : Expr) (at : ℕ) (is_place : Bool) (i : Walked) (made : Result Walked E) →
+    e ≡ expr.Post up inner at → one ≡ inner → two ≡ inner → is_place ≡ is_number_place s one → IsWalked s order two i →
+    IfOk made (λ w. w ≡ record {
+      shape = shape.Value (stepping (kind_in i.sort) up true (assigned is_place (place_in i.shape)));
+      sort = sort_of_step is_place i.sort;
+    }) → WasWalked s order e made
+step_walked s order e up inner one two at is_place i made is one_is two_is place_known known there =
+    let whole = is ∙ post_form up inner at in
+    let sort_is : i.sort ≡ sort_of s inner = known.sort ∙ ap (sort_of s) two_is in
+    let place_is : is_place ≡ is_number_place s inner = place_known ∙ ap (is_number_place s) one_is in
+    was_walked s order e made _ there (λ w same. record {
+      value = ap (λ (w : Walked). value_in w.shape) same
+          ∙ ap (λ p. stepping (kind_in i.sort) up true (assigned is_place p)) (known.place ∙ ap (place_of s order) two_is)
+          ∙ ap (λ b. stepping (kind_in i.sort) up true (assigned b (place_of s order inner))) place_is
+          ∙ ap (λ k. stepping (kind_in k) up true (assigned (is_number_place s inner) (place_of s order inner))) sort_is
+          ∙ sym (ap (expression_of s order) whole);
+      place = ap (λ (w : Walked). place_in w.shape) same ∙ sym (ap (place_of s order) whole);
+      sort = ap (λ (w : Walked). w.sort) same
+          ∙ ap (λ b. sort_of_step b i.sort) place_is
+          ∙ ap (sort_of_step (is_number_place s inner)) sort_is
+          ∙ sym (ap (sort_of s) whole);
+    })
 
 assignment_of : (s : Scope) (order : List ℕ) (op : Option BinOp) (left right : Expr) (at : ℕ) →
     assigning op (sort_of s left) (sort_of s right) (assigned (is_number_place s left) (place_of s order left)) (expression_of s order right)
@@ -171,24 +252,79 @@ assignment_of s order None left right at = refl
 assignment_of s order (Some op) left right at = refl
 
 -- an assignment
-pub assignment_made : (s : Scope) (order : List ℕ) (e : Expr) (op : Option BinOp) (left right one two walked : Expr) (at : ℕ) (is_place : Bool)
-    (l w : Walked) (value : TExpr) (right_sort found : Sort) →
-    e ≡ expr.Assign op left right at → one ≡ left → two ≡ left → walked ≡ right → is_place ≡ is_number_place s one →
-    place_in l.shape ≡ place_of s order two → l.sort ≡ sort_of s two →
-    value ≡ expression_of s order walked → right_sort ≡ sort_of s walked →
-    w ≡ record {
-      shape = shape.Value (assigning op l.sort right_sort (assigned is_place (place_in l.shape)) value);
-      sort = found;
-    } → value_in w.shape ≡ expression_of s order e
-assignment_made s order e op left right one two walked at is_place l w value right_sort found is one_is two_is walked_is place_known place_is sort_is value_is right_is made =
-    ap (λ (w : Walked). value_in w.shape) made
-    ∙ ap (λ v. assigning op l.sort right_sort (assigned is_place (place_in l.shape)) v) (value_is ∙ ap (expression_of s order) walked_is)
-    ∙ ap (λ p. assigning op l.sort right_sort (assigned is_place p) (expression_of s order right)) (place_is ∙ ap (place_of s order) two_is)
-    ∙ ap (λ b. assigning op l.sort right_sort (assigned b (place_of s order left)) (expression_of s order right)) (place_known ∙ ap (is_number_place s) one_is)
-    ∙ ap (λ k. assigning op k right_sort (assigned (is_number_place s left) (place_of s order left)) (expression_of s order right)) (sort_is ∙ ap (sort_of s) two_is)
-    ∙ ap (λ k. assigning op (sort_of s left) k (assigned (is_number_place s left) (place_of s order left)) (expression_of s order right)) (right_is ∙ ap (sort_of s) walked_is)
-    ∙ assignment_of s order op left right at
-    ∙ sym (ap (expression_of s order) (is ∙ assign_form op left right at))
+pub assignment_walked : {E : Type 0} (s : Scope) (order : List ℕ) (e : Expr) (op : Option BinOp) (left right one two : Expr) (at : ℕ) (value : TExpr) (found : Sort)
+    (made : Result Walked E) →
+    e ≡ expr.Assign op left right at → one ≡ left → two ≡ right → value ≡ expression_of s order two → found ≡ sort_of s two →
+    IfOk made (λ w. w ≡ record {
+      shape = shape.Value (assigning op (sort_of s one) found (assigned (is_number_place s one) (place_of s order one)) value);
+      sort = sort_of_assignment op (is_number_place s one) (is_message_place s one) (sort_of s one) found;
+    }) → WasWalked s order e made
+assignment_walked s order e op left right one two at value found made is one_is two_is value_is found_is there =
+    let whole = is ∙ assign_form op left right at in
+    let value_known : value ≡ expression_of s order right = value_is ∙ ap (expression_of s order) two_is in
+    let found_known : found ≡ sort_of s right = found_is ∙ ap (sort_of s) two_is in
+    was_walked s order e made _ there (λ w same. record {
+      value = ap (λ (w : Walked). value_in w.shape) same
+          ∙ ap (λ l. assigning op (sort_of s l) found (assigned (is_number_place s l) (place_of s order l)) value) one_is
+          ∙ ap (λ v. assigning op (sort_of s left) found (assigned (is_number_place s left) (place_of s order left)) v) value_known
+          ∙ ap (λ k. assigning op (sort_of s left) k (assigned (is_number_place s left) (place_of s order left)) (expression_of s order right)) found_known
+          ∙ assignment_of s order op left right at
+          ∙ sym (ap (expression_of s order) whole);
+      place = ap (λ (w : Walked). place_in w.shape) same ∙ sym (ap (place_of s order) whole);
+      sort = ap (λ (w : Walked). w.sort) same
+          ∙ ap (λ l. sort_of_assignment op (is_number_place s l) (is_message_place s l) (sort_of s l) found) one_is
+          ∙ ap (sort_of_assignment op (is_number_place s left) (is_message_place s left) (sort_of s left)) found_known
+          ∙ sym (ap (sort_of s) whole);
+    })
+
+-- the left side of an assignment
+pub left_walked : {E : Type 0} (s : Scope) (order : List ℕ) (e : Expr) (op : Option BinOp) (is_place is_message : Bool) (l : Walked) (value : TExpr) (found : Sort)
+    (made : Result Walked E) →
+    is_place ≡ is_number_place s e → is_message ≡ is_message_place s e → place_in l.shape ≡ place_of s order e → l.sort ≡ sort_of s e →
+    IfOk made (λ w. w ≡ record {
+      shape = shape.Value (assigning op l.sort found (assigned is_place (place_in l.shape)) value);
+      sort = sort_of_assignment op is_place is_message l.sort found;
+    }) →
+    IfOk made (λ w. w ≡ record {
+      shape = shape.Value (assigning op (sort_of s e) found (assigned (is_number_place s e) (place_of s order e)) value);
+      sort = sort_of_assignment op (is_number_place s e) (is_message_place s e) (sort_of s e) found;
+    })
+left_walked s order e op is_place is_message l value found made place_known message_known place_is sort_is there =
+    let by : Sort → Bool → Bool → Option Place → Walked = λ k b m p. record {
+      shape = shape.Value (assigning op k found (assigned b p) value);
+      sort = sort_of_assignment op b m k found;
+    } in
+    subst (λ x. IfOk made (λ w. w ≡ x))
+    (ap (λ k. by k is_place is_message (place_in l.shape)) sort_is
+    ∙ ap (λ b. by (sort_of s e) b is_message (place_in l.shape)) place_known
+    ∙ ap (λ m. by (sort_of s e) (is_number_place s e) m (place_in l.shape)) message_known
+    ∙ ap (by (sort_of s e) (is_number_place s e) (is_message_place s e)) place_is)
+    there
+
+-- a binary operator
+pub binary_walked : {E : Type 0} (s : Scope) (order : List ℕ) (e : Expr) (op : BinOp) (left right one two : Expr) (at : ℕ) (value : TExpr) (found : Sort)
+    (made : Result Walked E) →
+    e ≡ expr.Binary op left right at → one ≡ left → two ≡ right → value ≡ expression_of s order one → found ≡ sort_of s one →
+    IfOk made (λ w. w ≡ record {
+      shape = shape.Value (operation op (working_kind op (kind_in found) (kind_in (sort_of s two))) value (expression_of s order two));
+      sort = sort_of_binary op found (sort_of s two);
+    }) → WasWalked s order e made
+binary_walked s order e op left right one two at value found made is one_is two_is value_is found_is there =
+    let whole = is ∙ binary_form op left right at in
+    let value_known : value ≡ expression_of s order left = value_is ∙ ap (expression_of s order) one_is in
+    let found_known : found ≡ sort_of s left = found_is ∙ ap (sort_of s) one_is in
+    was_walked s order e made _ there (λ w same. record {
+      value = ap (λ (w : Walked). value_in w.shape) same
+          ∙ ap (λ r. operation op (working_kind op (kind_in found) (kind_in (sort_of s r))) value (expression_of s order r)) two_is
+          ∙ ap (λ v. operation op (working_kind op (kind_in found) (kind_in (sort_of s right))) v (expression_of s order right)) value_known
+          ∙ ap (λ k. operation op (working_kind op (kind_in k) (kind_in (sort_of s right))) (expression_of s order left) (expression_of s order right)) found_known
+          ∙ sym (ap (expression_of s order) whole);
+      place = ap (λ (w : Walked). place_in w.shape) same ∙ sym (ap (place_of s order) whole);
+      sort = ap (λ (w : Walked). w.sort) same
+          ∙ ap (λ r. sort_of_binary op found (sort_of s r)) two_is
+          ∙ ap (λ k. sort_of_binary op k (sort_of s right)) found_known
+          ∙ sym (ap (sort_of s) whole);
+    })
 
 -- one of the parts of `?:`
 pub record IsPart (s : Scope) (order : List ℕ) (e : Expr) (tree : TExpr) (found : Sort) : Type 0 where
@@ -196,15 +332,15 @@ pub record IsPart (s : Scope) (order : List ℕ) (e : Expr) (tree : TExpr) (foun
   pub sort_is : found ≡ sort_of s e
 
 -- a part that is walked over through a reference
-pub part_of : (s : Scope) (order : List ℕ) (e walked : Expr) (tree value : TExpr) (one two : Sort) → walked ≡ e → tree ≡ value → value ≡ expression_of s order walked →
-    two ≡ one → one ≡ sort_of s walked → IsPart s order e tree two
-part_of s order e walked tree value one two is tree_is value_is two_is one_is = record {
-  tree_is = tree_is ∙ value_is ∙ ap (expression_of s order) is;
-  sort_is = two_is ∙ one_is ∙ ap (sort_of s) is;
+pub part_of : (s : Scope) (order : List ℕ) (e walked : Expr) (tree : TExpr) (found : Sort) → walked ≡ e → tree ≡ expression_of s order walked →
+    found ≡ sort_of s walked → IsPart s order e tree found
+part_of s order e walked tree found is tree_is found_is = record {
+  tree_is = tree_is ∙ ap (expression_of s order) is;
+  sort_is = found_is ∙ ap (sort_of s) is;
 }
 
 -- `?:`
-pub choice_made : (s : Scope) (order : List ℕ) (e test first second : Expr) (at : ℕ) (t y n : TExpr) (a b c : Sort) (w : Walked) →
+choice_made : (s : Scope) (order : List ℕ) (e test first second : Expr) (at : ℕ) (t y n : TExpr) (a b c : Sort) (w : Walked) →
     e ≡ expr.Cond test first second at → IsPart s order test t a → IsPart s order first y b → IsPart s order second n c →
     w ≡ record {
       shape = shape.Value (Cond t (Convert (join (kind_in b) (kind_in c)) y) (Convert (join (kind_in b) (kind_in c)) n));
@@ -228,3 +364,13 @@ choice_made s order e test first second at t y n a b c w is test_is yes_is no_is
           ∙ ap (λ k. sort_of_choice (sort_of s test) (sort_of s first) k) no_is.sort_is
           ∙ sym (ap (sort_of s) whole);
     }
+
+-- `?:` was walked over
+pub choice_walked : {E : Type 0} (s : Scope) (order : List ℕ) (e test first second : Expr) (at : ℕ) (t y n : TExpr) (a b c : Sort) (made : Result Walked E) →
+    e ≡ expr.Cond test first second at → IsPart s order test t a → IsPart s order first y b → IsPart s order second n c →
+    IfOk made (λ w. w ≡ record {
+      shape = shape.Value (Cond t (Convert (join (kind_in b) (kind_in c)) y) (Convert (join (kind_in b) (kind_in c)) n));
+      sort = sort_of_choice a b c;
+    }) → WasWalked s order e made
+choice_walked s order e test first second at t y n a b c made is test_is yes_is no_is there =
+    was_walked s order e made _ there (λ w same. choice_made s order e test first second at t y n a b c w is test_is yes_is no_is same)

@@ -110,6 +110,14 @@ fn language_call(
     }
 }
 
+/// The trees alone.
+fn trees_in(row: Row) -> Vec<TExpr>
+    ensures { result.items ≡ row.trees.items }
+{
+    let Row { trees, .. } = row;
+    trees
+}
+
 /// A call of the function of the program at an index.
 fn program_call(
     alloc: Global,
@@ -127,12 +135,11 @@ fn program_call(
       sort = sort_of_function (scope_in scope.entry) (function_in function.now) row.sorts.items;
     }) }
 {
-    let Row { trees, sorts } = row;
     let recursive = tables.calls.is_recursive(alloc, scope.owner, index)?;
-    let sort = sort_of_function(function, recursive, sorts.as_slice());
+    let sort = sort_of_function(function, recursive, row.sorts.as_slice());
     let tree = TExpr::Call {
         function: tables.calls.place(index),
-        args: Items::from_list(trees),
+        args: Items::from_list(trees_in(row)),
     };
     Ok(Walked {
         shape: Shape::Value(tree),

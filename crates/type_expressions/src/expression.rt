@@ -67,6 +67,5 @@ pub fn make_row(
         row.trees.items ≡ map (expression_of (scope_in scope.entry) (order_in tables.now)) all.now) }
     ensures sorts { IfOk result (λ row. row.sorts.items ≡ map (sort_of (scope_in scope.entry)) all.now) }
 {
-    let row = walk_row(alloc, scope, tables, all)?;
-    Ok(row)
+    walk_row(alloc, scope, tables, all)
 }

@@ -14,14 +14,15 @@ ghost use Rattle.check_sorts.specs.Scope.{scope_in};
 ghost use Rattle.type_expressions.specs.declared.made.Shape.TheVariants as shape;
 ghost use Rattle.type_expressions.specs.Made.{assigning, place_in, prefix_tree, value_in};
 
-use crate::made::{Part, Shape, Walked, make_part, place_in};
-use crate::tree::{choice, converted, operation, prefixed, stepping, storing, updating};
+use crate::made::{Part, Shape, Walked, make_part, place_in, value_in};
+use crate::tree::{converted, operation, prefixed, stepping, storing, updating};
 use capl_meaning::Sort;
 use check_sorts::{
     Scope, ThisForm, kind_in, number_from, sort_of_assignment, sort_of_binary, sort_of_choice,
     sort_of_number, sort_of_prefix, sort_of_step, sort_of_this, working_kind,
 };
 use int_kinds::{BinOp, Kind, UnOp, join};
+use items::Boxed;
 use std::alloc::Global;
 use texts::NoMemory;
 use typed_tree::{Place, TExpr};
@@ -152,14 +153,8 @@ pub(crate) fn prefix(
     }) }
 {
     match op {
-        UnOp::Up => {
-            let made = step(alloc, true, false, is_place, inner)?;
-            Ok(made)
-        }
-        UnOp::Down => {
-            let made = step(alloc, false, false, is_place, inner)?;
-            Ok(made)
-        }
+        UnOp::Up => step(alloc, true, false, is_place, inner),
+        UnOp::Down => step(alloc, false, false, is_place, inner),
         UnOp::Minus | UnOp::Plus | UnOp::Not | UnOp::Inv => {
             let inner = make_part(alloc, inner)?;
             let kind = join(kind_in(inner.sort), kind_in(inner.sort));
@@ -188,20 +183,67 @@ pub(crate) fn binary(op: BinOp, left: Part, right: Part) -> Walked
     }
 }
 
-/// `?:`
-pub(crate) fn choose(alloc: Global, test: Part, yes: Part, no: Part) -> Result<Walked, NoMemory>
-    ensures { IfOk result (λ walked. let k = join (kind_in yes.sort) (kind_in no.sort) in walked ≡ record {
-      shape = shape.Value (Cond test.tree (Convert k yes.tree) (Convert k no.tree));
-      sort = sort_of_choice test.sort yes.sort no.sort;
+/// The branches of a `?:`.
+#[derive(Drop)]
+pub(crate) struct Branches {
+    /// The first, converted to the kind of both.
+    yes: Boxed<TExpr>,
+    /// The other, converted to it too.
+    no: Boxed<TExpr>,
+    /// Of which sort the first is.
+    yes_sort: Sort,
+    /// Of which sort the other is.
+    no_sort: Sort,
+}
+
+/// A branch of a `?:`, converted to a kind.
+fn branch(alloc: Global, kind: Kind, shape: Shape) -> Result<Boxed<TExpr>, NoMemory>
+    ensures { IfOk result (λ made. made ≡ Convert kind (value_in shape)) }
+{
+    let inner = Boxed::new(alloc, value_in(shape))?;
+    let made = Boxed::new(alloc, converted(kind, inner))?;
+    Ok(made)
+}
+
+/// The branches of a `?:`, of what each is.
+pub(crate) fn choose(alloc: Global, yes: Walked, no: Walked) -> Result<Branches, NoMemory>
+    ensures { let kind = join (kind_in yes.sort) (kind_in no.sort) in IfOk result (λ made. made ≡ record {
+      yes = Convert kind (value_in yes.shape);
+      no = Convert kind (value_in no.shape);
+      yes_sort = yes.sort;
+      no_sort = no.sort;
     }) }
 {
     let kind = join(kind_in(yes.sort), kind_in(no.sort));
-    let sort = sort_of_choice(test.sort, yes.sort, no.sort);
-    let tree = choice(alloc, kind, test.tree, yes.tree, no.tree)?;
-    Ok(Walked {
+    let yes_sort = yes.sort;
+    let no_sort = no.sort;
+    let yes = branch(alloc, kind, yes.shape)?;
+    let no = branch(alloc, kind, no.shape)?;
+    Ok(Branches {
+        yes,
+        no,
+        yes_sort,
+        no_sort,
+    })
+}
+
+/// `?:`
+pub(crate) fn choice(test: Part, branches: Branches) -> Walked
+    ensures { result ≡ record {
+      shape = shape.Value (Cond test.tree branches.yes branches.no);
+      sort = sort_of_choice test.sort branches.yes_sort branches.no_sort;
+    } }
+{
+    let sort = sort_of_choice(test.sort, branches.yes_sort, branches.no_sort);
+    let tree = TExpr::Cond {
+        test: test.tree,
+        yes: branches.yes,
+        no: branches.no,
+    };
+    Walked {
         shape: Shape::Value(tree),
         sort,
-    })
+    }
 }
 
 /// An assignment, to what is an assignable place of a number or not, and a message variable or not.

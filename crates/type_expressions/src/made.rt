@@ -95,6 +95,13 @@ pub(crate) fn place_in(shape: Shape) -> Option<Place>
     }
 }
 
+/// The sort alone.
+pub(crate) fn sort_in(walked: Walked) -> Sort
+    ensures { result ≡ walked.sort }
+{
+    walked.sort
+}
+
 /// A part by what was made of it.
 pub(crate) fn make_part(alloc: Global, walked: Walked) -> Result<Part, NoMemory>
     ensures tree { IfOk result (λ part. part.tree ≡ value_in walked.shape) }

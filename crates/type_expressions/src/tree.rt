@@ -1,7 +1,7 @@
 // The typed forms of expressions, from the trees of their parts.
 
 ghost use Rattle.std.specs.Prelude.{◌≡◌, pos, IfOk};
-ghost use Rattle.typed_tree.specs.Forms.{Cond, Convert, Unary};
+ghost use Rattle.typed_tree.specs.Forms.{Convert, Unary};
 ghost use Rattle.typed_tree.specs.declared.expression.TExpr.TheVariants.{Const};
 ghost use Rattle.typed_tree.specs.Forms as typed;
 ghost use Rattle.capl_meaning.specs.Expression.{step_operator};
@@ -131,19 +131,4 @@ pub(crate) fn operation(op: BinOp, kind: Kind, left: Boxed<TExpr>, right: Boxed<
             right,
         },
     }
-}
-
-/// `?:`, of which both branches are converted to a kind.
-pub(crate) fn choice(
-    alloc: Global,
-    kind: Kind,
-    test: Boxed<TExpr>,
-    one: Boxed<TExpr>,
-    other: Boxed<TExpr>,
-) -> Result<TExpr, NoMemory>
-    ensures { IfOk result (λ tree. tree ≡ Cond test (Convert kind one) (Convert kind other)) }
-{
-    let yes = Boxed::new(alloc, converted(kind, one))?;
-    let no = Boxed::new(alloc, converted(kind, other))?;
-    Ok(TExpr::Cond { test, yes, no })
 }

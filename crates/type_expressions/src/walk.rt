@@ -1,19 +1,25 @@
 // The walk over an expression.
 
-ghost use Rattle.std.specs.Prelude.{◌≡◌, IfOk, map};
-ghost use Rattle.capl_meaning.specs.Sort.{sort_of};
-ghost use Rattle.typed_source.specs.Expression.{expression_of, place_of};
+ghost use Rattle.std.specs.Prelude.{◌≡◌, [], ◌∷◌, ◌++◌, IfOk, OnOk, map};
+ghost use Rattle.int_kinds.specs.Kind.{join};
+ghost use Rattle.typed_tree.specs.Forms.{Cond, Convert};
+ghost use Rattle.capl_meaning.specs.Message.{is_message_place, is_number_place};
+ghost use Rattle.capl_meaning.specs.Sort.{kind_in, sort_of, sort_of_assignment, sort_of_binary, sort_of_choice, working_kind};
+ghost use Rattle.typed_source.specs.Expression.{assigned, expression_of, operation, place_of};
 ghost use Rattle.check_sorts.specs.Scope.{scope_in};
-ghost use Rattle.type_expressions.specs.Made.{AreTreeTables, order_in, place_in, value_in};
+ghost use Rattle.type_expressions.specs.declared.made.Shape.TheVariants as shape;
+ghost use Rattle.type_expressions.specs.Made.{AreTreeTables, assigning, order_in, place_in, value_in};
 
 use crate::call::called;
 use crate::form::{
-    assign, binary, cast, character, choose, no_member, number, prefix, step, text, this_word,
+    assign, binary, cast, character, choice, choose, no_member, number, prefix, step, text,
+    this_word,
 };
-use crate::made::{Row, TreeTables, Walked, make_part, value_in};
+use crate::made::{Part, Row, TreeTables, Walked, make_part, sort_in, value_in};
 use crate::place::{element, member, name, payload};
 use capl_tree::{Expr, Field};
 use check_sorts::Scope;
+use int_kinds::BinOp;
 use std::alloc::Global;
 use texts::NoMemory;
 
@@ -38,19 +44,14 @@ pub(crate) fn walk(
         Expr::Str { .. } => Ok(text()),
         Expr::This { .. } => Ok(this_word(scope)),
         Expr::Name { name: word, at } => Ok(name(scope, tables, word.bytes(), *at)),
-        Expr::Paren { inner, .. } => {
-            let inner = walk(alloc, scope, tables, inner.get())?;
-            Ok(inner)
-        }
+        Expr::Paren { inner, .. } => walk(alloc, scope, tables, inner.get()),
         Expr::Call { name, args, .. } => {
             let row = walk_row(alloc, scope, tables, args.as_slice())?;
-            let call = called(alloc, scope, tables, name.bytes(), args.as_slice(), row)?;
-            Ok(call)
+            called(alloc, scope, tables, name.bytes(), args.as_slice(), row)
         }
         Expr::Index { base, index, .. } => {
-            let sort = walk(alloc, scope, tables, base.get())?.sort;
-            let index = walk(alloc, scope, tables, index.get())?;
-            let index = make_part(alloc, index)?;
+            let sort = sort_in(walk(alloc, scope, tables, base.get())?);
+            let index = walk_part(alloc, scope, tables, index.get())?;
             Ok(element(scope, tables, base.get(), sort, index))
         }
         Expr::Member { base, field, .. } => match scope.message_in(base.get()) {
@@ -58,28 +59,24 @@ pub(crate) fn walk(
             Some(held) => match field {
                 Field::Named { name, .. } => Ok(member(tables, held, name.bytes())),
                 Field::Bytes { kind, index, .. } => {
-                    let index = walk(alloc, scope, tables, index.get())?;
-                    let index = make_part(alloc, index)?;
+                    let index = walk_part(alloc, scope, tables, index.get())?;
                     Ok(payload(tables, held, *kind, index))
                 }
             },
         },
         Expr::Cast { kind, inner, .. } => {
-            let inner = walk(alloc, scope, tables, inner.get())?;
-            let inner = make_part(alloc, inner)?;
+            let inner = walk_part(alloc, scope, tables, inner.get())?;
             Ok(cast(*kind, inner))
         }
         Expr::Unary { op, inner, .. } => {
             let is_place = scope.is_number_place(inner.get());
             let inner = walk(alloc, scope, tables, inner.get())?;
-            let made = prefix(alloc, *op, is_place, inner)?;
-            Ok(made)
+            prefix(alloc, *op, is_place, inner)
         }
         Expr::Post { up, inner, .. } => {
             let is_place = scope.is_number_place(inner.get());
             let inner = walk(alloc, scope, tables, inner.get())?;
-            let made = step(alloc, *up, true, is_place, inner)?;
-            Ok(made)
+            step(alloc, *up, true, is_place, inner)
         }
         Expr::Binary {
             op,
@@ -87,21 +84,13 @@ pub(crate) fn walk(
             right,
             ..
         } => {
-            let left = walk(alloc, scope, tables, left.get())?;
-            let left = make_part(alloc, left)?;
-            let right = walk(alloc, scope, tables, right.get())?;
-            let right = make_part(alloc, right)?;
-            Ok(binary(*op, left, right))
+            let left = walk_part(alloc, scope, tables, left.get())?;
+            walk_binary(alloc, scope, tables, right.get(), *op, left)
         }
         Expr::Cond { test, yes, no, .. } => {
-            let test = walk(alloc, scope, tables, test.get())?;
-            let test = make_part(alloc, test)?;
             let yes = walk(alloc, scope, tables, yes.get())?;
-            let yes = make_part(alloc, yes)?;
             let no = walk(alloc, scope, tables, no.get())?;
-            let no = make_part(alloc, no)?;
-            let made = choose(alloc, test, yes, no)?;
-            Ok(made)
+            walk_choice(alloc, scope, tables, test.get(), yes, no)
         }
         Expr::Assign {
             op,
@@ -109,15 +98,101 @@ pub(crate) fn walk(
             right,
             ..
         } => {
-            let is_place = scope.is_number_place(left.get());
-            let is_message = scope.is_message_place(left.get());
-            let right = walk(alloc, scope, tables, right.get())?;
-            let right = make_part(alloc, right)?;
-            let left = walk(alloc, scope, tables, left.get())?;
-            let made = assign(alloc, *op, is_place, is_message, left, right)?;
-            Ok(made)
+            let right = walk_part(alloc, scope, tables, right.get())?;
+            walk_assignment(alloc, scope, tables, left.get(), *op, right)
         }
     }
+}
+
+/// What an expression is that stands in another.
+#[cycle(walk)]
+fn walk_part(alloc: Global, scope: Scope, tables: &TreeTables, e: &Expr) -> Result<Part, NoMemory>
+    requires { AreTreeTables scope.names.now tables.now }
+    ensures tree { IfOk result (λ part.
+        part.tree ≡ expression_of (scope_in scope.entry) (order_in tables.now) e.now) }
+    ensures sort { IfOk result (λ part. part.sort ≡ sort_of (scope_in scope.entry) e.now) }
+{
+    let walked = walk(alloc, scope, tables, e)?;
+    make_part(alloc, walked)
+}
+
+/// A binary operator behind its left side.
+#[cycle(walk)]
+fn walk_binary(
+    alloc: Global,
+    scope: Scope,
+    tables: &TreeTables,
+    right: &Expr,
+    op: BinOp,
+    left: Part,
+) -> Result<Walked, NoMemory>
+    requires { AreTreeTables scope.names.now tables.now }
+    ensures { let s = scope_in scope.entry in IfOk result (λ walked. walked ≡ record {
+      shape = shape.Value (operation op (working_kind op (kind_in left.sort) (kind_in (sort_of s right.now)))
+          left.tree (expression_of s (order_in tables.now) right.now));
+      sort = sort_of_binary op left.sort (sort_of s right.now);
+    }) }
+{
+    let right = walk_part(alloc, scope, tables, right)?;
+    Ok(binary(op, left, right))
+}
+
+/// `?:` before what its branches are.
+#[cycle(walk)]
+fn walk_choice(
+    alloc: Global,
+    scope: Scope,
+    tables: &TreeTables,
+    test: &Expr,
+    yes: Walked,
+    no: Walked,
+) -> Result<Walked, NoMemory>
+    requires { AreTreeTables scope.names.now tables.now }
+    ensures { let s = scope_in scope.entry in IfOk result (λ walked.
+        let k = join (kind_in yes.sort) (kind_in no.sort) in walked ≡ record {
+          shape = shape.Value (Cond (expression_of s (order_in tables.now) test.now)
+              (Convert k (value_in yes.shape)) (Convert k (value_in no.shape)));
+          sort = sort_of_choice (sort_of s test.now) yes.sort no.sort;
+        }) }
+{
+    let branches = choose(alloc, yes, no)?;
+    let test = walk_part(alloc, scope, tables, test)?;
+    Ok(choice(test, branches))
+}
+
+/// An assignment of a value to what stands on the left.
+#[cycle(walk)]
+fn walk_assignment(
+    alloc: Global,
+    scope: Scope,
+    tables: &TreeTables,
+    left: &Expr,
+    op: Option<BinOp>,
+    right: Part,
+) -> Result<Walked, NoMemory>
+    requires { AreTreeTables scope.names.now tables.now }
+    ensures { let s = scope_in scope.entry in IfOk result (λ walked. walked ≡ record {
+      shape = shape.Value (assigning op (sort_of s left.now) right.sort
+          (assigned (is_number_place s left.now) (place_of s (order_in tables.now) left.now)) right.tree);
+      sort = sort_of_assignment op (is_number_place s left.now) (is_message_place s left.now)
+          (sort_of s left.now) right.sort;
+    }) }
+{
+    let is_place = scope.is_number_place(left);
+    let is_message = scope.is_message_place(left);
+    let left = walk(alloc, scope, tables, left)?;
+    assign(alloc, op, is_place, is_message, left, right)
+}
+
+/// Appends what a walk made of an expression.
+fn push_walked(walked: Walked, into: &mut Row) -> Result<(), NoMemory>
+    ensures trees { OnOk result (into.new.trees.items ≡ into.old.trees.items ++ value_in walked.shape ∷ []) }
+    ensures sorts { OnOk result (into.new.sorts.items ≡ into.old.sorts.items ++ walked.sort ∷ []) }
+{
+    let Walked { shape, sort } = walked;
+    into.trees.push(value_in(shape))?;
+    into.sorts.push(sort)?;
+    Ok(())
 }
 
 /// What expressions in a row are.
@@ -133,12 +208,13 @@ pub(crate) fn walk_row(
         row.trees.items ≡ map (expression_of (scope_in scope.entry) (order_in tables.now)) all.now) }
     ensures sorts { IfOk result (λ row. row.sorts.items ≡ map (sort_of (scope_in scope.entry)) all.now) }
 {
-    let mut trees = Vec::new(alloc);
-    let mut sorts = Vec::new(alloc);
+    let mut row = Row {
+        trees: Vec::new(alloc),
+        sorts: Vec::new(alloc),
+    };
     for e in all {
         let walked = walk(alloc, scope, tables, e)?;
-        sorts.push(walked.sort)?;
-        trees.push(value_in(walked.shape))?;
+        push_walked(walked, &mut row)?;
     }
-    Ok(Row { trees, sorts })
+    Ok(row)
 }

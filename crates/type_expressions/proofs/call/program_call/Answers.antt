@@ -24,6 +24,6 @@ call_made f place args trees one two place_is args_are same =
 pub returns : goal.returns
 returns c =
     let f = function_in c.args.function.now in
-    call_made _ _ _ _ _ _ (c.place.ensures c.args.scope.names.now f c.requires.tables.calls c.requires.function) c.from_list.ensures
+    call_made _ _ _ _ _ _ (c.place.ensures c.args.scope.names.now f c.requires.tables.calls c.requires.function) (c.from_list.ensures ∙ c.trees_in.ensures)
     (c.sort_of_function-sort.ensures (scope_in c.args.scope) (c.in_ok-recursive.ensures (scope_in c.args.scope) f c.requires.tables.calls refl c.requires.function)
     ∙ ap (sort_of_function (scope_in c.args.scope) f) c.as_slice.ensures.value)

@@ -1,29 +1,42 @@
 -- What the walk makes of calls, members, operators and assignments.
-use Rattle.std.proofs.Common.{◌∙◌, sym}
+use Rattle.std.proofs.Common.{refl}
 use Rattle.check_sorts.specs.Scope.{scope_in}
 use Rattle.type_expressions.specs.Made.{order_in}
-use Rattle.type_expressions.proofs.CallLemmas.{call_place}
-use Rattle.type_expressions.proofs.WalkLemmas.{assignment_made, bytes_made, call_sort_made, call_tree_made, choice_made, named_made, part_of, prefix_made, there}
+use Rattle.type_expressions.proofs.WalkLemmas.{assignment_walked, binary_walked, bytes_made, call_walked, choice_walked, left_walked, named_made, paren_walked, part_of, prefix_walked, step_walked, there}
 use Rattle.type_expressions.proofs.walk.+walk.Goals as goal
 
-pub walk-returns-in_ok-call-in-Call-clause-value :
-    goal.walk-returns-in_ok-call-in-Call-clause-value
-walk-returns-in_ok-call-in-Call-clause-value t c =
-    call_tree_made (scope_in c.args.scope) (order_in c.args.tables.now) c.args.e.now _ _ _ _ _ _ _ _
+pub walk-returns-in-Paren-clause-value : goal.walk-returns-in-Paren-clause-value
+walk-returns-in-Paren-clause-value t c =
+    (paren_walked (scope_in c.args.scope) (order_in c.args.tables.now) c.args.e.now _ _ _ c.walk.result
+    c.in-Paren.is c.get.ensures c.walk.ensures.value c.walk.ensures.place c.walk.ensures.sort).value
+
+pub walk-returns-in-Paren-clause-place : goal.walk-returns-in-Paren-clause-place
+walk-returns-in-Paren-clause-place t c =
+    (paren_walked (scope_in c.args.scope) (order_in c.args.tables.now) c.args.e.now _ _ _ c.walk.result
+    c.in-Paren.is c.get.ensures c.walk.ensures.value c.walk.ensures.place c.walk.ensures.sort).place
+
+pub walk-returns-in-Paren-clause-sort : goal.walk-returns-in-Paren-clause-sort
+walk-returns-in-Paren-clause-sort t c =
+    (paren_walked (scope_in c.args.scope) (order_in c.args.tables.now) c.args.e.now _ _ _ c.walk.result
+    c.in-Paren.is c.get.ensures c.walk.ensures.value c.walk.ensures.place c.walk.ensures.sort).sort
+
+pub walk-returns-in_ok-row-in-Call-clause-value : goal.walk-returns-in_ok-row-in-Call-clause-value
+walk-returns-in_ok-row-in-Call-clause-value t c =
+    (call_walked (scope_in c.args.scope) (order_in c.args.tables.now) c.args.e.now _ _ _ _ _ _ _ _ c.called.result
     c.in-Call.is c.bytes-in-Call.ensures c.as_slice.ensures c.as_slice-in-Call.ensures c.in_ok-row-in-Call.ensures.trees
-    c.in_ok-call-in-Call.ensures.value
+    c.in_ok-row-in-Call.ensures.sorts c.called.ensures.value c.called.ensures.place c.called.ensures.sort).value
 
-pub walk-returns-in_ok-call-in-Call-clause-place :
-    goal.walk-returns-in_ok-call-in-Call-clause-place
-walk-returns-in_ok-call-in-Call-clause-place t c =
-    c.in_ok-call-in-Call.ensures.place
-    ∙ sym (call_place (scope_in c.args.scope) (order_in c.args.tables.now) c.args.e.now _ _ _ c.in-Call.is)
+pub walk-returns-in_ok-row-in-Call-clause-place : goal.walk-returns-in_ok-row-in-Call-clause-place
+walk-returns-in_ok-row-in-Call-clause-place t c =
+    (call_walked (scope_in c.args.scope) (order_in c.args.tables.now) c.args.e.now _ _ _ _ _ _ _ _ c.called.result
+    c.in-Call.is c.bytes-in-Call.ensures c.as_slice.ensures c.as_slice-in-Call.ensures c.in_ok-row-in-Call.ensures.trees
+    c.in_ok-row-in-Call.ensures.sorts c.called.ensures.value c.called.ensures.place c.called.ensures.sort).place
 
-pub walk-returns-in_ok-call-in-Call-clause-sort : goal.walk-returns-in_ok-call-in-Call-clause-sort
-walk-returns-in_ok-call-in-Call-clause-sort t c =
-    call_sort_made (scope_in c.args.scope) c.args.e.now _ _ _ _ _ _ _ _
-    c.in-Call.is c.bytes-in-Call.ensures c.as_slice.ensures c.as_slice-in-Call.ensures c.in_ok-row-in-Call.ensures.sorts
-    c.in_ok-call-in-Call.ensures.sort
+pub walk-returns-in_ok-row-in-Call-clause-sort : goal.walk-returns-in_ok-row-in-Call-clause-sort
+walk-returns-in_ok-row-in-Call-clause-sort t c =
+    (call_walked (scope_in c.args.scope) (order_in c.args.tables.now) c.args.e.now _ _ _ _ _ _ _ _ c.called.result
+    c.in-Call.is c.bytes-in-Call.ensures c.as_slice.ensures c.as_slice-in-Call.ensures c.in_ok-row-in-Call.ensures.trees
+    c.in_ok-row-in-Call.ensures.sorts c.called.ensures.value c.called.ensures.place c.called.ensures.sort).sort
 
 pub walk-member-requires : goal.walk-member-requires
 walk-member-requires t c =
@@ -48,66 +61,137 @@ walk-returns-in-Named-clause-sort t c =
     c.in-Member.is c.in-Named.is c.get-in-Member.ensures c.bytes-in-Named.ensures c.in-Some.ensures
     (λ message held_is. c.member.ensures c.args.scope.names.now message c.requires held_is)).sort
 
-pub walk-returns-in_ok-index-in-Bytes-2-clause-value :
-    goal.walk-returns-in_ok-index-in-Bytes-2-clause-value
-walk-returns-in_ok-index-in-Bytes-2-clause-value t c =
+pub walk-returns-in_ok-index-in-Bytes-clause-value :
+    goal.walk-returns-in_ok-index-in-Bytes-clause-value
+walk-returns-in_ok-index-in-Bytes-clause-value t c =
     (bytes_made (scope_in c.args.scope) (order_in c.args.tables.now) c.args.e.now _ _ _ _ _ _ _ _ _ _ _ c.payload.result
     c.in-Member.is c.in-Bytes.is c.get-in-Member.ensures c.get-in-Bytes.ensures
-    (c.in_ok-index-in-Bytes-2.ensures.tree ∙ c.in_ok-index-in-Bytes.ensures.value)
-    (c.in_ok-index-in-Bytes-2.ensures.sort ∙ c.in_ok-index-in-Bytes.ensures.sort) c.in-Some.ensures
+    c.in_ok-index-in-Bytes.ensures.tree c.in_ok-index-in-Bytes.ensures.sort c.in-Some.ensures
     (λ message held_is. c.payload.ensures c.args.scope.names.now message c.requires held_is)).value
 
-pub walk-returns-in_ok-index-in-Bytes-2-clause-place :
-    goal.walk-returns-in_ok-index-in-Bytes-2-clause-place
-walk-returns-in_ok-index-in-Bytes-2-clause-place t c =
+pub walk-returns-in_ok-index-in-Bytes-clause-place :
+    goal.walk-returns-in_ok-index-in-Bytes-clause-place
+walk-returns-in_ok-index-in-Bytes-clause-place t c =
     (bytes_made (scope_in c.args.scope) (order_in c.args.tables.now) c.args.e.now _ _ _ _ _ _ _ _ _ _ _ c.payload.result
     c.in-Member.is c.in-Bytes.is c.get-in-Member.ensures c.get-in-Bytes.ensures
-    (c.in_ok-index-in-Bytes-2.ensures.tree ∙ c.in_ok-index-in-Bytes.ensures.value)
-    (c.in_ok-index-in-Bytes-2.ensures.sort ∙ c.in_ok-index-in-Bytes.ensures.sort) c.in-Some.ensures
+    c.in_ok-index-in-Bytes.ensures.tree c.in_ok-index-in-Bytes.ensures.sort c.in-Some.ensures
     (λ message held_is. c.payload.ensures c.args.scope.names.now message c.requires held_is)).place
 
-pub walk-returns-in_ok-index-in-Bytes-2-clause-sort :
-    goal.walk-returns-in_ok-index-in-Bytes-2-clause-sort
-walk-returns-in_ok-index-in-Bytes-2-clause-sort t c =
+pub walk-returns-in_ok-index-in-Bytes-clause-sort :
+    goal.walk-returns-in_ok-index-in-Bytes-clause-sort
+walk-returns-in_ok-index-in-Bytes-clause-sort t c =
     (bytes_made (scope_in c.args.scope) (order_in c.args.tables.now) c.args.e.now _ _ _ _ _ _ _ _ _ _ _ c.payload.result
     c.in-Member.is c.in-Bytes.is c.get-in-Member.ensures c.get-in-Bytes.ensures
-    (c.in_ok-index-in-Bytes-2.ensures.tree ∙ c.in_ok-index-in-Bytes.ensures.value)
-    (c.in_ok-index-in-Bytes-2.ensures.sort ∙ c.in_ok-index-in-Bytes.ensures.sort) c.in-Some.ensures
+    c.in_ok-index-in-Bytes.ensures.tree c.in_ok-index-in-Bytes.ensures.sort c.in-Some.ensures
     (λ message held_is. c.payload.ensures c.args.scope.names.now message c.requires held_is)).sort
 
-pub walk-returns-in_ok-made-in-Unary-clause-value :
-    goal.walk-returns-in_ok-made-in-Unary-clause-value
-walk-returns-in_ok-made-in-Unary-clause-value t c =
-    prefix_made (scope_in c.args.scope) (order_in c.args.tables.now) c.args.e.now _ _ _ _ _ _ c.in_ok-inner-in-Unary.inner c.in_ok-made-in-Unary.made _
+pub walk-returns-in_ok-inner-in-Unary-clause-value : goal.walk-returns-in_ok-inner-in-Unary-clause-value
+walk-returns-in_ok-inner-in-Unary-clause-value t c =
+    (prefix_walked (scope_in c.args.scope) (order_in c.args.tables.now) c.args.e.now _ _ _ _ _ _ c.in_ok-inner-in-Unary.inner c.prefix.result
     c.in-Unary.is c.get-in-Unary.ensures c.get-in-Unary-2.ensures c.is_number_place-is_place.ensures
-    c.in_ok-inner-in-Unary.ensures.value c.in_ok-inner-in-Unary.ensures.place c.in_ok-inner-in-Unary.ensures.sort
-    c.in_ok-made-in-Unary.ensures
+    (record { value = c.in_ok-inner-in-Unary.ensures.value; place = c.in_ok-inner-in-Unary.ensures.place; sort = c.in_ok-inner-in-Unary.ensures.sort })
+    c.prefix.ensures).value
 
-pub walk-returns-in_ok-made-in-Cond-clause-value :
-    goal.walk-returns-in_ok-made-in-Cond-clause-value
-walk-returns-in_ok-made-in-Cond-clause-value t c =
-    (choice_made (scope_in c.args.scope) (order_in c.args.tables.now) c.args.e.now _ _ _ _ _ _ _ _ _ _ c.in_ok-made-in-Cond.made
+pub walk-returns-in_ok-inner-in-Unary-clause-place : goal.walk-returns-in_ok-inner-in-Unary-clause-place
+walk-returns-in_ok-inner-in-Unary-clause-place t c =
+    (prefix_walked (scope_in c.args.scope) (order_in c.args.tables.now) c.args.e.now _ _ _ _ _ _ c.in_ok-inner-in-Unary.inner c.prefix.result
+    c.in-Unary.is c.get-in-Unary.ensures c.get-in-Unary-2.ensures c.is_number_place-is_place.ensures
+    (record { value = c.in_ok-inner-in-Unary.ensures.value; place = c.in_ok-inner-in-Unary.ensures.place; sort = c.in_ok-inner-in-Unary.ensures.sort })
+    c.prefix.ensures).place
+
+pub walk-returns-in_ok-inner-in-Unary-clause-sort : goal.walk-returns-in_ok-inner-in-Unary-clause-sort
+walk-returns-in_ok-inner-in-Unary-clause-sort t c =
+    (prefix_walked (scope_in c.args.scope) (order_in c.args.tables.now) c.args.e.now _ _ _ _ _ _ c.in_ok-inner-in-Unary.inner c.prefix.result
+    c.in-Unary.is c.get-in-Unary.ensures c.get-in-Unary-2.ensures c.is_number_place-is_place.ensures
+    (record { value = c.in_ok-inner-in-Unary.ensures.value; place = c.in_ok-inner-in-Unary.ensures.place; sort = c.in_ok-inner-in-Unary.ensures.sort })
+    c.prefix.ensures).sort
+
+pub walk-returns-in_ok-inner-in-Post-clause-value : goal.walk-returns-in_ok-inner-in-Post-clause-value
+walk-returns-in_ok-inner-in-Post-clause-value t c =
+    (step_walked (scope_in c.args.scope) (order_in c.args.tables.now) c.args.e.now _ _ _ _ _ _ c.in_ok-inner-in-Post.inner c.step.result
+    c.in-Post.is c.get-in-Post.ensures c.get-in-Post-2.ensures c.is_number_place-is_place-in-Post.ensures
+    (record { value = c.in_ok-inner-in-Post.ensures.value; place = c.in_ok-inner-in-Post.ensures.place; sort = c.in_ok-inner-in-Post.ensures.sort })
+    c.step.ensures).value
+
+pub walk-returns-in_ok-inner-in-Post-clause-place : goal.walk-returns-in_ok-inner-in-Post-clause-place
+walk-returns-in_ok-inner-in-Post-clause-place t c =
+    (step_walked (scope_in c.args.scope) (order_in c.args.tables.now) c.args.e.now _ _ _ _ _ _ c.in_ok-inner-in-Post.inner c.step.result
+    c.in-Post.is c.get-in-Post.ensures c.get-in-Post-2.ensures c.is_number_place-is_place-in-Post.ensures
+    (record { value = c.in_ok-inner-in-Post.ensures.value; place = c.in_ok-inner-in-Post.ensures.place; sort = c.in_ok-inner-in-Post.ensures.sort })
+    c.step.ensures).place
+
+pub walk-returns-in_ok-inner-in-Post-clause-sort : goal.walk-returns-in_ok-inner-in-Post-clause-sort
+walk-returns-in_ok-inner-in-Post-clause-sort t c =
+    (step_walked (scope_in c.args.scope) (order_in c.args.tables.now) c.args.e.now _ _ _ _ _ _ c.in_ok-inner-in-Post.inner c.step.result
+    c.in-Post.is c.get-in-Post.ensures c.get-in-Post-2.ensures c.is_number_place-is_place-in-Post.ensures
+    (record { value = c.in_ok-inner-in-Post.ensures.value; place = c.in_ok-inner-in-Post.ensures.place; sort = c.in_ok-inner-in-Post.ensures.sort })
+    c.step.ensures).sort
+
+pub walk-returns-in_ok-left-in-Binary-clause-value : goal.walk-returns-in_ok-left-in-Binary-clause-value
+walk-returns-in_ok-left-in-Binary-clause-value t c =
+    (binary_walked (scope_in c.args.scope) (order_in c.args.tables.now) c.args.e.now _ _ _ _ _ _ _ _ c.walk_binary.result
+    c.in-Binary.is c.get-in-Binary.ensures c.get-in-Binary-2.ensures c.in_ok-left-in-Binary.ensures.tree
+    c.in_ok-left-in-Binary.ensures.sort c.walk_binary.ensures).value
+
+pub walk-returns-in_ok-left-in-Binary-clause-place : goal.walk-returns-in_ok-left-in-Binary-clause-place
+walk-returns-in_ok-left-in-Binary-clause-place t c =
+    (binary_walked (scope_in c.args.scope) (order_in c.args.tables.now) c.args.e.now _ _ _ _ _ _ _ _ c.walk_binary.result
+    c.in-Binary.is c.get-in-Binary.ensures c.get-in-Binary-2.ensures c.in_ok-left-in-Binary.ensures.tree
+    c.in_ok-left-in-Binary.ensures.sort c.walk_binary.ensures).place
+
+pub walk-returns-in_ok-left-in-Binary-clause-sort : goal.walk-returns-in_ok-left-in-Binary-clause-sort
+walk-returns-in_ok-left-in-Binary-clause-sort t c =
+    (binary_walked (scope_in c.args.scope) (order_in c.args.tables.now) c.args.e.now _ _ _ _ _ _ _ _ c.walk_binary.result
+    c.in-Binary.is c.get-in-Binary.ensures c.get-in-Binary-2.ensures c.in_ok-left-in-Binary.ensures.tree
+    c.in_ok-left-in-Binary.ensures.sort c.walk_binary.ensures).sort
+
+pub walk-returns-in_ok-no-in-Cond-clause-value : goal.walk-returns-in_ok-no-in-Cond-clause-value
+walk-returns-in_ok-no-in-Cond-clause-value t c =
+    (choice_walked (scope_in c.args.scope) (order_in c.args.tables.now) c.args.e.now _ _ _ _ _ _ _ _ _ _ c.walk_choice.result
     c.in-Cond.is
-    (part_of _ _ _ _ _ _ _ _ c.get-in-Cond.ensures c.in_ok-test-in-Cond-2.ensures.tree c.in_ok-test-in-Cond.ensures.value c.in_ok-test-in-Cond-2.ensures.sort c.in_ok-test-in-Cond.ensures.sort)
-    (part_of _ _ _ _ _ _ _ _ c.get-in-Cond-2.ensures c.in_ok-yes-in-Cond-2.ensures.tree c.in_ok-yes-in-Cond.ensures.value c.in_ok-yes-in-Cond-2.ensures.sort c.in_ok-yes-in-Cond.ensures.sort)
-    (part_of _ _ _ _ _ _ _ _ c.get-in-Cond-3.ensures c.in_ok-no-in-Cond-2.ensures.tree c.in_ok-no-in-Cond.ensures.value c.in_ok-no-in-Cond-2.ensures.sort c.in_ok-no-in-Cond.ensures.sort)
-    c.in_ok-made-in-Cond.ensures).value
+    (part_of _ _ _ _ _ _ c.get-in-Cond-3.ensures refl refl)
+    (part_of _ _ _ _ _ _ c.get-in-Cond.ensures c.in_ok-yes-in-Cond.ensures.value c.in_ok-yes-in-Cond.ensures.sort)
+    (part_of _ _ _ _ _ _ c.get-in-Cond-2.ensures c.in_ok-no-in-Cond.ensures.value c.in_ok-no-in-Cond.ensures.sort)
+    c.walk_choice.ensures).value
 
-pub walk-returns-in_ok-made-in-Cond-clause-sort : goal.walk-returns-in_ok-made-in-Cond-clause-sort
-walk-returns-in_ok-made-in-Cond-clause-sort t c =
-    (choice_made (scope_in c.args.scope) (order_in c.args.tables.now) c.args.e.now _ _ _ _ _ _ _ _ _ _ c.in_ok-made-in-Cond.made
+pub walk-returns-in_ok-no-in-Cond-clause-place : goal.walk-returns-in_ok-no-in-Cond-clause-place
+walk-returns-in_ok-no-in-Cond-clause-place t c =
+    (choice_walked (scope_in c.args.scope) (order_in c.args.tables.now) c.args.e.now _ _ _ _ _ _ _ _ _ _ c.walk_choice.result
     c.in-Cond.is
-    (part_of _ _ _ _ _ _ _ _ c.get-in-Cond.ensures c.in_ok-test-in-Cond-2.ensures.tree c.in_ok-test-in-Cond.ensures.value c.in_ok-test-in-Cond-2.ensures.sort c.in_ok-test-in-Cond.ensures.sort)
-    (part_of _ _ _ _ _ _ _ _ c.get-in-Cond-2.ensures c.in_ok-yes-in-Cond-2.ensures.tree c.in_ok-yes-in-Cond.ensures.value c.in_ok-yes-in-Cond-2.ensures.sort c.in_ok-yes-in-Cond.ensures.sort)
-    (part_of _ _ _ _ _ _ _ _ c.get-in-Cond-3.ensures c.in_ok-no-in-Cond-2.ensures.tree c.in_ok-no-in-Cond.ensures.value c.in_ok-no-in-Cond-2.ensures.sort c.in_ok-no-in-Cond.ensures.sort)
-    c.in_ok-made-in-Cond.ensures).sort
+    (part_of _ _ _ _ _ _ c.get-in-Cond-3.ensures refl refl)
+    (part_of _ _ _ _ _ _ c.get-in-Cond.ensures c.in_ok-yes-in-Cond.ensures.value c.in_ok-yes-in-Cond.ensures.sort)
+    (part_of _ _ _ _ _ _ c.get-in-Cond-2.ensures c.in_ok-no-in-Cond.ensures.value c.in_ok-no-in-Cond.ensures.sort)
+    c.walk_choice.ensures).place
 
-pub walk-returns-in_ok-made-in-Assign-clause-value :
-    goal.walk-returns-in_ok-made-in-Assign-clause-value
-walk-returns-in_ok-made-in-Assign-clause-value t c =
-    assignment_made (scope_in c.args.scope) (order_in c.args.tables.now) c.args.e.now _ _ _ _ _ _ _ _ c.in_ok-left-in-Assign.left c.in_ok-made-in-Assign.made _ _ _
-    c.in-Assign.is c.get-in-Assign.ensures c.get-in-Assign-4.ensures c.get-in-Assign-3.ensures c.is_number_place-is_place-in-Assign.ensures
-    c.in_ok-left-in-Assign.ensures.place c.in_ok-left-in-Assign.ensures.sort
-    (c.in_ok-right-in-Assign-2.ensures.tree ∙ c.in_ok-right-in-Assign.ensures.value)
-    (c.in_ok-right-in-Assign-2.ensures.sort ∙ c.in_ok-right-in-Assign.ensures.sort)
-    c.in_ok-made-in-Assign.ensures
+pub walk-returns-in_ok-no-in-Cond-clause-sort : goal.walk-returns-in_ok-no-in-Cond-clause-sort
+walk-returns-in_ok-no-in-Cond-clause-sort t c =
+    (choice_walked (scope_in c.args.scope) (order_in c.args.tables.now) c.args.e.now _ _ _ _ _ _ _ _ _ _ c.walk_choice.result
+    c.in-Cond.is
+    (part_of _ _ _ _ _ _ c.get-in-Cond-3.ensures refl refl)
+    (part_of _ _ _ _ _ _ c.get-in-Cond.ensures c.in_ok-yes-in-Cond.ensures.value c.in_ok-yes-in-Cond.ensures.sort)
+    (part_of _ _ _ _ _ _ c.get-in-Cond-2.ensures c.in_ok-no-in-Cond.ensures.value c.in_ok-no-in-Cond.ensures.sort)
+    c.walk_choice.ensures).sort
+
+pub walk-returns-in_ok-right-in-Assign-clause-value : goal.walk-returns-in_ok-right-in-Assign-clause-value
+walk-returns-in_ok-right-in-Assign-clause-value t c =
+    (assignment_walked (scope_in c.args.scope) (order_in c.args.tables.now) c.args.e.now _ _ _ _ _ _ _ _ c.walk_assignment.result
+    c.in-Assign.is c.get-in-Assign-2.ensures c.get-in-Assign.ensures c.in_ok-right-in-Assign.ensures.tree
+    c.in_ok-right-in-Assign.ensures.sort c.walk_assignment.ensures).value
+
+pub walk-returns-in_ok-right-in-Assign-clause-place : goal.walk-returns-in_ok-right-in-Assign-clause-place
+walk-returns-in_ok-right-in-Assign-clause-place t c =
+    (assignment_walked (scope_in c.args.scope) (order_in c.args.tables.now) c.args.e.now _ _ _ _ _ _ _ _ c.walk_assignment.result
+    c.in-Assign.is c.get-in-Assign-2.ensures c.get-in-Assign.ensures c.in_ok-right-in-Assign.ensures.tree
+    c.in_ok-right-in-Assign.ensures.sort c.walk_assignment.ensures).place
+
+pub walk-returns-in_ok-right-in-Assign-clause-sort : goal.walk-returns-in_ok-right-in-Assign-clause-sort
+walk-returns-in_ok-right-in-Assign-clause-sort t c =
+    (assignment_walked (scope_in c.args.scope) (order_in c.args.tables.now) c.args.e.now _ _ _ _ _ _ _ _ c.walk_assignment.result
+    c.in-Assign.is c.get-in-Assign-2.ensures c.get-in-Assign.ensures c.in_ok-right-in-Assign.ensures.tree
+    c.in_ok-right-in-Assign.ensures.sort c.walk_assignment.ensures).sort
+
+pub walk_assignment-returns : goal.walk_assignment-returns
+walk_assignment-returns t c =
+    left_walked (scope_in c.args.scope) (order_in c.args.tables.now) c.args.left.now c.args.op _ _ c.in_ok-left.left c.args.right.tree c.args.right.sort
+    c.assign.result c.is_number_place-is_place.ensures c.is_message_place-is_message.ensures
+    c.in_ok-left.ensures.place c.in_ok-left.ensures.sort c.assign.ensures

@@ -9,7 +9,7 @@ use Rattle.type_expressions.proofs.walk.+walk.Given as goal
 
 abbrev pub invariant-walk_row-loop-e : goal.invariant-walk_row-loop-e
 invariant-walk_row-loop-e l = record {
-  trees : l.trees.items ++ map (expression_of (scope_in l.scope) (order_in l.tables)) (drop l.e-index l.all)
+  trees : l.row.trees.items ++ map (expression_of (scope_in l.scope) (order_in l.tables)) (drop l.e-index l.all)
       ≡ map (expression_of (scope_in l.scope) (order_in l.tables)) l.all;
-  sorts : l.sorts.items ++ map (sort_of (scope_in l.scope)) (drop l.e-index l.all) ≡ map (sort_of (scope_in l.scope)) l.all;
+  sorts : l.row.sorts.items ++ map (sort_of (scope_in l.scope)) (drop l.e-index l.all) ≡ map (sort_of (scope_in l.scope)) l.all;
 }
