@@ -1,8 +1,8 @@
 -- A format that shows the sorts of arguments fits the arguments.
 use Rattle.std.proofs.Common.{◌≡◌, ◌∙◌, ℕ, suc, Bool, true, false, List, [], ◌∷◌, Option, Some, None, length, map, refl, ap, sym, subst, arith}
-use Rattle.std.specs.Prelude.{◌==◌, ◌&&◌, cond, not, nat_lt, position}
+use Rattle.std.specs.Prelude.{◌==◌, ◌&&◌, cond, if◌then◌else◌, not, nat_lt, position}
 use Rattle.std.specs.List.{list_all, position_or_len, zip}
-use Rattle.std.specs.Option.{option_map, option_map_or}
+use Rattle.std.specs.Option.{option_and_then, option_map, option_map_or}
 use Rattle.std.proofs.lemmas.Bool.{eqb-true, ltb-true}
 use Rattle.std.proofs.lemmas.List.{length-map}
 use Rattle.std.proofs.lemmas.Option.{none-some}
@@ -14,6 +14,7 @@ use Rattle.write_format.specs.declared.code.Code.{Code}
 use Rattle.write_format.specs.declared.code.Conversion.{Conversion}
 use Rattle.write_format.specs.declared.code.Conversion.TheVariants as conversion
 use Rattle.write_format.specs.declared.piece.Piece.{Piece}
+use Rattle.write_format.specs.Format.{FormatText, format_elements}
 use Rattle.write_format.specs.Reading.{AreSpelled, HasCodesFor, IsFirstUnfit, codes_of, first_unfit, is_fit, pieces_of}
 use Rattle.capl_tree.specs.declared.expr.Expr.{Expr}
 use Rattle.capl_meaning.specs.declared.sort.Sort.{Sort}
@@ -24,8 +25,11 @@ use Rattle.capl_meaning.specs.Message.{array_in}
 use Rattle.capl_meaning.specs.Names.{Names, Scope}
 use Rattle.capl_meaning.specs.Sort.{sort_of}
 use Rattle.capl_meaning.specs.Variable.{Variable}
-use Rattle.type_statements.specs.Write.{FitFor}
-use Rattle.typed_source.specs.Statement.{argument_by, argument_of, text_argument}
+use Rattle.capl_meaning.specs.Statement.{fitting_pieces}
+use Rattle.check_sorts.specs.Format.{shown}
+use Rattle.typed_tree.specs.declared.statement.TStmt.TheVariants.{Empty, Write}
+use Rattle.type_statements.specs.Write.{AreMadeOf, FitFor, IsRead, format_written}
+use Rattle.typed_source.specs.Statement.{argument_by, argument_of, format_of, formats_written, numbers_of, pieces_written, text_argument, text_written, writing}
 
 -- the code of a text shows what is no number
 text_fits : (names : Names) (text : Option (List ℕ)) (array : Option Variable) → is_fit conversion.Text (text_argument names text array) ≡ true
@@ -130,3 +134,81 @@ pub never_wrong : (text : List ℕ) (arguments : List ArgKind) → FitFor text a
     (arg ≡ None → ¬ (HasCodesFor text arguments)) → ((place : ℕ) → arg ≡ Some place → IsFirstUnfit text arguments place) → ⊥
 never_wrong text arguments fit found spelled None wrong unfit = wrong refl (has_codes text arguments fit spelled)
 never_wrong text arguments fit found spelled (Some place) wrong unfit = none_wrong text arguments fit found place (unfit place refl)
+
+-- ---- the format of a `write`
+
+-- without a text it has none
+pub none_of_no_text : (s : Scope) (format : Expr) (all : List Expr) → quoted_text format ≡ None → None ≡ format_written s format all
+none_of_no_text s format all is =
+    sym (ap (λ text. option_map (λ pieces. format_of s (text_written format) pieces all) (fitting_pieces (map (sort_of s) all) text)) is)
+
+-- nor where its text does not show its arguments
+pub none_of_unshown : (s : Scope) (format : Expr) (all : List Expr) (kinds : List ArgKind) (sorts : List Sort) (text : List ℕ) →
+    AreMadeOf s all kinds sorts → quoted_text format ≡ Some text → shown (format_codes text) sorts ≡ false → None ≡ format_written s format all
+none_of_unshown s format all kinds sorts text made text_is unshown =
+    by (pieces_of text) (sym (ap (shown (format_codes text)) made.sorts_are) ∙ unshown)
+    ∙ sym (ap (λ text. option_map made_of (fitting_pieces (map (sort_of s) all) text)) text_is)
+  where
+    made_of : List Piece → FormatText
+    made_of pieces = format_of s (text_written format) pieces all
+
+    by : (found : Option (List Piece)) → option_map_or (λ codes. show_all codes (map (sort_of s) all)) (option_map codes_of found) false ≡ false →
+        None ≡ option_map made_of (option_and_then (λ pieces. if show_all (codes_of pieces) (map (sort_of s) all) then Some pieces else None) found)
+    by None h = refl
+    by (Some pieces) h = sym (ap (λ b. option_map made_of (if b then Some pieces else None)) h)
+
+-- it has the one that was read where its text shows its arguments
+pub some_of_shown : (s : Scope) (format : Expr) (all : List Expr) (kinds : List ArgKind) (sorts : List Sort) (text : List ℕ) (read : FormatText) →
+    AreMadeOf s all kinds sorts → quoted_text format ≡ Some text → shown (format_codes text) sorts ≡ true → IsRead text kinds read →
+    Some read ≡ format_written s format all
+some_of_shown s format all kinds sorts text read made text_is is_shown is =
+    let here : List Sort = map (sort_of s) all in
+    let by_parts : List ℕ → List ArgKind → FormatText = λ t ks. record { text = t; arguments = ks; elements = format_elements is.pieces ks } in
+    let fits : show_all (codes_of is.pieces) here ≡ true =
+    sym (ap (λ found. option_map_or (λ codes. show_all codes here) (option_map codes_of found) false) is.read)
+    ∙ sym (ap (shown (format_codes text)) made.sorts_are) ∙ is_shown in
+    let pieces : pieces_written s format all ≡ Some is.pieces =
+    ap (fitting_pieces here) text_is
+    ∙ ap (option_and_then (λ pieces. if show_all (codes_of pieces) here then Some pieces else None)) is.read
+    ∙ ap (λ b. if b then Some is.pieces else None) fits in
+    ap Some (is.same ∙ ap (by_parts text) made.kinds_are
+    ∙ ap (λ t. by_parts t (map (argument_of s) all)) (sym (ap (λ t. option_map_or (λ text. text) t []) text_is)))
+    ∙ sym (ap (option_map (λ pieces. format_of s (text_written format) pieces all)) pieces)
+
+-- what is written where there is no format
+pub record IsNothingWritten (s : Scope) (format : Expr) (all : List Expr) : Type 0 where
+  pub none : formats_written s (text_written format) (pieces_written s format all) all ≡ []
+  pub empty : (order : List ℕ) (number : ℕ) → writing s order number (pieces_written s format all) all ≡ Empty
+
+-- nothing is written where there is no format
+pub nothing_written : (s : Scope) (format : Expr) (all : List Expr) → None ≡ format_written s format all → IsNothingWritten s format all
+nothing_written s format all is =
+    let no_pieces = by (pieces_written s format all) is in
+    record {
+      none = ap (λ pieces. formats_written s (text_written format) pieces all) no_pieces;
+      empty = λ order number. ap (λ pieces. writing s order number pieces all) no_pieces;
+    }
+  where
+    by : (pieces : Option (List Piece)) → None ≡ option_map (λ pieces. format_of s (text_written format) pieces all) pieces → pieces ≡ None
+    by None h = refl
+    by (Some pieces) h = absurd (let f : None ≡ Some (format_of s (text_written format) pieces all) = h in cc)
+
+-- what is written where there is one
+pub record IsWritten (s : Scope) (format : Expr) (all : List Expr) (read : FormatText) : Type 0 where
+  pub one : formats_written s (text_written format) (pieces_written s format all) all ≡ read ∷ []
+  pub tree : (order : List ℕ) (number : ℕ) → writing s order number (pieces_written s format all) all ≡ Write number (numbers_of s order all)
+
+-- its format is written where there is one
+pub is_written : (s : Scope) (format : Expr) (all : List Expr) (read : FormatText) → Some read ≡ format_written s format all → IsWritten s format all read
+is_written s format all read is = by (pieces_written s format all) refl is
+  where
+    by : (pieces : Option (List Piece)) → pieces_written s format all ≡ pieces →
+        Some read ≡ option_map (λ pieces. format_of s (text_written format) pieces all) pieces → IsWritten s format all read
+    by None known h = absurd (let f : Some read ≡ None = h in cc)
+    by (Some pieces) known h =
+        let same : format_of s (text_written format) pieces all ≡ read =
+        let f : Some read ≡ Some (format_of s (text_written format) pieces all) = h in cc in
+        record {
+          one = ap (λ pieces. formats_written s (text_written format) pieces all) known ∙ ap (λ one. one ∷ []) same;
+          tree = λ order number. ap (λ pieces. writing s order number pieces all) known;
+        }

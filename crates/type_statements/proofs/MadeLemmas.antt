@@ -1,5 +1,5 @@
 -- Statements that are made part after part, and turns of loops.
-use Rattle.std.proofs.Common.{◌≡◌, ◌<◌, ◌≤◌, ◌+◌, ◌++◌, ◌∙◌, ℕ, List, [], ◌∷◌, Option, append_assoc, drop, get_or, length, length-append, refl, sym, ap}
+use Rattle.std.proofs.Common.{◌≡◌, ◌<◌, ◌≤◌, ◌+◌, ◌++◌, ◌∙◌, ℕ, List, [], ◌∷◌, Option, Result, Ok, Err, OnOk, append_assoc, drop, get_or, length, length-append, refl, sym, ap}
 use Rattle.std.specs.Prelude.{filter_map, flat_map, ℤ}
 use Rattle.std.specs.Option.{option_map}
 use Rattle.std.proofs.lemmas.List.{append-nil}
@@ -16,6 +16,7 @@ use Rattle.typed_tree.specs.declared.statement.TGroup.{TGroup}
 use Rattle.typed_tree.specs.declared.statement.TStmt.{TStmt}
 use Rattle.typed_tree.specs.declared.statement.TStmt.TheVariants as typed
 use Rattle.typed_tree.specs.Forms.{Convert}
+use Rattle.typed_tree.specs.Forms as loop
 use Rattle.capl_meaning.specs.Names.{Scope}
 use Rattle.capl_meaning.specs.Constant.{prefix_kind}
 use Rattle.capl_meaning.specs.Statement.{label_of}
@@ -42,6 +43,11 @@ pub part_formats : (s : Scope) (old new : List FormatText) (statement given body
     → new ≡ old ++ formats_of s given → new ≡ old ++ formats_of s statement
 part_formats s old new statement given body given_is is new_is =
     new_is ∙ ap (λ x. old ++ formats_of s x) given_is ∙ ap (λ l. old ++ l) (sym is)
+
+-- formats that are there already, whether a tree is made or not
+pub there_already : {T E P : Type 0} (made : Result T E) → P → OnOk made P
+there_already (Ok x) p = p
+there_already (Err e) p = tt
 
 -- ---- forms
 
@@ -92,6 +98,22 @@ module _ (s : Scope) (order : List ℕ) where
       → given ≡ groups → new ≡ old ++ formats_in_groups s given → new ≡ old ++ formats_of s statement
   switch_formats_made old new statement on groups given is given_is new_is =
       new_is ∙ ap (λ l. old ++ formats_in_groups s l) given_is ∙ ap (λ l. old ++ l) (sym (switch_formats s statement on groups is))
+
+  -- a `while`
+  pub while_made : (before : ℕ) (statement : Stmt) (test : Expr) (body given : Stmt) (made : TStmt) → statement ≡ stmt.While test body
+      → given ≡ body → made ≡ statement_of s order before given
+      → loop.While (expression_of s order test) made ≡ statement_of s order before statement
+  while_made before statement test body given made is given_is made_is =
+      ap (loop.While (expression_of s order test)) (made_is ∙ ap (statement_of s order before) given_is)
+      ∙ sym (while_tree s order before statement test body is)
+
+  -- a `do`
+  pub do_made : (before : ℕ) (statement body : Stmt) (test : Expr) (given : Stmt) (made : TStmt) → statement ≡ stmt.Do body test
+      → given ≡ body → made ≡ statement_of s order before given
+      → loop.Do made (expression_of s order test) ≡ statement_of s order before statement
+  do_made before statement body test given made is given_is made_is =
+      ap (λ t. loop.Do t (expression_of s order test)) (made_is ∙ ap (statement_of s order before) given_is)
+      ∙ sym (do_tree s order before statement body test is)
 
   -- a `for`
   pub for_made : (old one two : List FormatText) (statement : Stmt) (init test step : Option Expr) (body given : Stmt)

@@ -1,9 +1,15 @@
 -- The formats of `write`, as they are made.
-use Rattle.std.specs.Prelude.{◌≡◌, ℕ, List, Some, None, length}
+use Rattle.std.specs.Prelude.{◌≡◌, ℕ, List, Option, Some, None, length, map}
+use Rattle.std.specs.Option.{option_map}
 use Rattle.write_format.specs.declared.argument.ArgKind.{ArgKind}
 use Rattle.write_format.specs.declared.piece.Piece.{Piece}
 use Rattle.write_format.specs.Format.{FormatText, format_elements}
 use Rattle.write_format.specs.Reading.{codes_of, first_unfit, pieces_of}
+use Rattle.capl_tree.specs.declared.expr.Expr.{Expr}
+use Rattle.capl_meaning.specs.declared.sort.Sort.{Sort}
+use Rattle.capl_meaning.specs.Names.{Scope}
+use Rattle.capl_meaning.specs.Sort.{sort_of}
+use Rattle.typed_source.specs.Statement.{argument_of, format_of, pieces_written, text_written}
 
 -- a text has a code for each argument, which shows it
 pub record FitFor (text : List ℕ) (arguments : List ArgKind) : Type 0 where
@@ -21,3 +27,13 @@ pub record IsRead (text : List ℕ) (arguments : List ArgKind) (format : FormatT
     arguments = arguments;
     elements = format_elements pieces arguments;
   }
+
+-- what was made of arguments for their format is such, and they are of these sorts
+pub record AreMadeOf (s : Scope) (all : List Expr) (kinds : List ArgKind) (sorts : List Sort) : Type 0 where
+  pub kinds_are : kinds ≡ map (argument_of s) all
+  pub sorts_are : sorts ≡ map (sort_of s) all
+
+-- the format of a `write`, if it reads and fits
+abbrev pub format_written : Scope → Expr → List Expr → Option FormatText
+format_written s format all =
+    option_map (λ pieces. format_of s (text_written format) pieces all) (pieces_written s format all)

@@ -1,10 +1,11 @@
 // Statements.
 
-ghost use Rattle.std.specs.Prelude.{◌≡◌, ℕ, ◌+◌, ◌<◌, ◌^◌, ◌++◌, List, IfOk, OnOk, length};
+ghost use Rattle.std.specs.Prelude.{◌≡◌, ℕ, ◌+◌, ◌<◌, ◌^◌, [], ◌∷◌, ◌++◌, List, IfOk, OnOk, Some, filter_map, length};
 ghost use Rattle.std.specs.Option.{option_map};
 ghost use Rattle.capl_meaning.specs.Constant.{prefix_kind};
+ghost use Rattle.capl_meaning.specs.Statement.{label_of};
 ghost use Rattle.typed_tree.specs.declared.expression.TExpr.{TExpr};
-ghost use Rattle.typed_tree.specs.declared.statement.TStmt.TheVariants.{For};
+ghost use Rattle.typed_tree.specs.declared.statement.TStmt.TheVariants.{For, If, Return};
 ghost use Rattle.typed_tree.specs.Forms.{Convert, Do, While};
 ghost use Rattle.typed_source.specs.Expression.{expression_of};
 ghost use Rattle.typed_source.specs.Statement.{formats_of, formats_of_part, returned, statement_of};
@@ -16,7 +17,7 @@ ghost use Rattle.type_statements.specs.Tables.{AreTables, order_of};
 use crate::alone::make_alone;
 use crate::label::make_labels;
 use crate::tables::StatementTables;
-use capl_tree::{Arm, Expr, Group, Stmt};
+use capl_tree::{Arm, Expr, Group, Label, Stmt};
 use check_sorts::{Scope, kind_in};
 use int_kinds::{Kind, join};
 use items::{Boxed, Items};
@@ -70,27 +71,31 @@ fn make_value(
     Ok((TExpr::Convert { kind, inner }, kind))
 }
 
-/// What a `return` gives, converted to the kind that is given.
+/// A `return` of what is given, converted to the kind that is wanted.
 #[tactic(auto, unfolding(crate::proofs::By::value, crate::proofs::By::row))]
-fn make_returned(
+fn make_return(
     alloc: Global,
     scope: Scope,
     tables: &StatementTables,
     value: &Option<Boxed<Expr>>,
-) -> Result<Option<TExpr>, NoMemory>
+) -> Result<TStmt, NoMemory>
     requires { AreTables scope.names.now tables.now }
     ensures { let s = scope_in scope.entry in IfOk result (λ made. made
-        ≡ option_map (λ e. returned s.gives (expression_of s (order_of tables.now) e)) value.now) }
+        ≡ Return (option_map (λ e. returned s.gives (expression_of s (order_of tables.now) e)) value.now)) }
 {
     let Some(e) = value else {
-        return Ok(None);
+        return Ok(TStmt::Return { value: None });
     };
     let made = make_expression(alloc, scope, &tables.trees, e.get())?;
     match scope.gives {
-        None => Ok(Some(made.tree)),
+        None => Ok(TStmt::Return {
+            value: Some(made.tree),
+        }),
         Some(kind) => {
             let inner = Boxed::new(alloc, made.tree)?;
-            Ok(Some(TExpr::Convert { kind, inner }))
+            Ok(TStmt::Return {
+                value: Some(TExpr::Convert { kind, inner }),
+            })
         }
     }
 }
@@ -126,6 +131,30 @@ struct Head {
     step: Option<Boxed<TStmt>>,
 }
 
+/// The first and the third part of a `for`, and their formats.
+fn make_ends(
+    alloc: Global,
+    scope: Scope,
+    tables: &StatementTables,
+    formats: &mut Vec<Format>,
+    init: &Option<Boxed<Expr>>,
+    step: &Option<Boxed<Expr>>,
+) -> Result<(Option<Boxed<TStmt>>, Option<Boxed<TStmt>>), NoMemory>
+    requires tables { AreTables scope.names.now tables.now }
+    requires room { let s = scope_in scope in
+        length ((formats.old.items ++ formats_of_part s init.now) ++ formats_of_part s step.now) < 2 ^ 32 }
+    ensures init { IfOk result (λ ends. ends.0
+        ≡ part_in (scope_in scope.entry) (order_of tables.now) (length formats.old.items) init.now) }
+    ensures step { IfOk result (λ ends. ends.1 ≡ part_in (scope_in scope.entry) (order_of tables.now)
+        (length (formats.old.items ++ formats_of_part (scope_in scope.entry) init.now)) step.now) }
+    ensures formats { let s = scope_in scope.entry in OnOk result (formats.new.items
+        ≡ (formats.old.items ++ formats_of_part s init.now) ++ formats_of_part s step.now) }
+{
+    let init = make_part(alloc, scope, tables, formats, init)?;
+    let step = make_part(alloc, scope, tables, formats, step)?;
+    Ok((init, step))
+}
+
 /// What stands between the parentheses of a `for`, and its formats.
 fn make_head(
     alloc: Global,
@@ -148,9 +177,8 @@ fn make_head(
     ensures formats { let s = scope_in scope.entry in OnOk result (formats.new.items
         ≡ (formats.old.items ++ formats_of_part s init.now) ++ formats_of_part s step.now) }
 {
-    let init = make_part(alloc, scope, tables, formats, init)?;
     let test = make_test(alloc, scope, tables, test)?;
-    let step = make_part(alloc, scope, tables, formats, step)?;
+    let (init, step) = make_ends(alloc, scope, tables, formats, init, step)?;
     Ok(Head { init, test, step })
 }
 
@@ -167,34 +195,76 @@ fn make_for(alloc: Global, head: Head, body: TStmt) -> Result<TStmt, NoMemory>
     })
 }
 
-/// The tree of a test.
-fn make_tree(
+/// A `while` of its test and of a body that is made.
+fn make_while(
     alloc: Global,
     scope: Scope,
     tables: &StatementTables,
-    e: &Expr,
-) -> Result<TExpr, NoMemory>
+    test: &Expr,
+    body: TStmt,
+) -> Result<TStmt, NoMemory>
     requires { AreTables scope.names.now tables.now }
-    ensures { IfOk result (λ tree. tree ≡ expression_of (scope_in scope.entry) (order_of tables.now) e.now) }
-{
-    let made = make_expression(alloc, scope, &tables.trees, e)?;
-    Ok(made.tree)
-}
-
-/// A `while` of its test and its body.
-fn make_while(alloc: Global, test: TExpr, body: TStmt) -> Result<TStmt, NoMemory>
-    ensures { IfOk result (λ tree. tree ≡ While test body) }
+    ensures { IfOk result (λ tree.
+        tree ≡ While (expression_of (scope_in scope.entry) (order_of tables.now) test.now) body) }
 {
     let body = Boxed::new(alloc, body)?;
-    Ok(TStmt::While { test, body })
+    let test = make_expression(alloc, scope, &tables.trees, test)?;
+    Ok(TStmt::While {
+        test: test.tree,
+        body,
+    })
 }
 
-/// A `do` of its body and its test.
-fn make_do(alloc: Global, body: TStmt, test: TExpr) -> Result<TStmt, NoMemory>
-    ensures { IfOk result (λ tree. tree ≡ Do body test) }
+/// A `do` of a body that is made and of its test.
+fn make_do(
+    alloc: Global,
+    scope: Scope,
+    tables: &StatementTables,
+    body: TStmt,
+    test: &Expr,
+) -> Result<TStmt, NoMemory>
+    requires { AreTables scope.names.now tables.now }
+    ensures { IfOk result (λ tree.
+        tree ≡ Do body (expression_of (scope_in scope.entry) (order_of tables.now) test.now)) }
 {
     let body = Boxed::new(alloc, body)?;
-    Ok(TStmt::Do { body, test })
+    let test = make_expression(alloc, scope, &tables.trees, test)?;
+    Ok(TStmt::Do {
+        body,
+        test: test.tree,
+    })
+}
+
+/// An `if` of arms and of what stands behind its last `else`, both of which are made.
+fn with_else(alloc: Global, arms: Items<TArm>, other: TStmt) -> Result<TStmt, NoMemory>
+    ensures { IfOk result (λ tree. tree ≡ If arms (Some other)) }
+{
+    let boxed = Boxed::new(alloc, other)?;
+    Ok(TStmt::If {
+        arms,
+        other: Some(boxed),
+    })
+}
+
+/// Appends a group of a `switch`, of its labels in a kind and of a body that is made.
+fn push_group(
+    alloc: Global,
+    scope: Scope,
+    tables: &StatementTables,
+    kind: Kind,
+    labels: &[Label],
+    body: Items<TStmt>,
+    into: &mut Vec<TGroup>,
+) -> Result<(), NoMemory>
+    requires { AreTables scope.names.now tables.now }
+    ensures { OnOk result (into.new.items ≡ into.old.items ++ record {
+      labels = filter_map (λ label. label_of (scope_in scope.entry) kind label.at label.value) labels.now;
+      body = body;
+    } ∷ []) }
+{
+    let labels = make_labels(alloc, scope, tables, kind, labels)?;
+    into.push(TGroup { labels, body })?;
+    Ok(())
 }
 
 /// The typed tree of a statement where a part of the program stands. Appends the formats of the lines
@@ -224,20 +294,15 @@ pub fn make_statement(
         Stmt::Expr(e) => make_alone(alloc, scope, tables, formats, e),
         Stmt::If { arms, other } => {
             let arms = make_arms(alloc, scope, tables, formats, arms.as_slice())?;
-            let other = make_else(alloc, scope, tables, formats, other)?;
-            Ok(TStmt::If { arms, other })
+            make_if(alloc, scope, tables, formats, other, arms)
         }
         Stmt::While { test, body } => {
-            let test = make_tree(alloc, scope, tables, test)?;
             let body = make_statement(alloc, scope, tables, formats, body.get())?;
-            let tree = make_while(alloc, test, body)?;
-            Ok(tree)
+            make_while(alloc, scope, tables, test, body)
         }
         Stmt::Do { body, test } => {
-            let test = make_tree(alloc, scope, tables, test)?;
             let body = make_statement(alloc, scope, tables, formats, body.get())?;
-            let tree = make_do(alloc, body, test)?;
-            Ok(tree)
+            make_do(alloc, scope, tables, body, test)
         }
         Stmt::For {
             init,
@@ -247,8 +312,7 @@ pub fn make_statement(
         } => {
             let head = make_head(alloc, scope, tables, formats, init, test, step)?;
             let body = make_statement(alloc, scope, tables, formats, body.get())?;
-            let tree = make_for(alloc, head, body)?;
-            Ok(tree)
+            make_for(alloc, head, body)
         }
         Stmt::Switch { on, groups } => {
             let (on, kind) = make_value(alloc, scope, tables, on.get())?;
@@ -257,10 +321,7 @@ pub fn make_statement(
         }
         Stmt::Break { .. } => Ok(TStmt::Break),
         Stmt::Continue { .. } => Ok(TStmt::Continue),
-        Stmt::Return { value, .. } => {
-            let value = make_returned(alloc, scope, tables, value)?;
-            Ok(TStmt::Return { value })
-        }
+        Stmt::Return { value, .. } => make_return(alloc, scope, tables, value),
     }
 }
 
@@ -306,38 +367,60 @@ fn make_arms(
 {
     let mut made = Vec::new(alloc);
     for arm in arms {
-        let test = make_expression(alloc, scope, &tables.trees, &arm.test)?;
-        let body = make_statement(alloc, scope, tables, formats, &arm.body)?;
-        made.push(TArm {
-            test: test.tree,
-            body,
-        })?;
+        let tree = make_arm(alloc, scope, tables, formats, arm)?;
+        made.push(tree)?;
     }
     Ok(Items::from_list(made))
 }
 
-/// What stands behind a last `else`, and its formats.
+/// An arm of an `if`, and the formats of its body.
 #[cycle(statement)]
-fn make_else(
+fn make_arm(
+    alloc: Global,
+    scope: Scope,
+    tables: &StatementTables,
+    formats: &mut Vec<Format>,
+    arm: &Arm,
+) -> Result<TArm, NoMemory>
+    requires tables { AreTables scope.names.now tables.now }
+    requires room { length (formats.old.items ++ formats_of (scope_in scope) arm.now.body) < 2 ^ 32 }
+    ensures test { IfOk result (λ made.
+        made.test ≡ expression_of (scope_in scope.entry) (order_of tables.now) arm.now.test) }
+    ensures body { IfOk result (λ made. made.body ≡ statement_of (scope_in scope.entry) (order_of tables.now)
+        (length formats.old.items) arm.now.body) }
+    ensures formats { OnOk result
+        (formats.new.items ≡ formats.old.items ++ formats_of (scope_in scope.entry) arm.now.body) }
+{
+    let made = make_expression(alloc, scope, &tables.trees, &arm.test)?;
+    let body = make_statement(alloc, scope, tables, formats, &arm.body)?;
+    Ok(TArm {
+        test: made.tree,
+        body,
+    })
+}
+
+/// An `if` of arms that are made and of what stands behind its last `else`, and the formats of that.
+#[cycle(statement)]
+fn make_if(
     alloc: Global,
     scope: Scope,
     tables: &StatementTables,
     formats: &mut Vec<Format>,
     other: &Option<Boxed<Stmt>>,
-) -> Result<Option<Boxed<TStmt>>, NoMemory>
+    arms: Items<TArm>,
+) -> Result<TStmt, NoMemory>
     requires tables { AreTables scope.names.now tables.now }
     requires room { length (formats.old.items ++ formats_in_else (scope_in scope) other.now) < 2 ^ 32 }
-    ensures tree { IfOk result (λ made. made ≡ else_in (scope_in scope.entry) (order_of tables.now)
-        (length formats.old.items) other.now) }
+    ensures tree { IfOk result (λ tree. tree ≡ If arms (else_in (scope_in scope.entry) (order_of tables.now)
+        (length formats.old.items) other.now)) }
     ensures formats { OnOk result
         (formats.new.items ≡ formats.old.items ++ formats_in_else (scope_in scope.entry) other.now) }
 {
     let Some(body) = other else {
-        return Ok(None);
+        return Ok(TStmt::If { arms, other: None });
     };
-    let tree = make_statement(alloc, scope, tables, formats, body.get())?;
-    let boxed = Boxed::new(alloc, tree)?;
-    Ok(Some(boxed))
+    let other = make_statement(alloc, scope, tables, formats, body.get())?;
+    with_else(alloc, arms, other)
 }
 
 /// The groups of a `switch` with their labels in a kind, and their formats.
@@ -359,9 +442,16 @@ fn make_groups(
 {
     let mut made = Vec::new(alloc);
     for group in groups {
-        let labels = make_labels(alloc, scope, tables, kind, group.labels.as_slice())?;
         let body = make_body(alloc, scope, tables, formats, group.body.as_slice())?;
-        made.push(TGroup { labels, body })?;
+        push_group(
+            alloc,
+            scope,
+            tables,
+            kind,
+            group.labels.as_slice(),
+            body,
+            &mut made,
+        )?;
     }
     Ok(Items::from_list(made))
 }

@@ -32,15 +32,15 @@ pub(crate) fn set(
         tree ≡ setting s.names (timer_in s timer.now) cyclic
         (expression_of s (order_of tables.now) duration.now)) }
 {
+    let Some(number) = scope.timer_in(timer) else {
+        return Ok(TStmt::Empty);
+    };
     let made = make_expression(alloc, scope, &tables.trees, duration)?;
-    match scope.timer_in(timer) {
-        None => Ok(TStmt::Empty),
-        Some(number) => Ok(TStmt::Set {
-            timer: tables.trees.layout.timer(number),
-            cyclic,
-            value: made.tree,
-        }),
-    }
+    Ok(TStmt::Set {
+        timer: tables.trees.layout.timer(number),
+        cyclic,
+        value: made.tree,
+    })
 }
 
 /// `cancelTimer` of a timer, if it is one.

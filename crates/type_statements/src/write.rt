@@ -1,13 +1,16 @@
 // Writes.
 
-ghost use Rattle.std.specs.Prelude.{◌≡◌, ◌<◌, ◌^◌, [], ◌∷◌, ◌++◌, IfOk, OnOk, length, map};
+ghost use Rattle.std.specs.Prelude.{◌≡◌, ◌<◌, ◌^◌, List, [], ◌∷◌, ◌++◌, IfOk, OnOk, length, map};
+ghost use Rattle.capl_tree.specs.declared.expr.Expr.{Expr};
 ghost use Rattle.capl_meaning.specs.Format.{quoted_text};
 ghost use Rattle.capl_meaning.specs.Message.{array_in};
+ghost use Rattle.capl_meaning.specs.Names as meant;
 ghost use Rattle.capl_meaning.specs.Sort.{sort_of};
 ghost use Rattle.typed_source.specs.Statement.{argument_by, argument_of, formats_written, numbers_of, pieces_written, text_argument, text_written, writing};
+ghost use Rattle.typed_tree.specs.declared.statement.TStmt.TheVariants.{Write};
 ghost use Rattle.check_sorts.specs.Scope.{scope_in};
 ghost use Rattle.type_statements.specs.Tables.{AreTables, order_of};
-ghost use Rattle.type_statements.specs.Write.{FitFor, IsRead};
+ghost use Rattle.type_statements.specs.Write.{AreMadeOf, FitFor, IsRead, format_written};
 
 use crate::tables::StatementTables;
 use capl_meaning::Sort;
@@ -16,7 +19,7 @@ use check_sorts::{Scope, is_number, shows_all, text_in};
 use items::Items;
 use std::alloc::Global;
 use texts::{NoMemory, Text};
-use type_expressions::make_expression;
+use type_expressions::{Made, make_expression};
 use typed_tree::{TExpr, TStmt};
 use write_format::laws::pieces_are_found;
 use write_format::{ArgKind, Format, FormatRefusal};
@@ -77,6 +80,27 @@ fn argument(
     }
 }
 
+/// Appends the tree of an argument that is a number, and gives the sort of any argument.
+fn push_number(
+    alloc: Global,
+    scope: Scope,
+    tables: &StatementTables,
+    e: &Expr,
+    into: &mut Vec<TExpr>,
+) -> Result<Sort, NoMemory>
+    requires { AreTables scope.names.now tables.now }
+    ensures sort { IfOk result (λ sort. sort ≡ sort_of (scope_in scope.entry) e.now) }
+    ensures numbers { OnOk result (into.new.items
+        ≡ into.old.items ++ numbers_of (scope_in scope.entry) (order_of tables.now) (e.now ∷ [])) }
+{
+    let Made { tree, sort } = make_expression(alloc, scope, &tables.trees, e)?;
+    if !is_number(sort) {
+        return Ok(sort);
+    }
+    into.push(tree)?;
+    Ok(sort)
+}
+
 /// Appends what is made of an argument.
 fn add_argument(
     alloc: Global,
@@ -93,13 +117,10 @@ fn add_argument(
     ensures numbers { OnOk result (into.new.numbers.items ≡ into.old.numbers.items
         ++ numbers_of (scope_in scope.entry) (order_of tables.now) (e.now ∷ [])) }
 {
-    let made = make_expression(alloc, scope, &tables.trees, e)?;
-    let kind = argument(alloc, scope, tables, e, made.sort)?;
+    let sort = push_number(alloc, scope, tables, e, &mut into.numbers)?;
+    into.sorts.push(sort)?;
+    let kind = argument(alloc, scope, tables, e, sort)?;
     into.kinds.push(kind)?;
-    into.sorts.push(made.sort)?;
-    if is_number(made.sort) {
-        into.numbers.push(made.tree)?;
-    }
     Ok(())
 }
 
@@ -142,6 +163,53 @@ fn read_format(alloc: Global, text: &[u8], kinds: &[ArgKind]) -> Result<Format, 
     }
 }
 
+/// The format of a `write` of such arguments, if it has one that fits.
+fn shown_format(
+    alloc: Global,
+    format: &Expr,
+    kinds: &[ArgKind],
+    sorts: &[Sort],
+) -> Result<Option<Format>, NoMemory>
+    requires { (s : meant.Scope) × (all : List Expr) × AreMadeOf s all kinds.now sorts.now }
+    ensures { (s : meant.Scope) (all : List Expr) → AreMadeOf s all kinds.now sorts.now →
+        IfOk result (λ found. found ≡ format_written s format.now all) }
+{
+    let Some(text) = text_in(format) else {
+        return Ok(None);
+    };
+    if !shows_all(text, sorts) {
+        return Ok(None);
+    }
+    let read = read_format(alloc, text, kinds)?;
+    Ok(Some(read))
+}
+
+/// The trees of the numbers alone.
+fn numbers_in(made: Arguments) -> Vec<TExpr>
+    ensures { result.items ≡ made.numbers.items }
+{
+    let Arguments { numbers, .. } = made;
+    numbers
+}
+
+/// Appends the format of a `write`, and makes its tree of the trees of its numbers.
+fn push_write(
+    formats: &mut Vec<Format>,
+    format: Format,
+    numbers: Vec<TExpr>,
+) -> Result<TStmt, NoMemory>
+    requires { length formats.old.items < 2 ^ 32 }
+    ensures tree { IfOk result (λ tree. tree ≡ Write (length formats.old.items) numbers.items) }
+    ensures formats { OnOk result (formats.new.items ≡ formats.old.items ++ format ∷ []) }
+{
+    let number = formats.len() as u32;
+    formats.push(format)?;
+    Ok(TStmt::Write {
+        format: number,
+        args: Items::from_list(numbers),
+    })
+}
+
 /// Appends the format of a `write`, if it has one that fits, and makes its tree.
 pub(crate) fn make_write(
     alloc: Global,
@@ -163,17 +231,9 @@ pub(crate) fn make_write(
         (pieces_written s format.now arguments.now) arguments.now) }
 {
     let made = make_arguments(alloc, scope, tables, arguments)?;
-    let Some(text) = text_in(format) else {
-        return Ok(TStmt::Empty);
-    };
-    if !shows_all(text, made.sorts.as_slice()) {
-        return Ok(TStmt::Empty);
+    let read = shown_format(alloc, format, made.kinds.as_slice(), made.sorts.as_slice())?;
+    match read {
+        None => Ok(TStmt::Empty),
+        Some(format) => push_write(formats, format, numbers_in(made)),
     }
-    let read = read_format(alloc, text, made.kinds.as_slice())?;
-    let number = formats.len() as u32;
-    formats.push(read)?;
-    Ok(TStmt::Write {
-        format: number,
-        args: Items::from_list(made.numbers),
-    })
 }
