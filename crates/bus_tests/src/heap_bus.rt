@@ -110,31 +110,61 @@ fn random_frame(random: u64) -> Option<Frame> {
     Frame::make(ident, random & 2 == 0, dlc, [(random & 0xff) as u8; 8], 1)
 }
 
-// 100,000 random calls, of which the two buses give one answer each.
-#[test]
-fn heap_and_list_answer_alike(rt: HostRuntime) -> Result<(), Fail> {
-    let mut list = PlainBus::make(rt.alloc(), 2);
-    let mut heap = HeapBus::make(rt.alloc(), 2);
+/// Requests a random frame of a random node on both.
+fn request_both(list: &mut PlainBus, heap: &mut HeapBus, random: u64) -> Result<(), Fail> {
+    let node = (random >> 32 & 7) as u32;
+    let frame = random_frame(random).ok_or("a frame")?;
+    if list.request(node, &frame).is_err() || heap.request(node, &frame).is_err() {
+        return Err("memory".into());
+    }
+    Ok(())
+}
+
+/// Both go on to a moment.
+fn arbitrate_both(list: &mut PlainBus, heap: &mut HeapBus, now: u64) {
+    let moment = now.min(1 << 60);
+    list.arbitrate(moment);
+    heap.arbitrate(moment);
+}
+
+/// A random call, of which both give one answer, and then one of the next moment.
+fn check_call(
+    rt: &impl Abort,
+    list: &mut PlainBus,
+    heap: &mut HeapBus,
+    random: u64,
+    now: u64,
+) -> Result<(), Fail> {
+    if random % 8 == 0 {
+        request_both(list, heap, random)?;
+    } else if random % 2 == 0 {
+        assert_eq!(rt; heap.finish(now), list.finish(now));
+    } else {
+        arbitrate_both(list, heap, now);
+    }
+    assert_eq!(rt; heap.next_time(), list.next_time());
+    Ok(())
+}
+
+/// 100,000 random calls; beside each of 512 among 2048 a frame is requested.
+fn check_calls(rt: &impl Abort, list: &mut PlainBus, heap: &mut HeapBus) -> Result<(), Fail> {
     let mut state = 1;
     let mut now = 0;
     for step in 0..100_000u32 {
         let random = next_random(&mut state);
-        let fills = step / 512 % 4 == 0;
-        if fills || random % 8 == 0 {
-            let node = (random >> 32 & 7) as u32;
-            let frame = random_frame(random).ok_or("a frame")?;
-            if list.request(node, &frame).is_err() || heap.request(node, &frame).is_err() {
-                return Err("memory".into());
-            }
-        } else if random % 2 == 0 {
-            assert_eq!(rt; heap.finish(now), list.finish(now));
-        } else {
-            let moment = now.min(1 << 60);
-            list.arbitrate(moment);
-            heap.arbitrate(moment);
+        if step / 512 % 4 == 0 {
+            request_both(list, heap, random)?;
         }
-        assert_eq!(rt; heap.next_time(), list.next_time());
+        check_call(rt, list, heap, random, now)?;
         now = heap.next_time().unwrap_or(now);
     }
     Ok(())
+}
+
+// Random calls, of which the two buses give one answer each.
+#[test]
+fn heap_and_list_answer_alike(rt: HostRuntime) -> Result<(), Fail> {
+    let mut list = PlainBus::make(rt.alloc(), 2);
+    let mut heap = HeapBus::make(rt.alloc(), 2);
+    check_calls(&rt, &mut list, &mut heap)
 }

@@ -4,6 +4,7 @@ use capl_tree::weight_of;
 use check_types::{CheckRefusal, check};
 use parser_tests::sources::program;
 use std::alloc::Global;
+use std::process::Abort;
 use std::test::Fail;
 use typed_tree::Typed;
 
@@ -18,27 +19,28 @@ fn checked(alloc: Global, source: &str) -> Result<Result<Typed, CheckRefusal>, F
     Ok(check(alloc, &program, lines.as_slice(), None))
 }
 
+/// The typed program has a function, two event procedures, which stand on line 7, a timer and a format.
+fn check_typed(rt: &impl Abort, typed: &Typed) {
+    assert_eq!(rt; typed.functions.as_slice().len(), 1);
+    assert_eq!(rt; typed.handlers.as_slice().len(), 2);
+    assert_eq!(rt; typed.cells.as_slice().len(), 17);
+    assert_eq!(rt; typed.timers.as_slice().len(), 1);
+    assert_eq!(rt; typed.formats.as_slice().len(), 1);
+    for handler in typed.handlers.as_slice() {
+        assert_eq!(rt; handler.line, 7);
+    }
+}
+
 #[test]
 fn an_accepted_program_is_typed(rt: HostRuntime) -> Result<(), Fail> {
     let source = "variables { msTimer t; long a = 5; } \
         long twice(long n) { return 2 * n; } \
         on timer t { a = twice(a); } \
         on message 0x100 { write(\"%d\", this.byte(0)); }";
-    let Ok(typed) = checked(rt.alloc(), source)? else {
-        return Err(Fail::new("it is refused"));
-    };
-    assert_eq!(rt; typed.functions.as_slice().len(), 1);
-    assert_eq!(rt; typed.handlers.as_slice().len(), 2);
-    assert_eq!(rt; typed.cells.as_slice().len(), 17);
-    assert_eq!(rt; typed.timers.as_slice().len(), 1);
-    assert_eq!(rt; typed.formats.as_slice().len(), 1);
-    let lines = typed
-        .handlers
-        .as_slice()
-        .iter()
-        .map(|handler| handler.line)
-        .max();
-    assert_eq!(rt; lines, Some(7));
+    match checked(rt.alloc(), source)? {
+        Ok(typed) => check_typed(&rt, &typed),
+        Err(_) => return Err(Fail::new("it is refused")),
+    }
     Ok(())
 }
 

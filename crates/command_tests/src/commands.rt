@@ -1,5 +1,6 @@
 // Whole runs over files and a sink in memory.
 
+use crate::files::add_file;
 use sim_outside::{MemFiles, MemSink};
 use sim_play::Out;
 use sim_run::{Status, laws, simulate};
@@ -383,19 +384,26 @@ static USAGES: [Run; 6] = [
     },
 ];
 
-/// The files of a run, of which these reads fail.
-fn files(alloc: Global, run: &Run, failing_reads: &[u64]) -> Result<MemFiles, Fail> {
+/// A run of each command.
+static FAULTY: [Run; 6] = [LINES, FRAMES, BOTH, PROFILE, CHECKED, GENERATED];
+
+/// The files of a run.
+fn held_by(alloc: Global, run: &Run) -> Result<Vec<(Text, Vec<u8>)>, Fail> {
     let mut held = Vec::new(alloc);
     if let Some(text) = run.scenario {
-        held.push((Text::make(alloc, b"s.scn")?, text.as_bytes().to_vec(alloc)?))?;
+        add_file(alloc, &mut held, b"s.scn", text.as_bytes())?;
     }
     for (name, text) in run.files {
-        held.push((
-            Text::make(alloc, name.as_bytes())?,
-            text.as_bytes().to_vec(alloc)?,
-        ))?;
+        add_file(alloc, &mut held, name.as_bytes(), text.as_bytes())?;
     }
-    Ok(MemFiles::new(held, failing_reads.to_vec(alloc)?))
+    Ok(held)
+}
+
+/// The files of a run, of which these reads fail.
+fn files(alloc: Global, run: &Run, failing_reads: &[u64]) -> Result<MemFiles, Fail> {
+    let failing = failing_reads.to_vec(alloc)?;
+    let held = held_by(alloc, run)?;
+    Ok(MemFiles::new(held, failing))
 }
 
 /// The words of a run.
@@ -434,10 +442,11 @@ fn end_of(
     failing_reads: &[u64],
     failing_writes: &[(u64, usize)],
 ) -> Result<End, Fail> {
-    let mut files = files(alloc, run, failing_reads)?;
-    let mut out = Out::new(MemSink::new(alloc, failing_writes.to_vec(alloc)?));
-    let mut meter = Meter::new(alloc);
     let words = words(alloc, run.words)?;
+    let failing = failing_writes.to_vec(alloc)?;
+    let mut files = files(alloc, run, failing_reads)?;
+    let mut out = Out::new(MemSink::new(alloc, failing));
+    let mut meter = Meter::new(alloc);
     let status = simulate(alloc, &words, &mut files, &mut out, &mut meter);
     Ok(End { status, out, meter })
 }
@@ -543,38 +552,48 @@ fn runs_end_and_write_as_they_must(rt: HostRuntime) -> Result<(), Fail> {
 // Each command meets each fault of a read and of a write.
 #[test]
 fn each_fault_ends_a_run_with_the_answer_so_far(rt: HostRuntime) -> Result<(), Fail> {
-    for run in [LINES, FRAMES, BOTH, PROFILE, CHECKED, GENERATED] {
-        check_reads(&rt, &run)?;
-        check_writes(&rt, &run)?;
+    for run in FAULTY.iter() {
+        check_reads(&rt, run)?;
+        check_writes(&rt, run)?;
     }
     Ok(())
+}
+
+/// The files of a scenario whose source is so many spaces.
+fn files_of_spaces(alloc: Global, count: usize) -> Result<MemFiles, Fail> {
+    let spaces = vec![in alloc; b' '; count]?;
+    let mut held = Vec::new(alloc);
+    add_file(alloc, &mut held, b"s.scn", b"scenario 1\nnode N n.can\n")?;
+    add_file(alloc, &mut held, b"n.can", &spaces)?;
+    Ok(MemFiles::new(held, Vec::new(alloc)))
+}
+
+/// The status of a check of such a scenario.
+fn status_of_spaces(alloc: Global, count: usize) -> Result<Status, Fail> {
+    let words = words(alloc, &["check", "s.scn"])?;
+    let mut files = files_of_spaces(alloc, count)?;
+    let mut out = Out::new(MemSink::new(alloc, Vec::new(alloc)));
+    let mut meter = Meter::new(alloc);
+    Ok(simulate(alloc, &words, &mut files, &mut out, &mut meter))
 }
 
 // A source is taken up to 1 MiB.
 #[test]
 fn long_sources_are_refused(rt: HostRuntime) -> Result<(), Fail> {
-    let alloc = rt.alloc();
-    for (count, status) in [(1 << 20, Status::Done), ((1 << 20) + 1, Status::Refused)] {
-        let mut held = Vec::new(alloc);
-        held.push((
-            Text::make(alloc, b"s.scn")?,
-            b"scenario 1\nnode N n.can\n".to_vec(alloc)?,
-        ))?;
-        held.push((Text::make(alloc, b"n.can")?, vec![in alloc; b' '; count]?))?;
-        let mut files = MemFiles::new(held, Vec::new(alloc));
-        let mut out = Out::new(MemSink::new(alloc, Vec::new(alloc)));
-        let words = words(alloc, &["check", "s.scn"])?;
-        let mut meter = Meter::new(alloc);
-        assert_eq!(rt;
-            simulate(alloc, &words, &mut files, &mut out, &mut meter),
-            status
-        );
-    }
+    assert_eq!(rt; status_of_spaces(rt.alloc(), 1 << 20)?, Status::Done);
+    assert_eq!(rt;
+        status_of_spaces(rt.alloc(), (1 << 20) + 1)?,
+        Status::Refused
+    );
+    Ok(())
+}
+
+#[test]
+fn runs_have_laws() {
     laws::one_answer();
     laws::accepted_inputs_have_an_answer();
     laws::numbers_are_numerals();
     laws::picks_change_order_alone();
-    Ok(())
 }
 
 #[test]

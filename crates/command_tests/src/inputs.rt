@@ -1,9 +1,11 @@
 // Inputs that are read, and the first blames of others.
 
+use crate::files::add_file;
 use input_refusals::InputRefusal;
 use sim_inputs::{Inputs, read_inputs};
 use sim_outside::MemFiles;
 use std::alloc::Global;
+use std::process::Abort;
 use std::test::Fail;
 use texts::{Blame, Text};
 
@@ -20,7 +22,7 @@ const LARGE: &[u8] = b"variables { byte a[900000]; }";
 const LARGEST: &[u8] = b"variables { byte a[1000000]; }";
 
 /// Files of a scenario that is taken, and how many event procedures each of its nodes has.
-const TAKEN: [(Files, &[usize]); 3] = [
+static TAKEN: [(Files, &[usize]); 3] = [
     (
         &[
             (b"d/s", b"scenario 1\nnode N n.can\ndatabase b.dbc"),
@@ -59,7 +61,7 @@ const TAKEN: [(Files, &[usize]); 3] = [
     ),
 ];
 
-const BLAMES: [(Files, Place); 19] = [
+static BLAMES: [(Files, Place); 19] = [
     (&[(b"t", b"")], (b"s", None, None, b'F', 1)),
     (
         &[(b"s", b"scenario 1\nnode N n\nuntil x")],
@@ -186,14 +188,40 @@ const BLAMES: [(Files, Place); 19] = [
     ),
 ];
 
-/// What the inputs of this name are in these files.
-fn read(alloc: Global, name: &[u8], files: Files) -> Result<Result<Inputs, InputRefusal>, Fail> {
+/// These files.
+fn held_by(alloc: Global, files: Files) -> Result<MemFiles, Fail> {
     let mut held = Vec::new(alloc);
     for (name, bytes) in files {
-        held.push((Text::make(alloc, name)?, Vec::from_slice(alloc, bytes)?))?;
+        add_file(alloc, &mut held, name, bytes)?;
     }
-    let mut files = MemFiles::new(held, Vec::new(alloc));
-    Ok(read_inputs(alloc, &Text::make(alloc, name)?, &mut files))
+    Ok(MemFiles::new(held, Vec::new(alloc)))
+}
+
+/// What the inputs of this name are in these files.
+fn read(alloc: Global, name: &[u8], files: Files) -> Result<Result<Inputs, InputRefusal>, Fail> {
+    let name = Text::make(alloc, name)?;
+    let mut files = held_by(alloc, files)?;
+    Ok(read_inputs(alloc, &name, &mut files))
+}
+
+/// Inputs have nodes with so many procedures each.
+fn check_inputs(rt: &impl Abort, inputs: &Inputs, procedures: &[usize]) {
+    assert_eq!(rt; inputs.scenario.nodes.len(), procedures.len());
+    assert_eq!(rt; inputs.codes.len(), procedures.len());
+    for (code, count) in inputs.codes.iter().zip(procedures) {
+        assert_eq!(rt; code.code().handlers.len(), *count);
+    }
+}
+
+#[test]
+fn inputs_are_read(rt: HostRuntime) -> Result<(), Fail> {
+    for (files, procedures) in &TAKEN {
+        match read(rt.alloc(), b"d/s", files)? {
+            Ok(inputs) => check_inputs(&rt, &inputs, procedures),
+            Err(_) => return Err(Fail::new("they are refused")),
+        }
+    }
+    Ok(())
 }
 
 /// Whether the blame is of this place.
@@ -205,30 +233,19 @@ fn is_blame(blame: &Blame, place: &Place) -> bool {
         && blame.rule.number == place.4
 }
 
-#[test]
-fn inputs_are_read(rt: HostRuntime) -> Result<(), Fail> {
-    for (files, procedures) in TAKEN {
-        let answer = read(rt.alloc(), b"d/s", files)?;
-        let Ok(inputs) = answer else {
-            return Err(Fail::new("they are refused"));
-        };
-        assert_eq!(rt; inputs.scenario.nodes.len(), procedures.len());
-        assert_eq!(rt; inputs.codes.len(), procedures.len());
-        for (code, count) in inputs.codes.iter().zip(procedures) {
-            assert_eq!(rt; code.code().handlers.len(), *count);
-        }
-    }
-    Ok(())
+/// The answer blames this place.
+fn check_blame(rt: &impl Abort, answer: &Result<Inputs, InputRefusal>, place: &Place) {
+    assert!(rt;
+        matches!(answer, Err(InputRefusal::Blamed(blame)) if is_blame(blame, place)),
+        "{place:?}"
+    );
 }
 
 #[test]
 fn the_first_broken_rule_is_to_blame(rt: HostRuntime) -> Result<(), Fail> {
-    for (files, place) in BLAMES {
+    for (files, place) in &BLAMES {
         let answer = read(rt.alloc(), b"s", files)?;
-        assert!(rt;
-            matches!(&answer, Err(InputRefusal::Blamed(blame)) if is_blame(blame, &place)),
-            "{place:?}"
-        );
+        check_blame(&rt, &answer, place);
     }
     Ok(())
 }

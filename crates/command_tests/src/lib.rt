@@ -9,4 +9,6 @@ mod checks;
 #[cfg(test)]
 mod commands;
 #[cfg(test)]
+mod files;
+#[cfg(test)]
 mod inputs;
