@@ -75,18 +75,12 @@ fn functions_stand_behind_what_they_call(rt: HostRuntime) -> Result<(), Fail> {
     Ok(())
 }
 
-/// The calls of a row are told.
-fn check_row(rt: &impl Abort, alloc: Global, (source, count, wanted): &Row) -> Result<(), Fail> {
-    let calls = calls_of(alloc, source)?;
-    assert_eq!(rt; calls.order().len(), *count);
-    assert!(rt; are_told(alloc, &calls, wanted)?, "{source}");
-    Ok(())
-}
-
 #[test]
 fn functions_that_go_round_are_recursive(rt: HostRuntime) -> Result<(), Fail> {
-    for row in ROWS.iter() {
-        check_row(&rt, rt.alloc(), row)?;
+    for (source, count, wanted) in ROWS {
+        let calls = calls_of(rt.alloc(), source)?;
+        assert_eq!(rt; calls.order().len(), count);
+        assert!(rt; are_told(rt.alloc(), &calls, wanted)?, "{source}");
     }
     Ok(())
 }

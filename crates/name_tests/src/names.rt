@@ -66,49 +66,36 @@ fn number(value: u64) -> Expr {
     }
 }
 
-/// Keys of the first channel, and of the second one.
-const KEYS: [Selector; 2] = [
-    Selector {
+/// Selectors have keys, on each channel for which they are.
+fn check_selectors(rt: &impl Abort, alloc: Global, names: &Names) -> Result<(), Fail> {
+    let keys = Selector {
         rank: 1,
         low: 0x8000_0001,
         high: 0x8000_0002,
-    },
-    Selector {
+    };
+    let others = Selector {
         rank: 1,
         low: 0xC000_0001,
         high: 0xC000_0002,
-    },
-];
-
-/// Two identifiers, on a channel or on both.
-fn identifiers(chan: u8) -> Sel {
-    let what = SelWhat::Ids {
-        low: number(1),
-        high: Some(number(2)),
-        at: 3,
     };
-    Sel { chan, what }
-}
-
-/// A selector has these keys.
-fn check_selector(
-    rt: &impl Abort,
-    alloc: Global,
-    names: &Names,
-    selector: &Sel,
-    wanted: &[Selector],
-) -> Result<(), Fail> {
-    let mut found = Vec::new(alloc);
-    push_ranges(names, selector, &mut found)?;
-    assert_eq!(rt; found.as_slice(), wanted);
+    let both = [keys, others];
+    let first = [keys];
+    let second = [others];
+    for (chan, wanted) in [
+        (0, both.as_slice()),
+        (1, first.as_slice()),
+        (2, second.as_slice()),
+    ] {
+        let what = SelWhat::Ids {
+            low: number(1),
+            high: Some(number(2)),
+            at: 3,
+        };
+        let mut found = Vec::new(alloc);
+        push_ranges(names, &Sel { chan, what }, &mut found)?;
+        assert_eq!(rt; found.as_slice(), wanted);
+    }
     Ok(())
-}
-
-/// Selectors have keys, on each channel for which they are.
-fn check_selectors(rt: &impl Abort, alloc: Global, names: &Names) -> Result<(), Fail> {
-    check_selector(rt, alloc, names, &identifiers(0), KEYS.as_slice())?;
-    check_selector(rt, alloc, names, &identifiers(1), &KEYS[..1])?;
-    check_selector(rt, alloc, names, &identifiers(2), &KEYS[1..])
 }
 
 /// An identifier without a mark has 11 bits.
@@ -123,19 +110,16 @@ fn check_types(rt: &impl Abort, names: &Names) {
     assert_eq!(rt; first, Some(offence(2, 21)));
 }
 
-/// What these names mean.
-fn check_names(rt: &impl Abort, alloc: Global, names: &Names) -> Result<(), Fail> {
-    check_meanings(rt, names);
-    check_variables(rt, names);
-    check_types(rt, names);
-    check_selectors(rt, alloc, names)
-}
-
 #[test]
 fn names_mean_what_is_declared_before(rt: HostRuntime) -> Result<(), Fail> {
     let program = program(rt.alloc(), DECLARED)?;
     let named = Names::build(rt.alloc(), &program, None)?;
-    check_names(&rt, rt.alloc(), &named.names)
+    let names = &named.names;
+    check_meanings(&rt, names);
+    check_variables(&rt, names);
+    check_selectors(&rt, rt.alloc(), names)?;
+    check_types(&rt, names);
+    Ok(())
 }
 
 /// Messages are those of the database.
@@ -169,11 +153,16 @@ fn first(alloc: Global, source: &str) -> Result<Option<Offence>, Fail> {
 
 #[test]
 fn a_name_is_declared_once(rt: HostRuntime) -> Result<(), Fail> {
-    assert_eq!(rt; first(rt.alloc(), DECLARED)?, None);
-    let hidden = "variables { long a; } long f(long b) { { long a; } }";
-    assert_eq!(rt; first(rt.alloc(), hidden)?, None);
-    let twice = "variables { long a; } long f(long b) { { long b; } }";
-    assert_eq!(rt; first(rt.alloc(), twice)?, Some(offence(15, 10)));
+    for (source, wanted) in [
+        (DECLARED, None),
+        ("variables { long a; } long f(long b) { { long a; } }", None),
+        (
+            "variables { long a; } long f(long b) { { long b; } }",
+            Some(offence(15, 10)),
+        ),
+    ] {
+        assert_eq!(rt; first(rt.alloc(), source)?, wanted);
+    }
     Ok(())
 }
 

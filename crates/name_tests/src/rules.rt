@@ -11,7 +11,7 @@ use check_names::Names;
 use check_sorts::{Constants, Scope};
 use check_statements::first_offence;
 use int_kinds::Kind;
-use parser_tests::sources::{expression, number, program, undeclared};
+use parser_tests::sources::{expression, number, program};
 use std::alloc::Global;
 use std::process::Abort;
 use std::test::Fail;
@@ -26,15 +26,11 @@ fn offence(token: u32, number: u8) -> Option<Offence> {
 }
 
 /// What a sum with a text breaks outside of procedures.
-fn check_sum(
-    rt: &impl Abort,
-    alloc: Global,
-    names: &Names,
-    calls: &Calls,
-    sum: &Expr,
-) -> Result<(), Fail>
+fn check_sum(rt: &impl Abort, alloc: Global, names: &Names, calls: &Calls) -> Result<(), Fail>
     requires { AreCallsOf names.now calls.now }
 {
+    let program = program(alloc, "f() { 7 + \"a\"; }")?;
+    let sum = expression(&program)?;
     let mut first = None;
     let sort = judge(alloc, Scope::outside(names, 0), calls, sum, &mut first)?;
     assert_eq!(rt; sort, Sort::Bad);
@@ -55,16 +51,11 @@ fn check_number(rt: &impl Abort, alloc: Global, names: &Names, calls: &Calls) ->
 }
 
 /// What `word(this)` breaks outside of procedures.
-fn check_field(
-    rt: &impl Abort,
-    alloc: Global,
-    names: &Names,
-    calls: &Calls,
-    member: &Expr,
-) -> Result<(), Fail>
+fn check_field(rt: &impl Abort, alloc: Global, names: &Names, calls: &Calls) -> Result<(), Fail>
     requires { AreCallsOf names.now calls.now }
 {
-    let Expr::Member { field, .. } = member else {
+    let program = program(alloc, "f() { m.word(this); }")?;
+    let Expr::Member { field, .. } = expression(&program)? else {
         return Err("it is a member".into());
     };
     let mut outside = None;
@@ -74,43 +65,16 @@ fn check_field(
     Ok(())
 }
 
-/// What expressions break, with the calls of the program.
-fn check_judged(
-    rt: &impl Abort,
-    alloc: Global,
-    names: &Names,
-    sum: &Expr,
-    member: &Expr,
-) -> Result<(), Fail> {
-    let calls = Calls::build(alloc, names)?;
-    check_sum(rt, alloc, names, &calls, sum)?;
-    check_number(rt, alloc, names, &calls)?;
-    check_field(rt, alloc, names, &calls, member)
-}
-
-/// What these expressions break where nothing is declared.
-fn check_undeclared(
-    rt: &impl Abort,
-    alloc: Global,
-    sum: &Program,
-    member: &Program,
-) -> Result<(), Fail> {
-    let program = undeclared(alloc);
-    let named = Names::build(alloc, &program, None)?;
-    check_judged(
-        rt,
-        alloc,
-        &named.names,
-        expression(sum)?,
-        expression(member)?,
-    )
-}
-
 #[test]
 fn expressions_are_judged(rt: HostRuntime) -> Result<(), Fail> {
-    let sum = program(rt.alloc(), "f() { 7 + \"a\"; }")?;
-    let member = program(rt.alloc(), "f() { m.word(this); }")?;
-    check_undeclared(&rt, rt.alloc(), &sum, &member)
+    let alloc = rt.alloc();
+    let program = program(alloc, "")?;
+    let named = Names::build(alloc, &program, None)?;
+    let names = &named.names;
+    let calls = Calls::build(alloc, names)?;
+    check_sum(&rt, alloc, names, &calls)?;
+    check_number(&rt, alloc, names, &calls)?;
+    check_field(&rt, alloc, names, &calls)
 }
 
 /// The first offence of a program without a database.
