@@ -32,12 +32,12 @@ sign_at-spelling _ = refl
 -- what is found is spelled so, and where nothing is found no sign is
 pub sign_at-sound : (bytes : List ℕ)
     → Finds (λ (some : Sign). bytes ≡ sign_spelling some) (sign_at bytes)
-sign_at-sound bytes = spelled_in-sound sign_spelling all_signs sign_at-spelling bytes
+sign_at-sound bytes = spelled_in-sound sign_spelling (λ _. all_signs) sign_at-spelling bytes
 
 -- two signs with one spelling are one sign
 pub sign_spelling-injective : (some other : Sign) → sign_spelling some ≡ sign_spelling other
     → some ≡ other
-sign_spelling-injective some other same = spelling-injective sign_spelling all_signs sign_at-spelling some other same
+sign_spelling-injective some other same = spelling-injective sign_spelling (λ _. all_signs) sign_at-spelling some other same
 
 -- the first byte of a sign
 abbrev pub sign_first : Sign → ℕ

@@ -7,3 +7,4 @@ pub mod Item
 pub mod Step
 pub mod Position
 pub mod Screening
+pub mod Words
