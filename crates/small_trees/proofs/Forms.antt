@@ -6,38 +6,17 @@ use Rattle.capl_tree.specs.declared.statement.Stmt.{Stmt, Row_of-Stmt, more_of-S
 use Rattle.capl_tree.specs.declared.statement.Stmt.TheBlock.{Row_of-Arm, end_of-Arm, more_of-Arm, Row_of-Group, end_of-Group, more_of-Group, Held-Stmt-If-1}
 use Rattle.capl_tree.specs.declared.statement.Stmt.TheVariants as stmt
 use Rattle.capl_tree.specs.declared.statement.Label.{Label}
-use Rattle.capl_tree.specs.Forms as form
 use Rattle.capl_tree.specs.Grammar.{AreArms, AreGroups, AreLabels, AreStatements, IsBodyPart, IsStatement}
 
 -- a statement is a part of a body
 pub as_part : (s : Stmt) → IsStatement s → IsBodyPart s
-as_part stmt.Empty is = is
-as_part (stmt.Block' shape body) is = is
 as_part (stmt.Decl declaration) is = absurd is
-as_part (stmt.Expr e) is = is
-as_part (stmt.If' shape arms other) is = is
-as_part (form.While test body) is = is
-as_part (form.Do body test) is = is
-as_part (form.For init test step body) is = is
-as_part (stmt.Switch' on shape groups) is = is
-as_part (stmt.Break at) is = is
-as_part (stmt.Continue at) is = is
-as_part (stmt.Return value at) is = is
+as_part s is = is
 
 -- the first of a row, and the others
 pub row_parts : {m : _} (first : Stmt) (rest : Row_of-Stmt m) → AreStatements (more_of-Stmt first rest) → IsBodyPart first × AreStatements rest
-row_parts stmt.Empty rest is = is
-row_parts (stmt.Block' shape body) rest is = is
 row_parts (stmt.Decl declaration) rest is = is
-row_parts (stmt.Expr e) rest is = is
-row_parts (stmt.If' shape arms other) rest is = is
-row_parts (form.While test body) rest is = is
-row_parts (form.Do body test) rest is = is
-row_parts (form.For init test step body) rest is = is
-row_parts (stmt.Switch' on shape groups) rest is = is
-row_parts (stmt.Break at) rest is = is
-row_parts (stmt.Continue at) rest is = is
-row_parts (stmt.Return value at) rest is = is
+row_parts first rest is = is
 
 -- arms behind the first
 abbrev pub AreFurtherArms : {m : _} → Row_of-Arm m → Held-Stmt-If-1 → Type 0

@@ -1,7 +1,7 @@
 -- A constant has one number wherever it stands in a procedure, whatever `this` is there and the procedure gives.
-use Rattle.std.proofs.Common.{◌≡◌, ℕ, Bool, true, false, ◌&&◌, List, Option, Some, None, refl, sym, ap, ◌∙◌}
-use Rattle.std.specs.Prelude.{ℤ, if◌then◌else◌}
-use Rattle.std.specs.Option.{option_and_then, option_map}
+use Rattle.std.proofs.Common.{◌≡◌, ℕ, Bool, true, false, ◌&&◌, List, Option, None, refl, sym, ap, ◌∙◌}
+use Rattle.std.specs.Prelude.{if◌then◌else◌}
+use Rattle.std.specs.Option.{option_map}
 use Rattle.int_kinds.specs.declared.kinds.Kind.{Kind}
 use Rattle.int_kinds.specs.declared.operators.UnOp.{UnOp}
 use Rattle.int_kinds.specs.declared.operators.UnOp.TheVariants as prefix
@@ -13,7 +13,7 @@ use Rattle.capl_meaning.specs.declared.sort.Sort.{Sort}
 use Rattle.capl_meaning.specs.Names.{Names, Scope, ThisForm}
 use Rattle.capl_meaning.specs.Operator.{prefix_value}
 use Rattle.capl_meaning.specs.Sort.{kind_in, number_from, sort_of, sort_of_binary, sort_of_choice, sort_of_prefix, working_kind}
-use Rattle.capl_meaning.specs.Constant.{Constant, array_length, chosen, constant, constant_at, constant_value, is_constant, is_constant_prefix, length_at, operator_value}
+use Rattle.capl_meaning.specs.Constant.{Constant, chosen, constant, constant_at, constant_value, is_constant, is_constant_prefix, operator_value}
 use Rattle.sound_programs.proofs.Written.{and_both}
 
 module _ (names : Names) (owner file : ℕ) (one other : ThisForm) (gives given : Option Kind) where

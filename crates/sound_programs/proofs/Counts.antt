@@ -1,10 +1,9 @@
 -- The cells of a program bound the cells, initial values and timers of its typed program.
-use Rattle.std.proofs.Common.{◌≡◌, ℕ, suc, ◌+◌, ◌≤◌, ◌<◌, ◌^◌, Bool, true, false, List, [], ◌∷◌, ◌++◌, length, Option, Some, None, refl, sym, ap, ◌∙◌, arith, length-append}
+use Rattle.std.proofs.Common.{◌≡◌, ℕ, suc, ◌+◌, ◌≤◌, ◌<◌, ◌^◌, Bool, true, false, List, [], ◌∷◌, ◌++◌, length, arith, length-append}
 use Rattle.std.specs.Prelude.{ℤ, pos, filter_map, flat_map, if◌then◌else◌, sum_by}
 use Rattle.std.specs.List.{cons_option}
 use Rattle.std.specs.Ordering.{int_eq}
 use Rattle.std.proofs.lemmas.List.Sums.{sum_by-cons}
-use Rattle.int_kinds.specs.declared.kinds.Kind.{Kind}
 use Rattle.int_kinds.specs.Kind.{Holds}
 use Rattle.bytecode.proofs.ZippedLists.{AllZip-same_length}
 use Rattle.dbc_reader.specs.declared.message.DbcMessage.{DbcMessage}

@@ -1,6 +1,6 @@
 -- Each variable of a program that breaks no rule was declared so.
 use mathlib.Core.Former.{Count}
-use Rattle.std.proofs.Common.{◌≡◌, ℕ, ◌-◌, ◌≤◌, ◌<◌, ◌^◌, inl, inr, Bool, true, false, not, ◌&&◌, List, [], ◌∷◌, ◌++◌, Option, Some, None, refl, sym, ap, ◌∙◌, subst, arith}
+use Rattle.std.proofs.Common.{◌≡◌, ℕ, ◌-◌, ◌≤◌, ◌<◌, ◌^◌, inl, inr, Bool, true, false, not, ◌&&◌, List, [], ◌∷◌, ◌++◌, Option, Some, None, refl, ap, ◌∙◌, subst, arith}
 use Rattle.std.specs.Prelude.{⊤, ◌||◌, ℤ, pos, negsuc, flat_map, if◌then◌else◌, is_some, map, nat_le, nat_lt, unwrap_or}
 use Rattle.std.specs.List.{AllByRecursion}
 use Rattle.std.specs.Option.{option_and_then, option_map_or}
@@ -20,10 +20,10 @@ use Rattle.capl_tree.specs.declared.statement.Stmt.TheVariants as stmt
 use Rattle.capl_tree.specs.Forms as tree
 use Rattle.capl_meaning.specs.declared.offence.Offence.{Offence}
 use Rattle.capl_meaning.specs.Rule.{E11, E12, E19, E21, E23}
-use Rattle.capl_meaning.specs.Variable.{Form, Number, Array, Message, Timer, Misfit, Part, Globals, Procedure, Variable, ByIdentifier, ByName, declarations_in, declarations_of, declarations_of_arms, declarations_of_else, declarations_of_groups, form_of, identifier, message_named, parameters_of, parts_of, variable_of_parameter, variables_of, variables_of_declaration, variables_of_part}
+use Rattle.capl_meaning.specs.Variable.{Form, Array, Message, Part, Globals, Procedure, Variable, ByIdentifier, ByName, declarations_in, declarations_of, declarations_of_arms, declarations_of_else, declarations_of_groups, form_of, identifier, message_named, parameters_of, parts_of, variable_of_parameter, variables_of, variables_of_declaration, variables_of_part}
 use Rattle.capl_meaning.specs.Names.{Names, NoThis, Scope, ThisForm, inside, names_of, outside}
 use Rattle.capl_meaning.specs.Sort.{is_bad, sort_of}
-use Rattle.capl_meaning.specs.Constant.{array_length, constant_at, elements_of, length_at, length_by, scope_of}
+use Rattle.capl_meaning.specs.Constant.{array_length, constant_at, elements_of, length_by, scope_of}
 use Rattle.capl_meaning.specs.ExpressionRules.{integer_offences, offence, offences}
 use Rattle.capl_meaning.specs.InitialiserRules.{constant_needed, constant_offences, initialiser_offences}
 use Rattle.capl_meaning.specs.DeclarationRules.{const_rule, database_rule, declaration_offences, declarator_offences, form_rule, is_identifier, is_in_range, size_offences, size_rule, type_rules}
@@ -32,7 +32,7 @@ use Rattle.capl_meaning.specs.StatementRules.{alone_offences, in_body, in_loop, 
 use Rattle.capl_meaning.specs.ProcedureRules.{head_offences, inner_name_offences, outer_name_offences, purpose_offences}
 use Rattle.capl_meaning.specs.Offences.{offences_of, part_offences}
 use Rattle.capl_tree.specs.Place.{expression_place}
-use Rattle.typed_laws.specs.Laid.{HasForm, IsAmong}
+use Rattle.typed_laws.specs.Laid.{IsAmong}
 use Rattle.typed_laws.proofs.Declared.{all_append}
 use Rattle.typed_source.specs.Sound.{HaveElements}
 use Rattle.sound_programs.specs.Given.{HaveForms}

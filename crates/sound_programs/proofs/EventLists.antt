@@ -16,7 +16,7 @@ use Rattle.capl_tree.specs.declared.procedure.Head.TheVariants as head
 use Rattle.capl_tree.specs.declared.statement.Stmt.{Stmt}
 use Rattle.typed_tree.specs.declared.program.Typed.{Typed}
 use Rattle.typed_tree.specs.Sound.{all_keys, all_selectors, all_timers}
-use Rattle.capl_meaning.specs.Variable.{Form, Number, Array, Message, Timer, Misfit, Part, Globals, Procedure, Variable, is_timer, parts_of}
+use Rattle.capl_meaning.specs.Variable.{Form, Timer, Misfit, Part, Globals, Procedure, Variable, is_timer, parts_of}
 use Rattle.capl_meaning.specs.Names.{Names, Scope, global, inside, is_global, names_of}
 use Rattle.capl_meaning.specs.Offences.{offences_of, part_offences}
 use Rattle.capl_meaning.specs.Procedure.{Handler, event_of, handlers_of, handlers_of_part, timer_named}

@@ -1,13 +1,12 @@
 -- An expression that breaks no rule is not bad, and one of which an integer is needed is a number.
 use mathlib.Core.Former.{Count}
-use Rattle.std.proofs.Common.{◌≡◌, ◌≢◌, ℕ, zero, suc, Bool, true, false, not, ◌&&◌, ◌||◌, List, [], ◌∷◌, ◌++◌, length, Option, Some, None, refl, sym, ap, ◌∙◌, subst, arith}
+use Rattle.std.proofs.Common.{◌≡◌, ℕ, suc, Bool, true, false, not, ◌&&◌, ◌||◌, List, [], ◌∷◌, length, Option, Some, None, refl, sym, ap, ◌∙◌, subst}
 use Rattle.std.specs.Prelude.{⊤, ◌==◌, flat_map, if◌then◌else◌}
 use Rattle.std.specs.List.{AllByRecursion, list_all, zip}
 use Rattle.std.specs.Option.{option_and_then, option_map_or}
 use Rattle.std.proofs.lemmas.Cmp.{nat_eq_equiv}
 use Rattle.std.proofs.lemmas.Bool.{eqb-true}
 use Rattle.texts.specs.declared.text.Text.{Text}
-use Rattle.int_kinds.specs.declared.kinds.Kind.{Kind}
 use Rattle.int_kinds.specs.declared.kinds.Kind.TheVariants as kind
 use Rattle.int_kinds.specs.declared.operators.BinOp.{BinOp}
 use Rattle.int_kinds.specs.declared.operators.UnOp.{UnOp}

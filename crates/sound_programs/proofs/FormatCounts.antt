@@ -1,6 +1,6 @@
 -- The weight of a source bounds its formats: a `write` weighs 8 at least.
 use mathlib.Core.Former.{Count}
-use Rattle.std.proofs.Common.{◌≡◌, ℕ, suc, ◌+◌, ◌*◌, ◌≤◌, List, [], ◌∷◌, ◌++◌, length, Option, Some, None, refl, arith, length-append}
+use Rattle.std.proofs.Common.{◌≡◌, ℕ, ◌+◌, ◌*◌, ◌≤◌, List, [], ◌∷◌, ◌++◌, length, Option, Some, None, arith, length-append}
 use Rattle.std.specs.Prelude.{flat_map, sum_by}
 use Rattle.std.proofs.lemmas.List.Sums.{sum_by-cons}
 use Rattle.write_format.specs.declared.piece.Piece.{Piece}
@@ -11,9 +11,9 @@ use Rattle.capl_tree.specs.declared.statement.Stmt.{Stmt, Row_of-Stmt, end_of-St
 use Rattle.capl_tree.specs.declared.statement.Stmt.TheBlock.{Row_of-Arm, end_of-Arm, more_of-Arm, Row_of-Group, end_of-Group, more_of-Group, Held-Stmt-If-1}
 use Rattle.capl_tree.specs.declared.statement.Stmt.TheVariants as stmt
 use Rattle.capl_tree.specs.Forms as tree
-use Rattle.capl_tree.specs.Weight.{arms_weight, else_weight, expression_weight, expressions_weight, further_arms_weight, groups_weight, part_weight, statement_weight, statements_weight}
+use Rattle.capl_tree.specs.Weight.{arms_weight, else_weight, expression_weight, further_arms_weight, groups_weight, part_weight, statement_weight, statements_weight}
 use Rattle.capl_meaning.specs.declared.builtin.Builtin.TheVariants as builtin
-use Rattle.capl_meaning.specs.Names.{Callee, OfLanguage, OfProgram, Unknown, Scope, callee}
+use Rattle.capl_meaning.specs.Names.{Callee, OfLanguage, Scope, callee}
 use Rattle.typed_source.specs.Statement.{formats_of, formats_of_alone, formats_of_arms, formats_of_call, formats_of_else, formats_of_groups, formats_of_part, formats_of_row, formats_written, pieces_written, text_written}
 
 module _ (s : Scope) where

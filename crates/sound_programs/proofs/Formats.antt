@@ -1,15 +1,13 @@
 -- The formats of statements that break no rule: the arrays in them are there and of characters, and no text in them
 -- is long.
 use mathlib.Core.Former.{Count}
-use Rattle.std.proofs.Common.{◌≡◌, ℕ, zero, suc, ◌+◌, ◌≤◌, ◌<◌, ◌^◌, Bool, true, false, ◌&&◌, cond, List, [], ◌∷◌, ◌++◌, length, map, Option, Some, None, refl, sym, ap, ◌∙◌, subst, arith, length-append}
-use Rattle.std.specs.Prelude.{⊤, All, IfSome, filter_map, flat_map}
+use Rattle.std.proofs.Common.{◌≡◌, ℕ, true, false, List, [], ◌∷◌, ◌++◌, map, Some, None, refl, sym, subst}
+use Rattle.std.specs.Prelude.{All, IfSome, filter_map, flat_map}
 use Rattle.std.specs.List.{AllByRecursion, list_all, zip}
-use Rattle.std.specs.Option.{option_and_then, option_map, option_map_or}
-use Rattle.std.proofs.lemmas.List.{length-map}
-use Rattle.std.proofs.lemmas.List.Elements.{All-weaker, filter_map-append}
+use Rattle.std.specs.Option.{option_map_or}
+use Rattle.std.proofs.lemmas.List.Elements.{filter_map-append}
 use Rattle.int_kinds.specs.declared.kinds.Kind.{Kind}
 use Rattle.int_kinds.specs.declared.kinds.Kind.TheVariants as kind
-use Rattle.write_format.specs.declared.argument.ArgKind.{ArgKind}
 use Rattle.write_format.specs.declared.argument.ArgKind.TheVariants as argument
 use Rattle.write_format.specs.declared.code.Code.{Code}
 use Rattle.write_format.specs.declared.code.Conversion.{Conversion}
@@ -30,7 +28,6 @@ use Rattle.capl_tree.specs.declared.statement.Stmt.TheBlock.{Row_of-Arm, end_of-
 use Rattle.capl_tree.specs.declared.statement.Stmt.TheVariants as stmt
 use Rattle.capl_tree.specs.Forms as tree
 use Rattle.typed_tree.specs.declared.program.Typed.{Typed}
-use Rattle.typed_tree.specs.Memory.{kind_of}
 use Rattle.capl_meaning.specs.declared.builtin.Builtin.{Builtin}
 use Rattle.capl_meaning.specs.declared.builtin.Builtin.TheVariants as builtin
 use Rattle.capl_meaning.specs.declared.sort.Sort.{Sort}
@@ -50,7 +47,7 @@ use Rattle.typed_source.specs.Sound.{HasTables}
 use Rattle.typed_source.specs.Statement.{argument_by, argument_of, format_of, formats_of, formats_of_alone, formats_of_arms, formats_of_call, formats_of_else, formats_of_groups, formats_of_part, formats_of_row, formats_written, pieces_written, text_argument, text_written}
 use Rattle.sound_programs.specs.Given.{HaveForms}
 use Rattle.sound_programs.specs.Small.{AreSmallArms, AreSmallExprs, AreSmallGroups, AreSmallStmts, IsSmallElse, IsSmallExpr, IsSmallStmt}
-use Rattle.sound_programs.proofs.Empty.{back, front, full}
+use Rattle.sound_programs.proofs.Empty.{back, front}
 use Rattle.sound_programs.proofs.Fine.{fine_row}
 use Rattle.sound_programs.proofs.Named.{Names, names}
 use Rattle.sound_programs.proofs.Written.{Fits, and_both, fits, shown_array}

@@ -1,6 +1,6 @@
 -- The formats and timers of the typed program of a program that breaks no rule.
-use Rattle.std.proofs.Common.{◌≡◌, ℕ, inl, inr, List, [], ◌∷◌, ◌++◌, Option, Some, None, refl, sym, subst}
-use Rattle.std.specs.Prelude.{⊤, All, filter_map, flat_map}
+use Rattle.std.proofs.Common.{◌≡◌, ℕ, inl, inr, List, [], ◌∷◌, Option, Some, None, refl, sym, subst}
+use Rattle.std.specs.Prelude.{All, filter_map}
 use Rattle.std.specs.List.{AllByRecursion, cons_option}
 use Rattle.std.proofs.lemmas.List.Elements.{All-from_recursion}
 use Rattle.run_effects.specs.Duration.{IsUnit}
@@ -10,16 +10,16 @@ use Rattle.dbc_reader.specs.declared.message.DbcMessage.{DbcMessage}
 use Rattle.capl_tree.specs.declared.expr.Expr.{Expr}
 use Rattle.capl_tree.specs.declared.file.Program.{Program}
 use Rattle.typed_tree.specs.declared.program.Typed.{Typed}
-use Rattle.capl_meaning.specs.Variable.{Form, Number, Array, Message, Timer, Misfit, Variable, parts_of}
+use Rattle.capl_meaning.specs.Variable.{Form, Timer, Variable}
 use Rattle.capl_meaning.specs.Names.{Function, Names, Scope, inside_function, names_of}
 use Rattle.capl_meaning.specs.Calls.{function_numbered}
 use Rattle.capl_meaning.specs.Offences.{offences_of}
 use Rattle.capl_meaning.specs.Procedure.{Handler, handlers_of}
 use Rattle.capl_meaning.specs.Store.{unit_of}
-use Rattle.typed_laws.specs.Laid.{HasForm, IsAmong}
+use Rattle.typed_laws.specs.Laid.{IsAmong}
 use Rattle.typed_laws.proofs.Declared.{all_append}
 use Rattle.typed_source.specs.Program.{formats_of_body, formats_of_function, formats_of_functions, formats_of_handlers, typed_program}
-use Rattle.typed_source.specs.Sound.{HasTables, HaveUnits}
+use Rattle.typed_source.specs.Sound.{HasTables}
 use Rattle.typed_source.specs.Statement.{format_of, text_written}
 use Rattle.typed_source.proofs.Units.{have_units}
 use Rattle.sound_programs.specs.Given.{HaveForms, IsReadable}

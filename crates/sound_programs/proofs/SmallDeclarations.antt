@@ -1,7 +1,7 @@
 -- The initialisers of the variables of a readable program are small.
 use mathlib.Core.Former.{Count}
-use Rattle.std.proofs.Common.{ℕ, suc, inl, inr, List, [], ◌∷◌, ◌++◌, Option, Some, None, refl}
-use Rattle.std.specs.Prelude.{⊤, IfSome, flat_map, map}
+use Rattle.std.proofs.Common.{ℕ, suc, List, [], ◌∷◌}
+use Rattle.std.specs.Prelude.{IfSome, flat_map, map}
 use Rattle.std.specs.List.{AllByRecursion}
 use Rattle.dbc_reader.specs.declared.message.DbcMessage.{DbcMessage}
 use Rattle.capl_tree.specs.declared.declaration.Decl.{Decl}
@@ -16,7 +16,7 @@ use Rattle.capl_tree.specs.declared.statement.Stmt.{Stmt, Row_of-Stmt, end_of-St
 use Rattle.capl_tree.specs.declared.statement.Stmt.TheBlock.{Row_of-Arm, end_of-Arm, more_of-Arm, Row_of-Group, end_of-Group, more_of-Group, Held-Stmt-If-1}
 use Rattle.capl_tree.specs.declared.statement.Stmt.TheVariants as stmt
 use Rattle.capl_tree.specs.Forms as tree
-use Rattle.capl_meaning.specs.Variable.{Part, Globals, Procedure, Variable, declarations_in, declarations_of, declarations_of_arms, declarations_of_else, declarations_of_groups, form_of, parameters_of, parts_of, parts_of_files, parts_of_items, variable_of_parameter, variables_of, variables_of_declaration, variables_of_part}
+use Rattle.capl_meaning.specs.Variable.{Part, Globals, Procedure, Variable, declarations_in, declarations_of, declarations_of_arms, declarations_of_else, declarations_of_groups, form_of, parameters_of, parts_of_files, parts_of_items, variable_of_parameter, variables_of, variables_of_declaration, variables_of_part}
 use Rattle.typed_laws.specs.Laid.{IsAmong}
 use Rattle.typed_laws.proofs.Declared.{all_append}
 use Rattle.sound_programs.specs.Given.{IsReadable}

@@ -1,8 +1,8 @@
 -- The initial values of a program that breaks no rule are held by their cells' kinds.
-use Rattle.std.proofs.Common.{◌≡◌, ℕ, zero, suc, ◌+◌, ◌-◌, ◌≤◌, ◌<◌, ◌^◌, inl, inr, Bool, true, false, ◌&&◌, List, [], ◌∷◌, ◌++◌, length, Option, Some, None, get_or, refl, sym, ap, ◌∙◌, subst, arith, append_assoc, length-append, lit<}
-use Rattle.std.specs.Prelude.{⊤, All, IfSome, IsSomeAnd, ℤ, pos, negsuc, flat_map, fold, if◌then◌else◌, nat_le, nat_lt, replicate, slice_get, slice_index_or}
+use Rattle.std.proofs.Common.{◌≡◌, ℕ, zero, suc, ◌+◌, ◌-◌, ◌≤◌, ◌<◌, ◌^◌, inl, inr, Bool, true, false, ◌&&◌, List, [], ◌∷◌, ◌++◌, length, Option, Some, None, get_or, refl, sym, subst, arith, append_assoc, length-append, lit<}
+use Rattle.std.specs.Prelude.{All, IfSome, IsSomeAnd, ℤ, pos, negsuc, flat_map, fold, if◌then◌else◌, nat_le, nat_lt, replicate, slice_get, slice_index_or}
 use Rattle.std.specs.List.{AllByRecursion, AllZip}
-use Rattle.std.specs.Option.{option_and_then, option_map_or}
+use Rattle.std.specs.Option.{option_map_or}
 use Rattle.std.specs.Ordering.{int_eq}
 use Rattle.std.proofs.lemmas.Int.{ints}
 use Rattle.std.proofs.lemmas.List.Elements.{All-from_recursion}
@@ -26,12 +26,10 @@ use Rattle.capl_tree.specs.declared.declaration.Item.{Item}
 use Rattle.capl_tree.specs.declared.declaration.Item.TheVariants.{Plain, Set}
 use Rattle.capl_tree.specs.declared.expr.Expr.{Expr}
 use Rattle.capl_tree.specs.declared.expr.Expr.TheVariants as expr
-use Rattle.capl_tree.specs.declared.expr.Field.{Field}
 use Rattle.capl_tree.specs.declared.expr.Field.TheVariants.{Named}
 use Rattle.capl_tree.specs.Forms as tree
 use Rattle.capl_tree.specs.Place.{expression_place}
 use Rattle.capl_tree.specs.declared.file.Program.{Program}
-use Rattle.typed_tree.specs.declared.expression.Place.{Place}
 use Rattle.typed_tree.specs.declared.expression.Place.TheVariants as place
 use Rattle.typed_tree.specs.declared.program.Typed.{Typed}
 use Rattle.typed_tree.specs.SoundExpression.{IsSoundExpr}
@@ -58,7 +56,7 @@ use Rattle.typed_source.specs.Sound.{HasTables, IsOfNumber}
 use Rattle.typed_source.proofs.SoundExpressions.{sound}
 use Rattle.sound_programs.specs.Given.{IsReadable}
 use Rattle.sound_programs.specs.Small.{IsSmallExpr, IsSmallInit}
-use Rattle.sound_programs.proofs.Declarations.{IsDeclaredWell, IsHeldType, declared_in, well_declared}
+use Rattle.sound_programs.proofs.Declarations.{IsHeldType, declared_in, well_declared}
 use Rattle.sound_programs.proofs.Empty.{back, full}
 use Rattle.sound_programs.proofs.Procedures.{tables_there}
 use Rattle.sound_programs.proofs.SmallDeclarations.{small_init}

@@ -1,6 +1,6 @@
 -- A `write` that breaks no rule has a format, whose line takes as many numbers as there are among its arguments.
 use mathlib.Core.Former.{Count}
-use Rattle.std.proofs.Common.{◌≡◌, ℕ, suc, ◌+◌, Bool, true, false, ◌&&◌, cond, List, [], ◌∷◌, ◌++◌, length, map, Option, Some, None, refl, sym, ap, ◌∙◌, subst, arith}
+use Rattle.std.proofs.Common.{◌≡◌, ℕ, ◌+◌, Bool, true, false, ◌&&◌, cond, List, [], ◌∷◌, ◌++◌, length, map, Option, Some, None, refl, sym, ap, ◌∙◌, arith}
 use Rattle.std.specs.Prelude.{◌==◌, count_by, filter, if◌then◌else◌}
 use Rattle.std.specs.List.{AllByRecursion, list_all, zip}
 use Rattle.std.specs.Option.{option_and_then, option_map, option_map_or}
