@@ -10,6 +10,10 @@ use items::Items;
 use std::alloc::Global;
 use texts::{NoMemory, Text};
 
+/// Room for so many records is made at once, where there are as many; a longer list takes memory as its
+/// records come.
+const ROOM: usize = 16;
+
 /// Appends a text: its length and its bytes.
 pub(crate) fn write_text(own: &[u8], into: &mut Vec<u8>) -> Result<(), NoMemory>
     requires { length own.now < 2 ^ 32 }
@@ -41,7 +45,7 @@ fn write_records<T: Stored>(records: &[T], into: &mut Vec<u8>) -> Result<(), NoM
     Ok(())
 }
 
-/// So many records, and what stands behind them. Memory is taken as they come.
+/// So many records, and what stands behind them. Memory for more than a few is taken as they come.
 fn read_records<T: Record>(
     alloc: Global,
     count: u32,
@@ -55,7 +59,7 @@ fn read_records<T: Record>(
     ensures bad { IsErrOf result Bad → items_at T.at count bytes.now ≡ None }
 {
     T::complete();
-    let mut records = Vec::new(alloc);
+    let mut records = Vec::with_capacity(alloc, (count as usize).min(ROOM))?;
     let mut rest = bytes;
     for _ in 0..count {
         let (record, behind) = T::read(alloc, rest)?;

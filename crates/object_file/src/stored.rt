@@ -4,7 +4,7 @@ ghost use Rattle.std.specs.Prelude.{◌≡◌, ◌++◌, ◌||◌, ℕ, Bool, tr
 ghost use Rattle.object_file.specs.Inside.Reading.{IsLong, pair_at};
 ghost use Rattle.object_file.specs.declared.stored.ReadRefusal.TheVariants.{Bad};
 
-use std::alloc::{AllocFailed, Global};
+use std::alloc::{AllocError, AllocFailed, Global};
 use texts::NoMemory;
 
 /// Why nothing is read.
@@ -23,6 +23,17 @@ impl From<NoMemory> for ReadRefusal {
     ghost from_gives = { λ _ refusal. refusal ≡ NoMemory };
 
     fn from(_: NoMemory) -> ReadRefusal {
+        ReadRefusal::NoMemory
+    }
+}
+
+impl From<AllocError> for ReadRefusal {
+    ghost use Rattle.std.specs.Prelude.{◌≡◌};
+    ghost use Rattle.object_file.specs.declared.stored.ReadRefusal.TheVariants.{NoMemory};
+
+    ghost from_gives = { λ _ refusal. refusal ≡ NoMemory };
+
+    fn from(_: AllocError) -> ReadRefusal {
         ReadRefusal::NoMemory
     }
 }
