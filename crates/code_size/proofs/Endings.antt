@@ -2,18 +2,8 @@
 use Rattle.std.specs.Prelude.{◌≡◌, ℕ, zero, suc, ◌-◌, Bool, true, false, ◌&&◌, if◌then◌else◌, List, [], ◌∷◌, length, take, slice_get, Some}
 use Rattle.std.proofs.Common.{refl, ap, sym, ◌∙◌, arith}
 use Rattle.typed_tree.specs.declared.statement.TStmt.{TStmt}
-use Rattle.typed_tree.specs.Shape.{body_goes_on, goes_on, is_break}
+use Rattle.typed_tree.specs.Shape.{is_break}
 use Rattle.code_size.specs.Rows.{kept}
-
--- the last of statements is what goes on
-pub goes_last : (before : Bool) (all : List TStmt) (i : ℕ) (s : TStmt) → suc i ≡ length all →
-    Some s ≡ slice_get all i → goes_on s ≡ body_goes_on before all
-goes_last before [] i s long last = absurd (omega (arith, long))
-goes_last before (x ∷ []) zero s long last = let e : s ≡ x = cc in ap goes_on e
-goes_last before (x ∷ []) (suc i) s long last = absurd (omega (arith, long))
-goes_last before (x ∷ y ∷ rest) zero s long last = absurd (omega (arith, long))
-goes_last before (x ∷ y ∷ rest) (suc i) s long last =
-    goes_last (goes_on x) (y ∷ rest) i s (omega (arith, long)) last
 
 -- what stands before others is kept
 not_last : {A : Type 0} (b : Bool) (x y : A) → (if b && false then x else y) ≡ y

@@ -1,20 +1,21 @@
 // How many instructions the code of a statement has.
 
-ghost use Rattle.std.specs.Prelude.{◌≡◌, ◌+◌, ◌-◌, ◌^◌, ◌||◌, if◌then◌else◌, None, count_by, false, is_some, min, sum, sum_by, true};
-ghost use Rattle.std.specs.List.{list_any};
-ghost use Rattle.typed_tree.specs.Statement.{same_label};
+ghost use Rattle.std.specs.Prelude.{◌≡◌, ◌≤◌, ◌+◌, ◌-◌, ◌^◌, ◌++◌, if◌then◌else◌, count_by, is_some, length, min, sum, sum_by, take, true, IfOk, OnOk};
 ghost use Rattle.typed_tree.specs.Shape.{body_goes_on, goes_on};
 ghost use Rattle.typed_tree.specs.Size.{for_test_size, jump_size, returned_size, stmt_size};
-ghost use Rattle.code_size.specs.Rows.{arms_go_on_of, arms_size_of, before_default, case_count_of, group_sizes_of, kept_if, labels_of_groups, part_goes_on_of, part_size_of};
+ghost use Rattle.code_size.specs.Notes.{all_notes, arms_notes_of, group_notes, groups_notes_of, inside_notes, notes_of, part_notes_of, switch_notes_of};
+ghost use Rattle.code_size.specs.Rows.{arms_go_on_of, arms_size_of, before_default, case_count_of, group_sizes_of, kept_if, labels_of_groups, part_goes_on_of, part_size_of, switch_size_of};
 
 use crate::expression::{dropped_size, test_size, value_size, values_size};
+use crate::extent::{Extent, ending, going_on, joined};
 use crate::flow::{has_default, kept_len};
 use crate::shape::leaves_number;
 use items::Boxed;
+use texts::NoMemory;
 use typed_tree::{TArm, TExpr, TGroup, TStmt, Typed};
 
 /// The size of a jump over so many instructions: there is none over nothing.
-pub fn jump_size(over: u64) -> u64
+fn jump_size(over: u64) -> u64
     ensures { result ≡ jump_size over }
 {
     u64::from(over != 0)
@@ -45,7 +46,7 @@ fn returned_size(value: &Option<TExpr>, typed: &Typed) -> u64
 }
 
 /// The size of the test of a `for`, or 2^64 - 1 where it has more.
-pub fn for_test_size(test: &Option<TExpr>, typed: &Typed) -> u64
+fn for_test_size(test: &Option<TExpr>, typed: &Typed) -> u64
     ensures { result ≡ min (for_test_size typed.now test.now) (2 ^ 64 - 1) }
 {
     match test {
@@ -54,119 +55,125 @@ pub fn for_test_size(test: &Option<TExpr>, typed: &Typed) -> u64
     }
 }
 
-/// The size of a statement or of statements, at most 2^64 - 1, and whether control may come to their end.
-#[derive(Clone, Copy)]
-struct Extent {
-    size: u64,
-    goes_on: bool,
-}
-
-/// The extent of what has this size, to whose end control may come.
-fn going_on(size: u64) -> Extent
-    ensures size { result.size ≡ size }
-    ensures goes_on { result.goes_on ≡ true }
+/// Notes the extents of statements in a row and of all that is in them, and gives that of all together.
+/// What is asked for first when code is made of them stands last. Takes time and memory linear in the
+/// statements.
+///
+/// After an error, what was noted is a beginning of the notes.
+pub fn note_statements(
+    all: &[TStmt],
+    typed: &Typed,
+    notes: &mut Vec<Extent>,
+) -> Result<Extent, NoMemory>
+    ensures size { IfOk result
+        (λ extent. extent.size ≡ min (sum_by (stmt_size typed.now) all.now) (2 ^ 64 - 1)) }
+    ensures goes_on { IfOk result (λ extent. extent.goes_on ≡ body_goes_on true all.now) }
+    ensures noted { OnOk result (notes.new.items ≡ notes.old.items ++ all_notes typed.now all.now) }
 {
-    Extent {
-        size,
-        goes_on: true,
-    }
+    let extent = note_first(all, all.len(), typed, notes)?;
+    Ok(extent)
 }
 
-/// The extent of what has this size, to whose end control never comes.
-fn ending(size: u64) -> Extent
-    ensures size { result.size ≡ size }
-    ensures goes_on { result.goes_on ≡ false }
+/// Notes a statement, and gives its extent.
+#[cycle(sizes)]
+fn note_stmt(s: &TStmt, typed: &Typed, notes: &mut Vec<Extent>) -> Result<Extent, NoMemory>
+    ensures size { IfOk result (λ extent. extent.size ≡ min (stmt_size typed.now s.now) (2 ^ 64 - 1)) }
+    ensures goes_on { IfOk result (λ extent. extent.goes_on ≡ goes_on s.now) }
+    ensures noted { OnOk result (notes.new.items ≡ notes.old.items ++ notes_of typed.now s.now) }
 {
-    Extent {
-        size,
-        goes_on: false,
-    }
+    let extent = note_inside(s, typed, notes)?;
+    notes.push(extent)?;
+    Ok(extent)
 }
 
-/// How many instructions the code of a statement has, or 2^64 - 1 where it has more. Takes time linear
-/// in the statement.
-pub fn stmt_size(s: &TStmt, typed: &Typed) -> u64
-    ensures { result ≡ min (stmt_size typed.now s.now) (2 ^ 64 - 1) }
-{
-    extent_of(s, typed).size
-}
-
-/// The extent of a statement. Takes time linear in it: both are found in one walk, since the size of an `if`
-/// asks of each arm whether it goes on.
+/// Notes what is in a statement, and gives the statement's extent. Size and end are found in one walk,
+/// since the size of an `if` asks of each arm whether it goes on.
 #[cycle(sizes)]
 #[tactic(auto, using(crate::proofs::By::form), unfolding(crate::proofs::By::tree, crate::proofs::By::row))]
-fn extent_of(s: &TStmt, typed: &Typed) -> Extent
-    ensures size { result.size ≡ min (stmt_size typed.now s.now) (2 ^ 64 - 1) }
-    ensures goes_on { result.goes_on ≡ goes_on s.now }
+fn note_inside(s: &TStmt, typed: &Typed, notes: &mut Vec<Extent>) -> Result<Extent, NoMemory>
+    ensures size { IfOk result (λ extent. extent.size ≡ min (stmt_size typed.now s.now) (2 ^ 64 - 1)) }
+    ensures goes_on { IfOk result (λ extent. extent.goes_on ≡ goes_on s.now) }
+    ensures noted { OnOk result (notes.new.items ≡ notes.old.items ++ inside_notes typed.now s.now) }
 {
     match s {
-        TStmt::Empty => going_on(0),
-        TStmt::Block(all) => extent_of_all(all.as_slice(), typed),
-        TStmt::If { arms, other } => {
-            extent_of_arms(arms.as_slice(), extent_of_part(other, typed), typed)
+        TStmt::Block(all) => {
+            let all = all.as_slice();
+            let extent = note_first(all, all.len(), typed, notes)?;
+            Ok(extent)
         }
-        TStmt::While { test, body } => going_on(loop_size(
-            extent_of(body.get(), typed).size,
-            test_size(test, typed, true, true),
-        )),
-        TStmt::Do { body, test } => going_on(
-            extent_of(body.get(), typed)
-                .size
-                .saturating_add(test_size(test, typed, true, true))
-                .saturating_add(1),
-        ),
+        TStmt::If { arms, other } => {
+            let other = note_part(other, typed, notes)?;
+            let extent = note_arms(arms.as_slice(), other, typed, notes)?;
+            Ok(extent)
+        }
+        TStmt::While { test, body } => {
+            let body = note_stmt(body.get(), typed, notes)?;
+            let test = test_size(test, typed, true, true);
+            Ok(going_on(loop_size(body.size, test)))
+        }
+        TStmt::Do { body, test } => {
+            let body = note_stmt(body.get(), typed, notes)?;
+            let test = test_size(test, typed, true, true);
+            Ok(going_on(body.size.saturating_add(test).saturating_add(1)))
+        }
         TStmt::For {
             init,
             test,
             step,
             body,
         } => {
-            going_on(turns_size(
-                extent_of_part(init, typed).size,
-                for_test_size(test, typed),
-                extent_of_part(step, typed).size,
-                extent_of(body.get(), typed).size,
-            ))
+            let step = note_part(step, typed, notes)?;
+            let body = note_stmt(body.get(), typed, notes)?;
+            let init = note_part(init, typed, notes)?;
+            notes.push(going_on(step.size))?;
+            let test = for_test_size(test, typed);
+            Ok(going_on(turns_size(init.size, test, step.size, body.size)))
         }
-        TStmt::Switch { on, groups } => going_on(value_size(on, typed).saturating_add(switch_sizes(
-            groups.as_slice(),
-            typed,
-        ).whole())),
-        TStmt::Return { value } => ending(returned_size(value, typed).saturating_add(1)),
+        TStmt::Switch { on, groups } => {
+            let behind = note_switch(groups.as_slice(), typed, notes)?;
+            Ok(going_on(value_size(on, typed).saturating_add(behind)))
+        }
+        TStmt::Return { value } => Ok(ending(returned_size(value, typed).saturating_add(1))),
         TStmt::Eval(e) => {
-            going_on(dropped_size(e, typed).saturating_add(u64::from(leaves_number(e, typed))))
+            let drop = u64::from(leaves_number(e, typed));
+            Ok(going_on(dropped_size(e, typed).saturating_add(drop)))
         }
         TStmt::Write { args, .. } => {
-            going_on(values_size(args.as_slice(), typed).saturating_add(1))
+            Ok(going_on(values_size(args.as_slice(), typed).saturating_add(1)))
         }
-        TStmt::Set { value, .. } => going_on(value_size(value, typed).saturating_add(1)),
-        TStmt::Break | TStmt::Continue => ending(1),
-        TStmt::Send { .. } | TStmt::Copy { .. } | TStmt::Halt | TStmt::Cancel { .. } => going_on(1),
+        TStmt::Set { value, .. } => Ok(going_on(value_size(value, typed).saturating_add(1))),
+        TStmt::Empty => Ok(going_on(0)),
+        TStmt::Break | TStmt::Continue => Ok(ending(1)),
+        TStmt::Send { .. } | TStmt::Copy { .. } | TStmt::Halt | TStmt::Cancel { .. } => {
+            Ok(going_on(1))
+        }
     }
 }
 
-/// The size of statements in a row, or 2^64 - 1 where they have more.
-pub fn stmts_size(all: &[TStmt], typed: &Typed) -> u64
-    ensures { result ≡ min (sum_by (stmt_size typed.now) all.now) (2 ^ 64 - 1) }
-{
-    extent_of_all(all, typed).size
-}
-
-/// The extent of statements in a row, of which the last decides whether they go on.
+/// Notes so many statements, from the last to the first, and gives the extent of all together, of which the
+/// last decides whether they go on.
 #[cycle(sizes)]
-fn extent_of_all(all: &[TStmt], typed: &Typed) -> Extent
-    ensures size { result.size ≡ min (sum_by (stmt_size typed.now) all.now) (2 ^ 64 - 1) }
-    ensures goes_on { result.goes_on ≡ body_goes_on true all.now }
+fn note_first(
+    all: &[TStmt],
+    count: usize,
+    typed: &Typed,
+    notes: &mut Vec<Extent>,
+) -> Result<Extent, NoMemory>
+    requires { count ≤ length all.now }
+    ensures size { IfOk result
+        (λ extent. extent.size ≡ min (sum_by (stmt_size typed.now) (take count all.now)) (2 ^ 64 - 1)) }
+    ensures goes_on { IfOk result (λ extent. extent.goes_on ≡ body_goes_on true (take count all.now)) }
+    ensures noted { OnOk result
+        (notes.new.items ≡ notes.old.items ++ all_notes typed.now (take count all.now)) }
 {
     let mut whole = going_on(0);
-    for s in all {
-        let next = extent_of(s, typed);
-        whole = Extent {
-            size: whole.size.saturating_add(next.size),
-            goes_on: next.goes_on,
-        };
+    let mut left = count;
+    while left > 0 {
+        left -= 1;
+        let s = note_stmt(&all[left], typed, notes)?;
+        whole = joined(s, whole, left + 1 == count);
     }
-    whole
+    Ok(whole)
 }
 
 /// The size of the jump of an arm over what is behind it: there is none where the arm does not go on.
@@ -176,38 +183,26 @@ fn arm_jump_size(goes: bool, behind: u64) -> u64
     if goes { jump_size(behind) } else { 0 }
 }
 
-/// The size of a group of a `switch`, which is the last one or not, or 2^64 - 1 where it has more.
+/// Notes the arms of an `if`, and gives their extent with what stands behind them. Each arm jumps once,
+/// over the rest, so they are counted from the last one on.
 #[cycle(sizes)]
-pub fn group_size(all: &[TStmt], last: bool, typed: &Typed) -> u64
-    ensures { result ≡ min (sum_by (stmt_size typed.now) (kept_if last all.now)) (2 ^ 64 - 1) }
-{
-    let mut size = 0u64;
-    for i in 0..kept_len(all, last) {
-        size = size.saturating_add(extent_of(&all[i], typed).size);
-    }
-    size
-}
-
-/// The size of the arms of an `if`, with what stands behind them, or 2^64 - 1 where it is more.
-pub fn arms_size(arms: &[TArm], other: u64, typed: &Typed) -> u64
-    ensures { result ≡ min (arms_size_of typed.now arms.now other) (2 ^ 64 - 1) }
-{
-    extent_of_arms(arms, going_on(other), typed).size
-}
-
-/// The extent of the arms of an `if`, with what stands behind them. Each arm jumps once, over the rest, so
-/// they are counted from the last one on.
-#[cycle(sizes)]
-fn extent_of_arms(arms: &[TArm], other: Extent, typed: &Typed) -> Extent
-    ensures size { result.size ≡ min (arms_size_of typed.now arms.now other.size) (2 ^ 64 - 1) }
-    ensures goes_on { result.goes_on ≡ arms_go_on_of arms.now other.goes_on }
+fn note_arms(
+    arms: &[TArm],
+    other: Extent,
+    typed: &Typed,
+    notes: &mut Vec<Extent>,
+) -> Result<Extent, NoMemory>
+    ensures size { IfOk result
+        (λ extent. extent.size ≡ min (arms_size_of typed.now arms.now other.size) (2 ^ 64 - 1)) }
+    ensures goes_on { IfOk result (λ extent. extent.goes_on ≡ arms_go_on_of arms.now other.goes_on) }
+    ensures noted { OnOk result (notes.new.items ≡ notes.old.items ++ arms_notes_of typed.now arms.now) }
 {
     let mut behind = other;
     let mut left = arms.len();
     while left > 0 {
         left -= 1;
         let arm = &arms[left];
-        let body = extent_of(&arm.body, typed);
+        let body = note_stmt(&arm.body, typed, notes)?;
         behind = Extent {
             size: test_size(&arm.test, typed, false, false)
                 .saturating_add(body.size)
@@ -216,48 +211,27 @@ fn extent_of_arms(arms: &[TArm], other: Extent, typed: &Typed) -> Extent
             goes_on: body.goes_on || behind.goes_on,
         };
     }
-    behind
+    Ok(behind)
 }
 
-/// The size of a part that may be missing, or 2^64 - 1 where it has more.
-pub fn part_size(part: &Option<Boxed<TStmt>>, typed: &Typed) -> u64
-    ensures { result ≡ min (part_size_of typed.now part.now) (2 ^ 64 - 1) }
-{
-    extent_of_part(part, typed).size
-}
-
-/// The extent of a part that may be missing.
+/// Notes a part that may be missing, and gives its extent.
 #[cycle(sizes)]
-fn extent_of_part(part: &Option<Boxed<TStmt>>, typed: &Typed) -> Extent
-    ensures size { result.size ≡ min (part_size_of typed.now part.now) (2 ^ 64 - 1) }
-    ensures goes_on { result.goes_on ≡ part_goes_on_of part.now }
+fn note_part(
+    part: &Option<Boxed<TStmt>>,
+    typed: &Typed,
+    notes: &mut Vec<Extent>,
+) -> Result<Extent, NoMemory>
+    ensures size { IfOk result
+        (λ extent. extent.size ≡ min (part_size_of typed.now part.now) (2 ^ 64 - 1)) }
+    ensures goes_on { IfOk result (λ extent. extent.goes_on ≡ part_goes_on_of part.now) }
+    ensures noted { OnOk result (notes.new.items ≡ notes.old.items ++ part_notes_of typed.now part.now) }
 {
     match part {
-        None => going_on(0),
-        Some(part) => extent_of(part.get(), typed),
-    }
-}
-
-/// The sizes of a `switch` behind its value, each at most 2^64 - 1.
-#[derive(Clone, Copy, Debug)]
-pub struct SwitchSizes {
-    /// How many cases there are.
-    pub cases: u64,
-    /// What stands before the first group with `default`, or all groups where there is none.
-    pub over: u64,
-    /// All groups.
-    pub groups: u64,
-}
-
-impl SwitchSizes {
-    /// All together, with the drop of the value and the jump behind the cases.
-    fn whole(self) -> u64
-        ensures { result ≡ min (self.cases + (1 + (jump_size self.over + self.groups))) (2 ^ 64 - 1) }
-    {
-        let between = 1 + jump_size(self.over);
-        self.cases
-            .saturating_add(between)
-            .saturating_add(self.groups)
+        None => Ok(going_on(0)),
+        Some(part) => {
+            let extent = note_stmt(part.get(), typed, notes)?;
+            Ok(extent)
+        }
     }
 }
 
@@ -268,42 +242,107 @@ fn cases_in(labels: &[Option<i128>]) -> u64
     labels.iter().filter(|label| label.is_some()).count() as u64
 }
 
-/// Whether `default` was met before or is among labels.
-fn met_with(met: bool, labels: &[Option<i128>]) -> bool
-    ensures { result ≡ (met || list_any (same_label None) labels.now) }
+/// How many `case` labels groups have, or 2^64 - 1 where they have more.
+pub fn case_count(groups: &[TGroup]) -> u64
+    ensures { result ≡ min (case_count_of groups.now) (2 ^ 64 - 1) }
 {
-    met || has_default(labels)
+    let mut cases = 0u64;
+    for group in groups {
+        cases = cases.saturating_add(cases_in(group.labels.as_slice()));
+    }
+    cases
 }
 
-/// A size that counts unless `default` was met.
-fn size_unless(met: bool, size: u64) -> u64
-    ensures { result ≡ (if met then 0 else size) }
-{
-    if met { 0 } else { size }
+/// The sizes of the groups of a `switch`, each at most 2^64 - 1.
+#[derive(Clone, Copy)]
+struct GroupSizes {
+    /// What stands before the first group with `default`, or all groups where there is none.
+    over: u64,
+    /// All groups.
+    groups: u64,
 }
 
-/// The sizes of a `switch` behind its value.
+impl GroupSizes {
+    /// The size of a `switch` behind its value: so many cases, the drop of the value, the jump behind the
+    /// cases and the groups.
+    fn whole(self, cases: u64) -> u64
+        ensures { result ≡ min (cases + (1 + (jump_size self.over + self.groups))) (2 ^ 64 - 1) }
+    {
+        let between = 1 + jump_size(self.over);
+        cases.saturating_add(between).saturating_add(self.groups)
+    }
+}
+
+/// The size of what stands before the first group with `default`, where a group of a size that has it or
+/// not is put before what has this size.
+fn size_before(default: bool, size: u64, over: u64) -> u64
+    ensures { result ≡ (if default then 0 else min (size + over) (2 ^ 64 - 1)) }
+{
+    if default {
+        0
+    } else {
+        size.saturating_add(over)
+    }
+}
+
+/// Notes what is in a `switch`, and gives its size behind its value.
 #[cycle(sizes)]
-pub fn switch_sizes(groups: &[TGroup], typed: &Typed) -> SwitchSizes
-    ensures cases { result.cases ≡ min (case_count_of groups.now) (2 ^ 64 - 1) }
-    ensures over { result.over ≡ min (before_default (labels_of_groups groups.now)
-        (group_sizes_of typed.now groups.now)) (2 ^ 64 - 1) }
-    ensures groups { result.groups ≡ min (sum (group_sizes_of typed.now groups.now)) (2 ^ 64 - 1) }
+fn note_switch(groups: &[TGroup], typed: &Typed, notes: &mut Vec<Extent>) -> Result<u64, NoMemory>
+    ensures size { IfOk result (λ size. size ≡ min (switch_size_of typed.now groups.now) (2 ^ 64 - 1)) }
+    ensures noted { OnOk result (notes.new.items ≡ notes.old.items ++ switch_notes_of typed.now groups.now) }
 {
-    let mut sizes = SwitchSizes {
-        cases: 0,
-        over: 0,
-        groups: 0,
-    };
-    let mut met = false;
-    for (i, group) in groups.iter().enumerate() {
-        let size = group_size(group.body.as_slice(), i + 1 == groups.len(), typed);
-        met = met_with(met, group.labels.as_slice());
-        sizes.cases = sizes
-            .cases
-            .saturating_add(cases_in(group.labels.as_slice()));
-        sizes.over = sizes.over.saturating_add(size_unless(met, size));
+    let sizes = note_groups(groups, typed, notes)?;
+    notes.push(going_on(sizes.over))?;
+    Ok(sizes.whole(case_count(groups)))
+}
+
+/// Notes the groups of a `switch`, from the last to the first, and gives their sizes.
+#[cycle(sizes)]
+fn note_groups(
+    groups: &[TGroup],
+    typed: &Typed,
+    notes: &mut Vec<Extent>,
+) -> Result<GroupSizes, NoMemory>
+    ensures over { IfOk result (λ sizes. sizes.over ≡ min (before_default (labels_of_groups groups.now)
+        (group_sizes_of typed.now groups.now)) (2 ^ 64 - 1)) }
+    ensures groups { IfOk result
+        (λ sizes. sizes.groups ≡ min (sum (group_sizes_of typed.now groups.now)) (2 ^ 64 - 1)) }
+    ensures noted { OnOk result
+        (notes.new.items ≡ notes.old.items ++ groups_notes_of typed.now groups.now) }
+{
+    let mut sizes = GroupSizes { over: 0, groups: 0 };
+    let mut left = groups.len();
+    while left > 0 {
+        left -= 1;
+        let group = &groups[left];
+        let last = left + 1 == groups.len();
+        let size = note_group(group.body.as_slice(), last, typed, notes)?;
+        sizes.over = size_before(has_default(group.labels.as_slice()), size, sizes.over);
         sizes.groups = sizes.groups.saturating_add(size);
     }
-    sizes
+    Ok(sizes)
+}
+
+/// Notes a group of a `switch`, which is the last one or not, and gives its size: behind the notes of its
+/// statements stand how many they are, so that the next group is found, and its size, for the places of the
+/// cases.
+#[cycle(sizes)]
+fn note_group(
+    all: &[TStmt],
+    last: bool,
+    typed: &Typed,
+    notes: &mut Vec<Extent>,
+) -> Result<u64, NoMemory>
+    ensures size { IfOk result
+        (λ size. size ≡ min (sum_by (stmt_size typed.now) (kept_if last all.now)) (2 ^ 64 - 1)) }
+    ensures noted { OnOk result (notes.new.items ≡ notes.old.items
+        ++ group_notes (all_notes typed.now (kept_if last all.now))
+        (sum_by (stmt_size typed.now) (kept_if last all.now))) }
+{
+    let before = notes.len();
+    let extent = note_first(all, kept_len(all, last), typed, notes)?;
+    let count = notes.len() - before;
+    notes.push(going_on(count as u64))?;
+    notes.push(going_on(extent.size))?;
+    Ok(extent.size)
 }
