@@ -6,7 +6,7 @@ use Rattle.int_kinds.specs.declared.kinds.Kind.{Kind}
 use Rattle.int_kinds.specs.declared.kinds.Kind.TheVariants.{Char}
 use Rattle.write_format.specs.Arrays.{HoldsBytes, IsCharArray}
 use Rattle.write_format.specs.Format.{char_arrays}
-use Rattle.machine_tests.proofs.formats.line.Goals as goal
+use Rattle.format_tests.proofs.formats.line.Goals as goal
 
 -- the kinds of the test's cells
 abbrev kinds : List Kind
