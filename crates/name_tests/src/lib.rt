@@ -1,5 +1,4 @@
-//! Tests of the calls that ask what names and sorts are, what calls what, and which rules a program breaks: a
-//! module for each subject.
+//! Tests of the calls that ask what names mean, and what calls what: a module for each subject.
 //!
 //! They stand here, above those crates, so that each of those is proved without them.
 #![tactic(auto)]
@@ -8,7 +7,3 @@
 mod calls;
 #[cfg(test)]
 mod names;
-#[cfg(test)]
-mod rules;
-#[cfg(test)]
-mod sorts;

@@ -3,7 +3,7 @@ use Rattle.std.proofs.Common.{◌∙◌, ap, subst, sym}
 use Rattle.capl_meaning.specs.Names.{Names, names_of}
 use Rattle.check_names.specs.First.{IsFirstOf}
 use Rattle.check_names.specs.Named.{named_offences}
-use Rattle.name_tests.proofs.rules.first_of.Goals as goal
+use Rattle.rule_tests.proofs.rules.first_of.Goals as goal
 
 pub first_offence-requires-clause-names : goal.first_offence-requires-clause-names
 first_offence-requires-clause-names c =
