@@ -3,13 +3,13 @@
 ghost use Rattle.std.specs.Prelude.{◌≡◌, [], IfOk};
 ghost use Rattle.sim_core.specs.Core.{HasRun, states_of};
 
-use crate::bench::{Start, heap_start, plain_start};
-use crate::entries::{check_entries, check_rows};
+use crate::checks::{check_entries, check_rows};
 use crate::pairs::PAIRS;
 use arbitration::PlainBus;
 use bus_heap::HeapBus;
 use can_bus::Bus;
 use node_run::TaskFault;
+use run_bench::{Start, heap_start, plain_start};
 use run_records::{MemRecord, Record};
 use sim_core::Core;
 use sim_core::laws::one_result;

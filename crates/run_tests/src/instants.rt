@@ -4,9 +4,9 @@ ghost use Rattle.std.specs.Prelude.{◌≢◌};
 ghost use Rattle.sim_core.specs.Core.{HaveRows};
 ghost use Rattle.sim_core.specs.declared.simulation.Phase.TheVariants.{Over};
 
-use crate::bench::{Start, plain_start};
-use crate::entries::{Entry, check_entries, check_rows};
+use crate::checks::{check_entries, check_rows};
 use arbitration::PlainBus;
+use run_bench::{Entry, Start, plain_start};
 use run_records::MemRecord;
 use sim_core::{Core, Step};
 use stack_vm::Meter;

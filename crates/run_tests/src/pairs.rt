@@ -1,7 +1,7 @@
 // Runs of two nodes.
 
-use crate::entries::Entry;
 use crate::runs::Run;
+use run_bench::Entry;
 
 pub(crate) const PAIRS: [Run; 6] = [
     // One pick takes the second node first; then one node is left, and the pick that is missing takes it.

@@ -1,9 +1,9 @@
 // Runs to their ends.
 
-use crate::bench::{Start, heap_start, plain_start};
-use crate::entries::{Entry, check_entries, check_rows};
+use crate::checks::{check_entries, check_rows};
 use crate::pairs::PAIRS;
 use can_bus::Bus;
+use run_bench::{Entry, Start, heap_start, plain_start};
 use run_records::MemRecord;
 use stack_vm::Meter;
 use std::alloc::Global;

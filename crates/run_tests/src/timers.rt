@@ -1,7 +1,7 @@
 // Many timers that are due at one moment.
 
-use crate::bench::plain_start;
 use crate::runs::ran;
+use run_bench::plain_start;
 use run_records::Noted;
 use std::alloc::Global;
 use std::test::Fail;

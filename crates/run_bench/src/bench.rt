@@ -6,7 +6,7 @@ ghost use Rattle.node_run.specs.Node.{HasRows};
 ghost use Rattle.sim_core.specs.Core.{HaveRows, IsLoaded};
 ghost use Rattle.sim_core.specs.declared.simulation.Phase.TheVariants.{New};
 ghost use Rattle.sim_play.specs.Play.{AreNewRows, StandInOrder};
-ghost use Rattle.run_tests.specs.Rows.{one_order};
+ghost use Rattle.run_bench.specs.Rows.{one_order};
 
 use arbitration::PlainBus;
 use bus_heap::HeapBus;
@@ -34,13 +34,13 @@ const NODES: [(&str, &str); 2] = [("A", "a.can"), ("B", "b.can")];
 
 /// What a run takes of a scenario and its sources.
 #[derive(Drop)]
-pub(crate) struct Course {
-    pub(crate) codes: Vec<Verified>,
-    pub(crate) keys: Vec<KeyItem>,
-    pub(crate) picks: Vec<u32>,
-    pub(crate) bit: u32,
-    pub(crate) turns: u64,
-    pub(crate) until: u64,
+pub struct Course {
+    pub codes: Vec<Verified>,
+    pub keys: Vec<KeyItem>,
+    pub picks: Vec<u32>,
+    pub bit: u32,
+    pub turns: u64,
+    pub until: u64,
     ghost takes_time: { 1 ≤ bit },
     ghost in_time: { until ≤ 2 ^ 63 },
     ghost in_range: { All (λ key. key.key < 127) keys.items },
@@ -134,9 +134,9 @@ fn load_nodes(alloc: Global, codes: Vec<Verified>, turns: u64) -> Result<(Vec<No
 
 /// A simulation of which nothing has happened yet, and a meter with the rows of its nodes.
 #[derive(Drop)]
-pub(crate) struct Start<B: Bus> {
-    pub(crate) core: Core<B>,
-    pub(crate) meter: Meter,
+pub struct Start<B: Bus> {
+    pub core: Core<B>,
+    pub meter: Meter,
     ghost is_new: { core.phase ≡ New },
     ghost in_order: { StandInOrder 0 core.nodes (length meter) } by { one_order 0 core.nodes (length meter) },
     ghost zeros: { meter ≡ replicate (length meter) (record { runs = 0; turns = 0 }) },
@@ -167,26 +167,18 @@ fn start_on<B: Bus + Drop>(alloc: Global, course: Course, bus: B) -> Result<Star
 }
 
 /// The start of a run of what a scenario and its sources give.
-pub(crate) fn start_of(alloc: Global, course: Course) -> Result<Start<PlainBus>, Fail> {
+pub fn start_of(alloc: Global, course: Course) -> Result<Start<PlainBus>, Fail> {
     let bus = PlainBus::make(alloc, course.bit);
     start_on(alloc, course, bus)
 }
 
 /// The start of a run of these sources, by a scenario with these items.
-pub(crate) fn plain_start(
-    alloc: Global,
-    items: &str,
-    sources: &[&str],
-) -> Result<Start<PlainBus>, Fail> {
+pub fn plain_start(alloc: Global, items: &str, sources: &[&str]) -> Result<Start<PlainBus>, Fail> {
     start_of(alloc, read_course(alloc, items, sources)?)
 }
 
 /// The same start, on a bus that keeps its requests in a heap.
-pub(crate) fn heap_start(
-    alloc: Global,
-    items: &str,
-    sources: &[&str],
-) -> Result<Start<HeapBus>, Fail> {
+pub fn heap_start(alloc: Global, items: &str, sources: &[&str]) -> Result<Start<HeapBus>, Fail> {
     let course = read_course(alloc, items, sources)?;
     let bus = HeapBus::make(alloc, course.bit);
     start_on(alloc, course, bus)
@@ -194,11 +186,11 @@ pub(crate) fn heap_start(
 
 /// A node with its rows, the bus on which it stands, and what it leaves behind.
 #[derive(Drop)]
-pub(crate) struct Bench {
-    pub(crate) node: Node,
-    pub(crate) bus: PlainBus,
-    pub(crate) into: MemRecord,
-    pub(crate) meter: Meter,
+pub struct Bench {
+    pub node: Node,
+    pub bus: PlainBus,
+    pub into: MemRecord,
+    pub meter: Meter,
     ghost rows: { HasRows meter node },
 }
 
@@ -210,7 +202,7 @@ fn code_of(alloc: Global, source: &str) -> Result<Verified, Fail> {
 
 impl Bench {
     /// A node of this source, as it is loaded, where each task has so many turns. A bit takes 2 microseconds.
-    pub(crate) fn make(alloc: Global, source: &str, turns: u64) -> Result<Bench, Fail> {
+    pub fn make(alloc: Global, source: &str, turns: u64) -> Result<Bench, Fail> {
         let code = code_of(alloc, source)?;
         let handlers = u32::try_from(code.code().handlers.len())?;
         let mut meter = Meter::new(alloc);
@@ -224,7 +216,7 @@ impl Bench {
     }
 
     /// Begins a round, where none of the one before is left to do.
-    pub(crate) fn begin(
+    pub fn begin(
         &mut self,
         round: Round,
         now: u32,
@@ -239,7 +231,7 @@ impl Bench {
     }
 
     /// Does the next task, where there is one, and tells whether it asked to stop.
-    pub(crate) fn step(&mut self) -> Result<Option<bool>, Fail> {
+    pub fn step(&mut self) -> Result<Option<bool>, Fail> {
         if !self.node.has_task() {
             return Ok(None);
         }

@@ -1,8 +1,8 @@
 // Each form of a statement in each other, three deep: how much they count and how many turns they take, by
 // what each form does with the statement in it.
 
-use crate::bench::Bench;
 use node_run::Round;
+use run_bench::Bench;
 use std::alloc::Global;
 use std::test::Fail;
 

@@ -4,8 +4,8 @@ use Rattle.bytecode.specs.declared.code.Code.{Code}
 use Rattle.node_run.specs.Node.{NodeInRound}
 use Rattle.sim_core.specs.Core.{IsLoaded}
 use Rattle.sim_play.specs.Play.{AreNewRows}
-use Rattle.run_tests.proofs.NewRows.{loaded_more, rows_more}
-use Rattle.run_tests.proofs.bench.load_nodes.Goals as goal
+use Rattle.run_bench.proofs.NewRows.{loaded_more, rows_more}
+use Rattle.run_bench.proofs.bench.load_nodes.Goals as goal
 
 pub loop-code-preserved : goal.loop-code-preserved
 loop-code-preserved c =

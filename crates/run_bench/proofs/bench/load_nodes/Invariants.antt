@@ -2,7 +2,7 @@
 use Rattle.std.proofs.Common.{All}
 use Rattle.sim_core.specs.Core.{IsLoaded}
 use Rattle.sim_play.specs.Play.{AreNewRows}
-use Rattle.run_tests.proofs.bench.load_nodes.Given as goal
+use Rattle.run_bench.proofs.bench.load_nodes.Given as goal
 
 abbrev pub invariant-loop-code : goal.invariant-loop-code
 invariant-loop-code l = record { loaded : All IsLoaded l.nodes.items; rows : AreNewRows l.nodes.items l.meter }

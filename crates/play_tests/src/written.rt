@@ -3,15 +3,15 @@
 ghost use Rattle.std.specs.Prelude.{IfOk};
 ghost use Rattle.sim_play.specs.Play.{AreLabelsOf};
 
-use crate::bench::{Start, plain_start};
-use crate::entries::check_rows;
 use arbitration::PlainBus;
 use items::Items;
 use node_run::Node;
+use run_bench::{Start, has_rows, plain_start};
 use sim_outside::MemSink;
 use sim_play::{Labels, Out, Show, play};
 use stack_vm::Meter;
 use std::alloc::Global;
+use std::process::Abort;
 use std::test::Fail;
 use texts::Text;
 
@@ -73,6 +73,11 @@ pub(crate) fn played(
         meter,
         is_whole: done.is_ok(),
     })
+}
+
+/// A meter has these rows of runs and turns, and no other.
+pub(crate) fn check_rows(rt: &impl Abort, meter: &Meter, wanted: &[(u64, u64)]) {
+    assert!(rt; has_rows(meter, wanted), "{meter:?} for {wanted:?}");
 }
 
 /// What is shown of the run, how many lines of the replay were passed over, the calls that fail, whether all

@@ -3,13 +3,12 @@
 ghost use Rattle.std.specs.Prelude.{IfOk};
 ghost use Rattle.bytecode.specs.Verified.{IsShortCode};
 
-use crate::bench::{Course, start_of};
-use crate::entries::check_rows;
-use crate::written::played;
+use crate::written::{check_rows, played};
 use bytecode::{Code, Fun, Handler, Instr, Verified, verify};
 use int_kinds::Kind;
 use items::Items;
 use message_cells::MESSAGE_KINDS;
+use run_bench::{Course, start_of};
 use run_effects::Event;
 use sim_play::Show;
 use std::alloc::Global;

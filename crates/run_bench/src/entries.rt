@@ -3,11 +3,10 @@
 use can_frame::Ident;
 use run_records::Noted;
 use stack_vm::Meter;
-use std::process::Abort;
 
 /// An entry, with its moment.
 #[derive(Clone, Copy, Debug)]
-pub(crate) enum Entry {
+pub enum Entry {
     /// A line of the first node, with this text.
     Line(u64, &'static str),
     /// A line of the second node, with this text.
@@ -32,22 +31,27 @@ fn is_noted(noted: &Noted, entry: &Entry) -> bool {
     }
 }
 
-/// A record noted these entries, in this order, and no other.
-pub(crate) fn check_entries(rt: &impl Abort, noted: &[Noted], wanted: &[Entry]) {
-    assert_eq!(rt; noted.len(), wanted.len(), "{wanted:?}");
-    for (noted, wanted) in noted.iter().zip(wanted) {
-        assert!(rt; is_noted(noted, wanted), "{noted:?} for {wanted:?}");
-    }
+/// Whether a record noted these entries, in this order, and no other.
+pub fn are_noted(noted: &[Noted], wanted: &[Entry]) -> bool {
+    noted.len() == wanted.len()
+        && noted
+            .iter()
+            .zip(wanted)
+            .all(|(noted, wanted)| is_noted(noted, wanted))
 }
 
-/// A meter has these rows of runs and turns, and no other.
-pub(crate) fn check_rows(rt: &impl Abort, meter: &Meter, wanted: &[(u64, u64)]) {
-    assert_eq!(rt; meter.rows(), wanted.len(), "{wanted:?}");
-    for (place, (runs, turns)) in wanted.iter().enumerate() {
-        let row = meter.row(place);
-        assert!(rt;
-            row.is_some_and(|row| row.runs == *runs && row.turns == *turns),
-            "{row:?} in place {place} of {wanted:?}"
-        );
-    }
+/// Whether a meter has a row of so many runs and turns in this place.
+fn has_row(meter: &Meter, place: usize, (runs, turns): (u64, u64)) -> bool {
+    meter
+        .row(place)
+        .is_some_and(|row| row.runs == runs && row.turns == turns)
+}
+
+/// Whether a meter has these rows of runs and turns, and no other.
+pub fn has_rows(meter: &Meter, wanted: &[(u64, u64)]) -> bool {
+    meter.rows() == wanted.len()
+        && wanted
+            .iter()
+            .enumerate()
+            .all(|(place, row)| has_row(meter, place, *row))
 }

@@ -3,8 +3,8 @@ use Rattle.std.proofs.Common.{List, length, arith, ap, subst, sym}
 use Rattle.node_run.specs.Node.{NodeInRound}
 use Rattle.sim_core.specs.Core.{CoreState, HaveRows}
 use Rattle.sim_play.specs.Play.{StandInOrder}
-use Rattle.run_tests.proofs.NewRows.{rows_there}
-use Rattle.run_tests.proofs.bench.start_on.Goals as goal
+use Rattle.run_bench.proofs.NewRows.{rows_there}
+use Rattle.run_bench.proofs.bench.start_on.Goals as goal
 
 pub make-core-requires-clause-keys : goal.make-core-requires-clause-keys
 make-core-requires-clause-keys g c = λ k d there. omega (arith, c.args.course.in_range k d there)

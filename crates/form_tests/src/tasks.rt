@@ -1,10 +1,9 @@
 // The rounds of a node, task by task.
 
-use crate::bench::Bench;
-use crate::entries::{Entry, check_entries};
 use can_bus::Bus;
 use can_frame::{Frame, Ident};
 use node_run::{Round, Seen};
+use run_bench::{Bench, Entry, are_noted};
 use std::process::Abort;
 use std::test::Fail;
 
@@ -220,13 +219,19 @@ fn do_rounds(rt: &impl Abort, bench: &mut Bench, steps: &[Step]) -> Result<(), F
     Ok(())
 }
 
+/// The node left these entries, in this order, and no other.
+fn check_left(rt: &impl Abort, bench: &Bench, wanted: &[Entry]) {
+    let noted = bench.into.noted();
+    assert!(rt; are_noted(noted, wanted), "{noted:?} for {wanted:?}");
+}
+
 #[test]
 fn rounds_are_done_task_by_task(rt: HostRuntime) -> Result<(), Fail> {
     for (source, procedures, steps, wanted) in LIVES {
         let mut bench = Bench::make(rt.alloc(), source, 4)?;
         assert_eq!(rt; bench.node.code().code().handlers.len(), procedures);
         do_rounds(&rt, &mut bench, steps)?;
-        check_entries(&rt, bench.into.noted(), wanted);
+        check_left(&rt, &bench, wanted);
     }
     Ok(())
 }

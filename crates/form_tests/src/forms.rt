@@ -1,7 +1,7 @@
 // Forms of statements and expressions, and what they leave behind: worked out by hand from what each means.
 
-use crate::bench::Bench;
 use node_run::Round;
+use run_bench::Bench;
 use run_records::Noted;
 use std::alloc::Global;
 use std::test::Fail;

@@ -1,8 +1,8 @@
 -- Each node has a name and a list of one file.
 use Rattle.std.proofs.Common.{ℕ, List, length, arith, ap, subst, sym}
 use Rattle.sim_play.specs.Play.{HaveFiles}
-use Rattle.run_tests.proofs.FileLists.{have_files}
-use Rattle.run_tests.proofs.written.labels.Goals as goal
+use Rattle.play_tests.proofs.FileLists.{have_files}
+use Rattle.play_tests.proofs.written.labels.Goals as goal
 
 pub returns : goal.returns
 returns c =

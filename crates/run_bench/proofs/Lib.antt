@@ -1,0 +1,3 @@
+-- Lemmas on what runs begin with.
+pub mod NewBus
+pub mod NewRows
