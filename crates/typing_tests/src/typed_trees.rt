@@ -1,7 +1,6 @@
-// Where type_expressions lays variables, and the trees of an expression, a place, arguments and statements.
+// The trees of an expression, a place, arguments and statements.
 
 ghost use Rattle.type_expressions.specs.Made.{AreTreeTables};
-ghost use Rattle.type_expressions.specs.Layout.{IsLayoutOf};
 
 use super::statements::check_made;
 use capl_meaning::Sort;
@@ -13,43 +12,9 @@ use parser_tests::sources::{expression, number, program, undeclared};
 use std::alloc::Global;
 use std::process::Abort;
 use std::test::Fail;
-use type_expressions::{
-    Layout, TreeTables, cell_kinds, make_expression, make_place, make_row, timer_units,
-};
+use type_expressions::{Layout, TreeTables, make_expression, make_place, make_row};
 use type_statements::StatementTables;
 use typed_tree::TExpr;
-
-/// Variables lie one behind the other.
-fn check_layout(rt: &impl Abort, layout: &Layout) {
-    assert_eq!(rt; layout.slot(0), 15);
-    assert_eq!(rt; layout.slot(2), 29);
-    assert_eq!(rt; layout.timer(1), 0);
-    assert_eq!(rt; layout.elements(2), 0);
-}
-
-/// Cells have kinds, and timers units.
-fn check_cells(rt: &impl Abort, alloc: Global, names: &Names, layout: &Layout) -> Result<(), Fail>
-    requires { IsLayoutOf names.now layout.now }
-{
-    let kinds = cell_kinds(alloc, names, layout)?;
-    assert_eq!(rt; kinds.len(), 30);
-    assert_eq!(rt; kinds.as_slice().get(29).copied(), Some(Kind::Byte));
-    assert_eq!(rt; timer_units(alloc, names)?.as_slice(), [1_000].as_slice());
-    Ok(())
-}
-
-#[test]
-fn variables_lie_one_behind_the_other(rt: HostRuntime) -> Result<(), Fail> {
-    let alloc = rt.alloc();
-    let program = program(alloc, "variables { message * m; msTimer t; byte b; }")?;
-    let named = Names::build(alloc, &program, None)?;
-    let names = &named.names;
-    let constants = Constants::build(alloc, names)?;
-    let layout = Layout::build(alloc, names, &constants)?.ok_or("it has few cells")?;
-    check_layout(&rt, &layout);
-    check_cells(&rt, alloc, names, &layout)?;
-    Ok(())
-}
 
 /// What the calls make of `1 + 3000000000`, where it stands outside of procedures.
 fn check_sum(rt: &impl Abort, alloc: Global, names: &Names, tables: &TreeTables) -> Result<(), Fail>
