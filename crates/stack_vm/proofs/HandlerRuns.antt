@@ -1,6 +1,6 @@
 -- The run of a handler in a memory: how it begins, what it leaves, and how it is refused.
 use Rattle.std.proofs.Common.{◌≡◌, ◌<◌, ◌≤◌, ◌-◌, ℕ, List, [], ◌∷◌, ◌++◌, length, get_or, slice_get, Option, Some, None, Result, Ok, Err, OnErr, refl, sym, ap, ◌∙◌, subst}
-use Rattle.std.specs.Prelude.{IsSomeAnd, false}
+use Rattle.std.specs.Prelude.{IsSomeAnd, false, ℤ}
 use Rattle.std.proofs.lemmas.Option.{get_or_from_slice_get, slice_get_within}
 use Rattle.vm_host.specs.Host.{HostMeaning}
 use Rattle.run_effects.specs.declared.outcome.Outcome.{Outcome}
@@ -10,6 +10,7 @@ use Rattle.bytecode.specs.declared.code.Handler.{Handler}
 use Rattle.bytecode.specs.Runs.{HoldKinds}
 use Rattle.bytecode.specs.Verified.{IsVerified}
 use Rattle.bytecode.proofs.RunLemmas.{effects_stay}
+use Rattle.stack_vm.specs.Cases.{IsIndexOf}
 use Rattle.stack_vm.specs.Inside.Runs.{EndsWith, HasRoomOn, IsRefused, machine_on}
 use Rattle.stack_vm.specs.Inside.State.{HasSameRoom, RunState}
 use Rattle.stack_vm.specs.Memory.{IsMemoryOf, MemoryState}
@@ -47,11 +48,11 @@ pub record StartsIn {S : Type 0} (host : HostMeaning S) (code : Code) (number tu
   pub calls : start.calls_room ≡ memory.calls_room
 
 starts_in : {S : Type 0} (host : HostMeaning S) (code : Code) (number : ℕ) (handler : Handler) (function : Fun) (turns : ℕ)
-    (s : RunState) (memory : MemoryState) (before : S) (start : RunState) →
+    (s : RunState) (cases : List (List (ℤ × ℕ))) (memory : MemoryState) (before : S) (start : RunState) →
     slice_get code.handlers number ≡ Some handler → slice_get code.functions handler.function ≡ Some function →
-    memory_of s ≡ memory → IsMemoryOf code memory → length code.timers ≤ length (host.active_timers before) → start ≡ at_start s function turns →
+    memory_of s cases ≡ memory → IsMemoryOf code memory → length code.timers ≤ length (host.active_timers before) → start ≡ at_start s function turns →
     StartsIn host code number turns memory before start
-starts_in host code number handler function turns s memory before start eh ef view is exist e =
+starts_in host code number handler function turns s cases memory before start eh ef view is exist e =
     let cells : start.cells ≡ memory.cells = ap (λ (z : RunState). z.cells) e ∙ ap (λ (m : MemoryState). m.cells) view in
     record {
       begins = record {
@@ -77,20 +78,24 @@ starts_in host code number handler function turns s memory before start eh ef vi
 
 -- so it does where the code was read from a verified one, and the handler and its function from its lists
 pub starts : {S : Type 0} (host : HostMeaning S) (before : S) (s : RunState) {read code : Code} → read ≡ code → IsVerified read →
-    (number turns : ℕ) {memory : MemoryState} {start : RunState} → number < length code.handlers →
+    (number turns : ℕ) {cases : List (List (ℤ × ℕ))} {memory : MemoryState} {start : RunState} → number < length code.handlers →
     {handlers : List Handler} → handlers ≡ read.handlers → (d : Handler) → {functions : List Fun} → functions ≡ read.functions →
-    memory_of s ≡ memory → IsMemoryOf code memory → length code.timers ≤ length (host.active_timers before) →
+    memory_of s cases ≡ memory → IsMemoryOf code memory → length code.timers ≤ length (host.active_timers before) →
     start ≡ at_start s (get_or functions (get_or handlers number d).function none) turns →
     StartsIn host code number turns memory before start
-starts host before s {read} {code} same verified number turns {memory} {start} h {handlers} eh d {functions} ef view is exist e =
+starts host before s {read} {code} same verified number turns {cases} {memory} {start} h {handlers} eh d {functions} ef view is exist e =
     let handler : Handler = get_or handlers number d in
     let there : slice_get code.handlers number ≡ Some handler = item_read code.handlers (eh ∙ ap (λ (z : Code). z.handlers) same) refl h d in
     let within = function_there code (subst IsVerified same verified) number handler there in
-    starts_in host code number handler (get_or functions handler.function none) turns s memory before start there
+    starts_in host code number handler (get_or functions handler.function none) turns s cases memory before start there
     (item_read code.functions (ef ∙ ap (λ (z : Code). z.functions) same) refl within none) view is exist e
 
 module _ {S : Type 0} {host : HostMeaning S} {read code : Code} (same : read ≡ code) {number turns : ℕ} {memory : MemoryState} {before : S} {start : RunState}
     (starts : StartsIn host code number turns memory before start) where
+  -- the index is one of the code that was read
+  pub index_there : {cases : List (List (ℤ × ℕ))} → cases ≡ memory.cases → IsMemoryOf code memory → IsIndexOf read cases
+  index_there {cases} indexed is = subst (λ (z : Code). IsIndexOf z cases) (sym same) (subst (IsIndexOf code) (sym indexed) is.indexed)
+
   -- there is room for every state that the run reaches
   pub room_there : IsMemoryOf code memory → HasRoomOn host read start before
   room_there is reached comes =
@@ -100,21 +105,23 @@ module _ {S : Type 0} {host : HostMeaning S} {read code : Code} (same : read ≡
       there reached comes
 
   -- the state that the run leaves belongs to a memory of the same code
-  pub memory_left : {after : RunState} → IsMemoryOf code memory → HasSameRoom start after → HoldKinds read.cells after.cells → IsMemoryOf code (memory_of after)
-  memory_left {after} is room held =
+  pub memory_left : {after : RunState} {cases : List (List (ℤ × ℕ))} → cases ≡ memory.cases → IsMemoryOf code memory → HasSameRoom start after →
+      HoldKinds read.cells after.cells → IsMemoryOf code (memory_of after cases)
+  memory_left {after} {cases} indexed is room held =
       let numbers : after.numbers_room ≡ memory.numbers_room = room.numbers ∙ starts.numbers in
       let calls : after.calls_room ≡ memory.calls_room = room.calls ∙ starts.calls in
       record {
         cells_held = subst (λ (z : Code). HoldKinds z.cells after.cells) same held;
         room = λ handler from reached closed moment begins comes.
             let room = is.room handler from reached closed moment begins comes in record { numbers = rw (numbers) room.numbers; calls = rw (calls) room.calls };
+        indexed = subst (IsIndexOf code) (sym indexed) is.indexed;
       }
 
   -- the handler runs to the outcome
-  pub runs_to : {row left : ℕ} {meter meter_after : List MeterRow} {outcome : Outcome} {s_after : RunState} {after : S} →
+  pub runs_to : {row left : ℕ} {meter meter_after : List MeterRow} {outcome : Outcome} {s_after : RunState} {cases : List (List (ℤ × ℕ))} {after : S} →
       EndsWith host read start before outcome s_after after → AddsRun row left meter meter_after → left ≡ turns - s_after.turns →
-      Runs host code number turns row memory before meter outcome (memory_of s_after) after meter_after
-  runs_to {row} {left} {meter} {meter_after} {outcome} {s_after} {after} ends metered e =
+      Runs host code number turns row memory before meter outcome (memory_of s_after cases) after meter_after
+  runs_to {row} {left} {meter} {meter_after} {outcome} {s_after} {cases} {after} ends metered e =
       let there = subst (λ (z : Code). EndsWith host z start before outcome s_after after) same ends in
       record {
         start = machine_on host start before [];

@@ -6,6 +6,8 @@ pub mod StackLemmas
 pub mod FrameLemmas
 pub mod MemoryLemmas
 pub mod StepLemmas
+pub mod CaseSearch
+pub mod CaseLemmas
 pub mod CellRows
 pub mod MessageRows
 pub mod OperandRows

@@ -18,9 +18,9 @@ use Rattle.stack_vm.specs.Memory.{MemoryState, with_starts}
 use Rattle.stack_vm.specs.Inside.State.{RunState}
 use Rattle.stack_vm.proofs.NumberLemmas.{read_back_held}
 
--- the memory that a state belongs to
-abbrev pub memory_of : RunState → MemoryState
-memory_of s = record { cells = s.cells; numbers_room = s.numbers_room; calls_room = s.calls_room }
+-- the memory that a state and an index belong to
+abbrev pub memory_of : RunState → List (List (ℤ × ℕ)) → MemoryState
+memory_of s cases = record { cells = s.cells; numbers_room = s.numbers_room; calls_room = s.calls_room; cases = cases }
 
 -- ---- the event
 

@@ -1,5 +1,5 @@
 -- The steps of a run, one after another.
-use Rattle.std.proofs.Common.{◌≡◌, ◌≤◌, ◌<◌, ◌+◌, ◌^◌, ℕ, suc, List, [], ◌∷◌, ◌++◌, length, slice_get, Option, Some, None, Result, Ok, Err, OnErr, refl, sym, ap, ◌∙◌, subst, arith}
+use Rattle.std.proofs.Common.{◌≡◌, ◌≤◌, ◌<◌, ◌+◌, ◌-◌, ◌^◌, ℕ, suc, List, [], ◌∷◌, ◌++◌, length, slice_get, Option, Some, None, Result, Ok, Err, OnErr, refl, sym, ap, ◌∙◌, subst, arith}
 use Rattle.run_effects.specs.Effect.{Effect}
 use Rattle.vm_host.specs.Host.{HostMeaning, HostStays}
 use Rattle.run_effects.specs.declared.outcome.Outcome.{Outcome}
@@ -12,13 +12,14 @@ use Rattle.bytecode.specs.Step.{go, row, step}
 use Rattle.bytecode.specs.Verified.{IsVerified}
 use Rattle.bytecode.proofs.MachineStates.{IsSafeStep, Stands}
 use Rattle.bytecode.proofs.PlaceRules.{place_in_code, rule_of}
-use Rattle.bytecode.proofs.RunLemmas.{go_one_more, step_is_row}
+use Rattle.bytecode.proofs.RunLemmas.{go-further, go_one_more, step_is_row}
 use Rattle.bytecode.proofs.VerifiedRuns.{IsSafeStep-step, fewer_left, held_at_end, stands_reached}
 use Rattle.stack_vm.specs.Inside.Runs.{ComesTo, EndsWith, HasRoomOn, IsRefused, machine_on}
 use Rattle.stack_vm.specs.Inside.State.{HasSameRoom, RunState}
-use Rattle.stack_vm.specs.Inside.Step.{DoesOn, IsReady, RefusesOn, answered}
+use Rattle.stack_vm.specs.Inside.Step.{DoesOn, IsReady, Passes, RefusesOn, answered}
 use Rattle.stack_vm.specs.Memory.{HasRoomFor}
 use Rattle.stack_vm.specs.Runs.{TakesAll}
+use Rattle.stack_vm.proofs.CaseLemmas.{passes_to}
 
 -- the run has come to where it begins
 pub comes_at_first : {S : Type 0} (host : HostMeaning S) (code : Code) (start : RunState) (before : S) → ComesTo host code start before start before
@@ -165,3 +166,31 @@ module _ {S : Type 0} {host : HostMeaning S} {code : Code} (verified : IsVerifie
         cells_then = held_at_end code verified (host.is_closed before) (host.moment before) (machine_on host s h comes.effects) stands outcome
             (machine_on host after h_after (comes.effects ++ does.new))
             (step_leads ∙ ap (λ (o : Option Outcome). answered o (machine_on host after h_after (comes.effects ++ does.new))) e)
+
+  -- Cases that the machine passes over
+  module _ {after : RunState} (passes : Passes code s after) where
+    -- the run comes further
+    pub comes_past : 1 ≤ length s.stack → ComesTo host code start before after h
+    comes_past has =
+        let end = passes.end in
+        record {
+          effects = comes.effects;
+          reached = (
+            comes.reached.0 + (end - s.place),
+            go-further code (host.is_closed before) (host.moment before) comes.reached.0 (end - s.place) (comes.reached.0 + (end - s.place))
+                (machine_on host start before []) (machine_on host s h comes.effects) refl comes.reached.1
+                ∙ passes_to code (host.is_closed before) (host.moment before) (machine_on host s h comes.effects) end has passes.above passes.others
+                ∙ ap (λ (z : RunState). Goes (machine_on host z h comes.effects)) (sym passes.leads),
+          );
+          taken = comes.taken;
+          room = record {
+            numbers = ap (λ (z : RunState). z.numbers_room) passes.leads ∙ comes.room.numbers;
+            calls = ap (λ (z : RunState). z.calls_room) passes.leads ∙ comes.room.calls;
+          };
+          stays = comes.stays;
+        }
+
+    -- with fewer steps left
+    pub fewer_past : steps_left code (machine_on host after h []) < steps_left code (machine_on host s h [])
+    fewer_past = subst (λ (z : RunState). steps_left code (machine_on host z h []) < steps_left code (machine_on host s h [])) (sym passes.leads)
+        (let above = passes.above in omega (arith, place_there, above))

@@ -1,5 +1,5 @@
 -- One step: what a state that is ready for an instruction gives, and what a row leads to.
-use Rattle.std.proofs.Common.{◌≡◌, ◌≤◌, ◌<◌, ℕ, zero, suc, Bool, List, [], ◌∷◌, length, get_or, drop, Option, refl, sym, ap, ◌∙◌, subst, arith, append-nil}
+use Rattle.std.proofs.Common.{◌≡◌, ◌≤◌, ◌<◌, ℕ, zero, suc, Bool, List, [], ◌∷◌, length, get_or, drop, Option, refl, sym, ap, ◌∙◌, subst, arith, append-nil, slice_get, Some}
 use Rattle.std.specs.Prelude.{ℤ, pos}
 use Rattle.std.specs.List.{AllByRecursion}
 use Rattle.int_kinds.specs.Kind.{IsNumber}
@@ -11,7 +11,10 @@ use Rattle.bytecode.specs.declared.instr.Instr.{Instr}
 use Rattle.bytecode.specs.Machine.{Next}
 use Rattle.bytecode.specs.Step.{goes_on, row, taking_one, taking_two}
 use Rattle.stack_vm.specs.Inside.State.{HasSameRoom, RunState, machine}
-use Rattle.stack_vm.specs.Inside.Step.{Does, DoesIn, DoesOn, IsReady, RefusesOn, answered}
+use Rattle.stack_vm.specs.Inside.Step.{Does, DoesIn, DoesOn, IsNeededBy, IsOtherCase, IsReady, RefusesOn, answered, top_of}
+use Rattle.stack_vm.specs.Cases.{HasOtherLabel}
+use Rattle.stack_vm.specs.declared.step.Needs.{Needs}
+use Rattle.stack_vm.specs.declared.step.Needs.TheVariants.{Cases}
 
 -- ---- numbers on the stack
 
@@ -88,6 +91,20 @@ does_in_as {code} {i} {j} {before} {end} {after} e d = subst (λ (k : Instr). Do
 pub does_as : (code : Code) {i j : Instr} {before : RunState} {end : Option Outcome} {after : RunState} → i ≡ j → Does j before end after →
     DoesIn code i before end after
 does_as code e d = does_in_as e (d.in_code code)
+
+-- what an instruction needs it needs by another name
+pub needed_as : {i j : Instr} (s : RunState) (needs : Needs) → i ≡ j → IsNeededBy j s needs → IsNeededBy i s needs
+needed_as {i} {j} s needs e is = subst (λ (k : Instr). IsNeededBy k s needs) (sym e) is
+
+-- an instruction of a code that needs the index of Cases is a Case with another label than the top
+pub case_needed : (code : Code) (place : ℕ) {instr : Instr} {needs : Needs} → slice_get code.instrs place ≡ Some instr → (s : RunState) →
+    needs ≡ Cases → IsNeededBy instr s needs → IsOtherCase instr (top_of s)
+case_needed code place {instr} {needs} there s e is = subst (λ (it : Needs). IsNeededBy instr s it) e is
+
+-- where it stands in a code, the label there is another one
+pub other_there : {code : Code} {place : ℕ} {instr : Instr} {n : ℤ} → slice_get code.instrs place ≡ Some instr → IsOtherCase instr n →
+    HasOtherLabel code n place
+other_there there is = record { label = is.label; target = is.target; is_case = there ∙ ap (λ (i : Instr). Some i) is.is_case; other = is.other }
 
 module _ {S : Type 0} (host : HostMeaning S) where
   -- an instruction that asks nothing of the host does so on any host

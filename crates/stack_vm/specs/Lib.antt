@@ -1,4 +1,5 @@
 -- The definitions of this crate.
+pub mod Cases
 pub mod Frame
 pub mod Inside
 pub mod Memory

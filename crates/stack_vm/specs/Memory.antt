@@ -4,12 +4,15 @@ use Rattle.bytecode.specs.declared.code.Code.{Code}
 use Rattle.bytecode.specs.Machine.{Machine}
 use Rattle.bytecode.specs.Runs.{HoldKinds, IsStartOf, Reaches}
 use Rattle.bytecode.specs.Verified.{IsVerified}
+use Rattle.stack_vm.specs.Cases.{IsIndexOf}
 
--- the cells, and how many numbers and how many calls there is room for
+-- the cells, how many numbers and how many calls there is room for, and an index of Cases: for each of some
+-- places a list of labels and places
 pub record MemoryState : Type 0 where
   pub cells : List ℤ
   pub numbers_room : ℕ
   pub calls_room : ℕ
+  pub cases : List (List (ℤ × ℕ))
 
 -- cells after initial values were put in, in order: each is a cell and its value
 abbrev pub with_starts : List ℤ → List (ℕ × ℤ) → List ℤ
@@ -27,10 +30,12 @@ HasRoomForRuns code memory = (handler : ℕ) (start reached : Machine) (closed :
     IsStartOf code handler start → Reaches code closed moment start reached →
     HasRoomFor memory.numbers_room memory.calls_room reached
 
--- a memory of this code: its cells hold numbers of their kinds, and there is room for its runs
+-- a memory of this code: its cells hold numbers of their kinds, there is room for its runs, and its index is
+-- one of the code
 pub record IsMemoryOf (code : Code) (memory : MemoryState) : Type 0 where
   pub cells_held : HoldKinds code.cells memory.cells
   pub room : HasRoomForRuns code memory
+  pub indexed : IsIndexOf code memory.cases
 
 -- a memory of verified code is one still
 abbrev pub StaysMemory : MemoryState → MemoryState → Type 0

@@ -1,12 +1,13 @@
 // The rows of jumps.
 
-ghost use Rattle.std.specs.Prelude.{None};
+ghost use Rattle.std.specs.Prelude.{◌≡◌, IfErr, None, OnErr, OnOk};
 ghost use Rattle.std.specs.Result.{result_err};
 ghost use Rattle.bytecode.specs.declared.code.Code.{Code};
 ghost use Rattle.bytecode.specs.declared.instr.Instr.TheVariants.{Jump, Zero, Case, Back};
-ghost use Rattle.stack_vm.specs.Inside.Step.{Does, IsReady};
+ghost use Rattle.stack_vm.specs.Inside.Step.{Does, IsNeededBy, IsReady};
 
 use crate::state::State;
+use crate::step::Needs;
 use int_kinds::is_equal;
 use run_effects::Outcome;
 
@@ -33,16 +34,30 @@ pub(crate) fn jump_at_zero(state: &mut State, target: u32)
 }
 
 /// Where the top is this number, takes it and goes to a place.
+///
+/// # Errors
+///
+/// The top is another number, and there is an index of Cases. The state is then as before.
 #[inline]
-pub(crate) fn jump_at(state: &mut State, label: i128, target: u32)
+pub(crate) fn jump_at(
+    state: &mut State,
+    indexed: bool,
+    label: i128,
+    target: u32,
+) -> Result<(), Needs>
     requires { (code : Code) × IsReady code (Case label target) state.old }
-    ensures { Does (Case label target) state.old None state.new }
+    ensures jumps { OnOk result (Does (Case label target) state.old None state.new) }
+    ensures needs { IfErr result (IsNeededBy (Case label target) state.new) }
+    ensures stays { OnErr result (state.new ≡ state.old) }
 {
     if is_equal(state.top(), label) {
         state.jump(target as usize, 1);
+    } else if indexed {
+        return Err(Needs::Cases);
     } else {
         state.go_on();
     }
+    Ok(())
 }
 
 /// Takes a number and, where it is not 0, takes a turn and goes to a place.

@@ -11,6 +11,7 @@ pub use meter::{Meter, MeterRow};
 pub use runs::run;
 
 mod calls;
+mod cases;
 mod cells;
 mod effects;
 mod frame;

@@ -5,21 +5,25 @@ ghost use Rattle.stack_vm.specs.Frame.{message_of};
 ghost use Rattle.stack_vm.specs.Memory.{IsMemoryOf, StaysMemory, with_starts};
 ghost use Rattle.stack_vm.specs.Room.{calls_room, numbers_room};
 
+use crate::cases::case_index;
 use crate::frame::message;
 use crate::room::numbers_room;
 use crate::state::State;
 use bytecode::Verified;
 use can_frame::Frame;
+use items::Items;
 use std::alloc::Global;
 use std::marker::Model;
 use texts::NoMemory;
 
-/// The cells of a node, and the room for the numbers and calls of its runs.
+/// The cells of a node, the room for the numbers and calls of its runs, and an index of the long
+/// runs of neighbouring Cases.
 ///
 /// Contracts see it as a `MemoryState`.
 #[derive(Debug, Drop)]
 pub struct Memory {
     pub(crate) state: State,
+    pub(crate) cases: Items<Items<(i128, usize)>>,
 }
 
 impl Model for Memory {
@@ -32,6 +36,7 @@ impl Model for Memory {
       cells = memory.state.cells;
       numbers_room = memory.state.numbers_room;
       calls_room = memory.state.calls_room;
+      cases = memory.cases;
     } };
 
     ghost invariant = { λ memory. 15 ≤ length memory.state.cells };
@@ -41,8 +46,9 @@ impl Memory {
     /// The memory of the runs of this code. A cell holds its initial value, the last one where it
     /// has several, and 0 where it has none.
     ///
-    /// Takes time and memory linear in the code: the room for numbers is, for each function, its
-    /// greatest depth and no more than its instructions.
+    /// Takes memory linear in the code, and time linear in it but for a sort of the labels of each
+    /// run of 32 or more neighbouring Cases: the room for numbers is, for each function, its greatest
+    /// depth and no more than its instructions.
     pub fn make(alloc: Global, code: &Verified) -> Result<Memory, NoMemory>
         ensures cells { IfOk result (λ memory.
             memory.cells ≡ with_starts (replicate (length code.now.cells) (pos 0)) code.now.starts) }
@@ -51,6 +57,7 @@ impl Memory {
         ensures calls { IfOk result (λ memory. memory.calls_room ≡ calls_room code.now) }
     {
         let code = code.code();
+        let cases = case_index(alloc, code)?;
         let numbers = numbers_room(code);
         let cells = code.cells.len();
         let functions = code.functions.len();
@@ -58,7 +65,7 @@ impl Memory {
         for start in code.starts.as_slice() {
             state.set_cell(start.0 as usize, start.1);
         }
-        Ok(Memory { state })
+        Ok(Memory { state, cases })
     }
 
     /// The cells.

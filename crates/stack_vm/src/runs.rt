@@ -3,6 +3,7 @@
 ghost use Rattle.std.specs.Prelude.{◌≡◌, ◌<◌, ◌≤◌, ℕ, [], length, OnErr, IfOk, IsErrOf, IsOk};
 ghost use Rattle.bytecode.specs.Runs.{HoldKinds, IsStartOf};
 ghost use Rattle.bytecode.specs.Verified.{IsVerified};
+ghost use Rattle.stack_vm.specs.Cases.{IsIndexOf};
 ghost use Rattle.stack_vm.specs.Inside.Runs.{EndsWith, HasRoomOn, IsRefused, machine_on};
 ghost use Rattle.stack_vm.specs.Inside.State.{HasSameRoom};
 ghost use Rattle.stack_vm.specs.Memory.{IsMemoryOf};
@@ -10,10 +11,12 @@ ghost use Rattle.stack_vm.specs.Quiet.{IsQuietHandler};
 ghost use Rattle.stack_vm.specs.Runs.{IsRunRefused, Runs};
 ghost use Rattle.vm_host.specs.Host.{FaultsRise, HostStays};
 
+use crate::cases::{has_run, pass_run};
 use crate::state::State;
-use crate::step::{NeedsHost, ask, step};
+use crate::step::{Needs, ask, step};
 use crate::{Memory, Meter};
 use bytecode::{Code, Verified};
+use items::Items;
 use run_effects::Outcome;
 use vm_host::{Host, RecordFault};
 
@@ -24,9 +27,10 @@ use vm_host::{Host, RecordFault};
 /// changes. The host has at least as many timers as the code. Its moment, whether it is closed and
 /// how many timers it has stay.
 ///
-/// Takes time linear in the steps that the machine takes, and memory only for the line of a `Write`
-/// and in the host: a handler whose function is quiet, since neither it nor a function that it calls
-/// has `Write` or `Send`, runs to its end whatever memory there is.
+/// Takes time linear in the steps that the machine takes, of which those at a run of 32 or more
+/// neighbouring Cases are done in time logarithmic in their number, and memory only for the line of
+/// a `Write` and in the host: a handler whose function is quiet, since neither it nor a function
+/// that it calls has `Write` or `Send`, runs to its end whatever memory there is.
 ///
 /// # Errors
 ///
@@ -62,15 +66,21 @@ pub fn run<H: Host>(
     let function = code.handlers.as_slice()[handler as usize].function;
     let start = code.functions.as_slice()[function as usize].start;
     memory.state.begin(start as usize, turns);
-    let outcome = run_on(&mut memory.state, code, host)?;
+    let outcome = run_on(&mut memory.state, code, &memory.cases, host)?;
     meter.add_run(row, turns.saturating_sub(memory.state.turns()));
     Ok(outcome)
 }
 
 /// Runs from where the state stands up to the end.
 #[inline(never)]
-fn run_on<H: Host>(state: &mut State, code: &Code, host: &mut H) -> Result<Outcome, RecordFault>
+fn run_on<H: Host>(
+    state: &mut State,
+    code: &Code,
+    cases: &Items<Items<(i128, usize)>>,
+    host: &mut H,
+) -> Result<Outcome, RecordFault>
     requires verified { IsVerified code.now }
+    requires indexed { IsIndexOf code.now cases.now }
     requires starts { (handler : ℕ) ×
         IsStartOf code.now handler (machine_on H.meaning state.old host.old []) }
     requires room { HasRoomOn H.meaning code.now state.old host.old }
@@ -83,17 +93,28 @@ fn run_on<H: Host>(state: &mut State, code: &Code, host: &mut H) -> Result<Outco
     ensures host_stays { HostStays H.meaning host.old host.new }
 {
     let instrs = code.instrs.as_slice();
-    // The state stands in a local value while no host is asked, so that its parts stay in registers.
+    let indexed = !cases.is_empty();
+    // The state stands in a local value while no host is asked and no long run is searched, so that
+    // its parts stay in registers.
     let mut own = state.move_out();
     loop {
         let instr = &instrs[own.place()];
-        match step(&mut own, code, instr) {
+        match step(&mut own, code, indexed, instr) {
             Ok(None) => {}
             Ok(Some(outcome)) => {
                 *state = own;
                 return Ok(outcome);
             }
-            Err(NeedsHost) => {
+            Err(Needs::Cases) => {
+                if has_run(cases, own.place()) {
+                    *state = own;
+                    pass_run(state, cases);
+                    own = state.move_out();
+                } else {
+                    own.go_on();
+                }
+            }
+            Err(Needs::Host) => {
                 *state = own;
                 ask(state, code, host, instr)?;
                 own = state.move_out();

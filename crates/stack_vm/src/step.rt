@@ -1,8 +1,8 @@
 // One step of the machine.
 
-ghost use Rattle.std.specs.Prelude.{◌≡◌, ◌≤◌, length, IfOk, IsErrOf, None, OnErr, OnOk};
+ghost use Rattle.std.specs.Prelude.{◌≡◌, ◌≤◌, length, IfErr, IfOk, IsErrOf, None, OnErr, OnOk};
 ghost use Rattle.bytecode.specs.Verified.{IsVerified};
-ghost use Rattle.stack_vm.specs.Inside.Step.{AsksHost, DoesIn, DoesOn, IsReady, RefusesOn};
+ghost use Rattle.stack_vm.specs.Inside.Step.{AsksHost, DoesIn, DoesOn, IsNeededBy, IsReady, RefusesOn};
 ghost use Rattle.vm_host.specs.Host.{FaultsRise, HostStays};
 
 use crate::state::State;
@@ -11,25 +11,32 @@ use bytecode::{Code, Instr};
 use run_effects::Outcome;
 use vm_host::{Host, RecordFault};
 
-/// An instruction asks something of the host, which is not at hand.
+/// What an instruction needs that a step does not have at hand.
 #[derive(Clone, Copy, Debug)]
-pub(crate) struct NeedsHost;
+pub(crate) enum Needs {
+    /// The host, of which it asks something.
+    Host,
+    /// The index of Cases, since it is a Case whose label is not the top.
+    Cases,
+}
 
-/// Does an instruction. Gives how the run has ended, or `None` where it goes on.
+/// Does an instruction of a code that has an index of Cases or none. Gives how the run has ended,
+/// or `None` where it goes on.
 ///
 /// # Errors
 ///
-/// The instruction asks the host. The state is then as before.
+/// What the instruction needs besides. The state is then as before.
 #[inline(always)]
 #[tactic(auto, using(crate::proofs::StepLemmas::by_name))]
 pub(crate) fn step(
     state: &mut State,
     code: &Code,
+    indexed: bool,
     instr: &Instr,
-) -> Result<Option<Outcome>, NeedsHost>
+) -> Result<Option<Outcome>, Needs>
     requires { IsReady code.now instr.now state.old }
     ensures does { IfOk result (λ end. DoesIn code.now instr.now state.old end state.new) }
-    ensures asks { OnErr result (AsksHost instr.now) }
+    ensures needs { IfErr result (IsNeededBy instr.now state.new) }
     ensures stays { OnErr result (state.new ≡ state.old) }
 {
     match *instr {
@@ -53,7 +60,7 @@ pub(crate) fn step(
         Instr::Drop => operands::take(state),
         Instr::Jump(target) => jumps::jump(state, target),
         Instr::Zero(target) => jumps::jump_at_zero(state, target),
-        Instr::Case(label, target) => jumps::jump_at(state, label, target),
+        Instr::Case(label, target) => jumps::jump_at(state, indexed, label, target)?,
         Instr::Back(target) => return Ok(jumps::jump_back(state, target).err()),
         Instr::Turn => return Ok(calls::turn(state).err()),
         Instr::Call(f) => return Ok(calls::call(state, code, f).err()),
@@ -65,12 +72,14 @@ pub(crate) fn step(
         | Instr::Set(..)
         | Instr::Cancel(_)
         | Instr::Active(_)
-        | Instr::Now => return Err(NeedsHost),
+        | Instr::Now => return Err(Needs::Host),
     }
     Ok(None)
 }
 
-/// Does an instruction that asks the host.
+/// Does an instruction that asks the host. It is cold, so that the loop that calls it keeps its
+/// values in registers.
+#[cold]
 #[inline(never)]
 #[tactic(auto, using(crate::proofs::StepLemmas::by_name))]
 pub(crate) fn ask<H: Host>(

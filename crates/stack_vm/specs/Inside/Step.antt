@@ -1,5 +1,5 @@
 -- One step of a run, as the machine's table has it.
-use Rattle.std.specs.Prelude.{◌≡◌, ◌≢◌, ℕ, ◌+◌, ◌^◌, ◌<◌, ◌≤◌, Bool, List, [], ◌∷◌, ◌++◌, length, Option, Some, None, ⊤}
+use Rattle.std.specs.Prelude.{◌≡◌, ◌≢◌, ℕ, ◌+◌, ◌^◌, ◌<◌, ◌≤◌, Bool, List, [], ◌∷◌, ◌++◌, length, ℤ, pos, slice_index_or, Option, Some, None, ⊤}
 use Rattle.std.specs.List.{AllByRecursion}
 use Rattle.int_kinds.specs.Kind.{IsNumber}
 use Rattle.run_effects.specs.Effect.{Effect}
@@ -7,12 +7,15 @@ use Rattle.vm_host.specs.Host.{HostMeaning}
 use Rattle.run_effects.specs.declared.outcome.Outcome.{Outcome}
 use Rattle.bytecode.specs.declared.code.Code.{Code}
 use Rattle.bytecode.specs.declared.instr.Instr.{Instr}
-use Rattle.bytecode.specs.declared.instr.Instr.TheVariants.{Write, Send, Stop, Set, Cancel, Active, Now}
+use Rattle.bytecode.specs.declared.instr.Instr.TheVariants.{Case, Write, Send, Stop, Set, Cancel, Active, Now}
 use Rattle.bytecode.specs.Machine.{Machine, Next, Goes, Ends, Stuck}
 use Rattle.bytecode.specs.Rule.{NamesWhatExists}
 use Rattle.bytecode.specs.Runs.{HoldKinds}
 use Rattle.bytecode.specs.Shape.{shape_of}
 use Rattle.bytecode.specs.Step.{row}
+use Rattle.stack_vm.specs.declared.step.Needs.{Needs}
+use Rattle.stack_vm.specs.declared.step.Needs.TheVariants.{Cases, Host}
+use Rattle.stack_vm.specs.Cases.{HaveOtherLabels}
 use Rattle.stack_vm.specs.Memory.{HasRoomFor}
 use Rattle.stack_vm.specs.Runs.{IsRefusal, MayBeRefused, TakesAll}
 use Rattle.stack_vm.specs.Inside.State.{HasSameRoom, RunState, machine}
@@ -33,6 +36,22 @@ AsksHost (Active timer) = ⊤
 AsksHost Now = ⊤
 AsksHost _ = ⊥
 
+-- the top of a state, or 0
+abbrev pub top_of : RunState → ℤ
+top_of s = slice_index_or s.stack 0 (pos 0)
+
+-- an instruction is a Case whose label is another number than this one
+pub record IsOtherCase (instr : Instr) (n : ℤ) : Type 0 where
+  pub label : ℤ
+  pub target : ℕ
+  pub is_case : instr ≡ Case label target
+  pub other : label ≢ n
+
+-- what an instruction needs, at a state, that a step does not have at hand
+abbrev pub IsNeededBy : Instr → RunState → Needs → Type 0
+IsNeededBy instr s Host = AsksHost instr
+IsNeededBy instr s Cases = IsOtherCase instr (top_of s)
+
 -- an instruction that gives the host a line or a frame, which may be refused
 abbrev pub GivesLineOrFrame : Instr → Type 0
 GivesLineOrFrame (Write format) = ⊤
@@ -51,6 +70,13 @@ pub record DoesIn (code : Code) (instr : Instr) (before : RunState) (end : Optio
 -- it does so in any code, since it reads nothing of the code
 pub record Does (instr : Instr) (before : RunState) (end : Option Outcome) (after : RunState) : Type 0 where
   pub in_code : (code : Code) → DoesIn code instr before end after
+
+-- the machine passes from a state over Cases up to a place, since none of them has the top as its label
+pub record Passes (code : Code) (before after : RunState) : Type 0 where
+  pub end : ℕ
+  pub above : before.place < end
+  pub others : HaveOtherLabels code (top_of before) before.place end
+  pub leads : after ≡ record before { place = end }
 
 -- the row of an instruction leads from a state and a host to others, where the machine goes on or has ended
 -- and the host has taken the new effects

@@ -1,8 +1,9 @@
 -- Each arm does its instruction by the name that the arm gives it.
 use Rattle.std.proofs.Common.{sym, ap, ◌∙◌}
 use Rattle.bytecode.specs.declared.instr.Instr.TheVariants.{Case, Push}
+use Rattle.std.proofs.lemmas.Result.{err_from_is_err_and}
 use Rattle.stack_vm.proofs.NumberLemmas.{read_back}
-use Rattle.stack_vm.proofs.StepLemmas.{does_as, does_in_as, ready_as}
+use Rattle.stack_vm.proofs.StepLemmas.{does_as, does_in_as, needed_as, ready_as}
 use Rattle.stack_vm.proofs.step.step.Goals as goal
 
 pub returns-in-Push-clause-does : goal.returns-in-Push-clause-does
@@ -55,10 +56,17 @@ returns-in-Jump-clause-does c = does_as c.args.code.now c.in-Jump.is c.jump.ensu
 pub returns-in-Zero-clause-does : goal.returns-in-Zero-clause-does
 returns-in-Zero-clause-does c = does_as c.args.code.now c.in-Zero.is c.jump_at_zero.ensures
 
-pub returns-in-Case-clause-does : goal.returns-in-Case-clause-does
-returns-in-Case-clause-does c =
+pub returns-in_ok-jump_at-in-Case-clause-does : goal.returns-in_ok-jump_at-in-Case-clause-does
+returns-in_ok-jump_at-in-Case-clause-does c =
     let named = (ready_as c.in-Case.is c.requires).named in
-    does_as c.args.code.now (c.in-Case.is ∙ ap (λ n. Case n c.in-Case.target) (sym (read_back c.in-Case.label named))) c.jump_at.ensures
+    does_as c.args.code.now (c.in-Case.is ∙ ap (λ n. Case n c.in-Case.target) (sym (read_back c.in-Case.label named))) c.in_ok-jump_at-in-Case.ensures.jumps
+
+pub returns-in_err-jump_at-in-Case-clause-needs : goal.returns-in_err-jump_at-in-Case-clause-needs
+returns-in_err-jump_at-in-Case-clause-needs c =
+    let named = (ready_as c.in-Case.is c.requires).named in
+    let p = err_from_is_err_and c.from_residual.result c.from_residual.ensures.1 in
+    let e = c.in-Case.is ∙ ap (λ n. Case n c.in-Case.target) (sym (read_back c.in-Case.label named)) in
+    rw (p.1, p.2) (needed_as c.jump_at.new.state c.in_err-jump_at-in-Case.field-0.0 e c.in_err-jump_at-in-Case.ensures.needs)
 
 pub returns-in-Copy-clause-does : goal.returns-in-Copy-clause-does
 returns-in-Copy-clause-does c = does_as c.args.code.now c.in-Copy.is c.copy.ensures

@@ -4,6 +4,7 @@ use Rattle.std.specs.Prelude.{ℤ, pos, slice_set}
 use Rattle.bytecode.specs.declared.code.Code.{Code}
 use Rattle.bytecode.specs.Runs.{HoldKinds}
 use Rattle.bytecode.specs.Verified.{IsVerified}
+use Rattle.stack_vm.specs.Cases.{IsIndexOf}
 use Rattle.stack_vm.specs.Memory.{with_starts}
 use Rattle.stack_vm.specs.Inside.State.{RunState}
 use Rattle.stack_vm.specs.Room.{numbers_room}
@@ -69,6 +70,7 @@ returns-clause-of_code c =
       room = λ handler start reached closed moment is comes.
           let r = room_enough code v handler start reached closed moment is comes in
           record { numbers = omega (arith, r.numbers, k.numbers); calls = omega (arith, r.calls, k.calls) };
+      indexed = subst (λ (z : Code). IsIndexOf z c.in_ok-cases.cases) c.code-code.ensures.same c.in_ok-cases.ensures;
     }
 
 pub invariant_of-result : goal.invariant_of-result
