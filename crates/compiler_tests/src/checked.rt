@@ -65,7 +65,7 @@ pub fn compile_checked(
     if weight > MOST {
         return Err(CheckedRefusal::Size);
     }
-    if size_of(typed) > weight {
+    if size_of(alloc, typed)? > weight {
         return Err(CheckedRefusal::Outweighs);
     }
     match compile(alloc, program, typed) {

@@ -32,6 +32,6 @@ fn program(alloc: Global) -> Result<Typed, AllocError> {
 fn instructions_are_counted(rt: HostRuntime) -> Result<(), Fail> {
     let typed = program(rt.alloc())?;
     // `Now` and `Drop`, and at the end `Push 0` and `Ret`.
-    assert_eq!(rt; size_of(&typed), 4);
+    assert_eq!(rt; size_of(rt.alloc(), &typed), Ok(4));
     Ok(())
 }

@@ -2,6 +2,6 @@
 -- what opens their boxes and lists, and the sizes of the forms that hold lists of statements.
 unfoldable pub use Rattle.typed_tree.specs.declared.statement.TStmt.TheBlock.{hidden-the_row-TStmt-2 as tree}
 unfoldable pub use denote.Hole.Carrier.{hidden as row}
-use Rattle.code_size.proofs.Rows.{block_goes, block_size, for_size, if_goes, if_size, switch_size}
+use Rattle.code_size.proofs.Rows.{block_size, for_size, if_size, switch_size}
 
-pub ruleset form = (block_size, if_size, for_size, switch_size, block_goes, if_goes)
+pub ruleset form = (block_size, if_size, for_size, switch_size)

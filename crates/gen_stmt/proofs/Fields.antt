@@ -67,3 +67,15 @@ for_fields s None test None body is h = subst StmtHasFieldCells is h
 for_fields s None test (Some step) body is h = subst StmtHasFieldCells is h
 for_fields s (Some init) test None body is h = subst StmtHasFieldCells is h
 for_fields s (Some init) test (Some step) body is h = subst StmtHasFieldCells is h
+
+-- the test and the body of a `while`
+pub while_fields : (s : TStmt) (test : TExpr) (body : TStmt) → s ≡ stmt.While test body → StmtHasFieldCells s →
+    HasFieldCells test × StmtHasFieldCells body
+unfolding Rattle.typed_tree.specs.declared.statement.TStmt.TheBlock.hidden-the_row-TStmt-2 denote.Hole.Carrier.hidden
+while_fields s test body is h = subst StmtHasFieldCells is h
+
+-- the test and the body of a `do`
+pub do_fields : (s : TStmt) (test : TExpr) (body : TStmt) → s ≡ stmt.Do body test → StmtHasFieldCells s →
+    HasFieldCells test × StmtHasFieldCells body
+unfolding Rattle.typed_tree.specs.declared.statement.TStmt.TheBlock.hidden-the_row-TStmt-2 denote.Hole.Carrier.hidden
+do_fields s test body is h = let here = subst StmtHasFieldCells is h in (here.1, here.0)

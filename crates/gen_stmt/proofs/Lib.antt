@@ -3,6 +3,7 @@ pub mod By
 pub mod Emitted
 pub mod Fields
 pub mod Nonempty
+pub mod Noted
 pub mod Rows
 pub mod SoundExamples
 pub mod SoundFields

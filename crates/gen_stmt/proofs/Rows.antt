@@ -163,3 +163,15 @@ for_code typed exits s None test (Some step) body place b k is at_k at_b = rw (a
 for_code typed exits s (Some init) test None body place b k is at_k at_b = rw (at_b, at_k) (ap (λ s. stmt_code typed exits s place) is)
 for_code typed exits s (Some init) test (Some step) body place b k is at_k at_b =
     rw (at_b, at_k) (ap (λ s. stmt_code typed exits s place) is)
+
+-- the size of a `while`
+pub while_size : (typed : Typed) (s : TStmt) (test : TExpr) (body : TStmt) → s ≡ stmt.While test body →
+    stmt_size typed s ≡ jump_size (stmt_size typed body) + (stmt_size typed body + test_size typed true true test)
+unfolding Rattle.typed_tree.specs.declared.statement.TStmt.TheBlock.hidden-the_row-TStmt-2 denote.Hole.Carrier.hidden
+while_size typed s test body is = ap (stmt_size typed) is
+
+-- the size of a `do`
+pub do_size : (typed : Typed) (s : TStmt) (test : TExpr) (body : TStmt) → s ≡ stmt.Do body test →
+    stmt_size typed s ≡ 1 + (stmt_size typed body + test_size typed true true test)
+unfolding Rattle.typed_tree.specs.declared.statement.TStmt.TheBlock.hidden-the_row-TStmt-2 denote.Hole.Carrier.hidden
+do_size typed s test body is = ap (stmt_size typed) is

@@ -1,5 +1,5 @@
 -- One step of each loop: one more item, and those behind it.
-use Rattle.std.specs.Prelude.{◌≡◌, ℕ, suc, ◌+◌, ◌<◌, ◌≤◌, Bool, true, false, not, ◌&&◌, if◌then◌else◌, ◌==◌, nat_lt, List, [], ◌∷◌, ◌++◌, length, map, sum, sum_by, drop, is_some, ℤ, Option, Some, None}
+use Rattle.std.specs.Prelude.{◌≡◌, ℕ, suc, ◌+◌, ◌<◌, ◌≤◌, Bool, true, false, not, ◌&&◌, if◌then◌else◌, ◌==◌, nat_lt, List, [], ◌∷◌, ◌++◌, length, map, sum, sum_by, drop, take, is_some, ℤ, Option, Some, None}
 use Rattle.std.specs.List.{list_any}
 use Rattle.std.proofs.Common.{refl, ap, sym, ◌∙◌, arith, append_assoc, get_or, add-zero}
 use Rattle.std.proofs.lemmas.Bool.{eqb-true, le-ltb, lt-ltb}
@@ -17,16 +17,15 @@ use Rattle.typed_tree.specs.Shape.{goes_on}
 use Rattle.typed_tree.specs.Size.{jump_size, one_if, procedure_size, stmt_size, test_size, value_size}
 use Rattle.typed_tree.specs.declared.expression.TExpr.{TExpr}
 use Rattle.typed_tree.specs.Statement.{same_label}
-use Rattle.code_listing.specs.Exit.{Forward}
-use Rattle.code_listing.specs.Expression.{test_code}
 use Rattle.code_listing.specs.Listing.{Listing, instr_if, jump_code}
 use Rattle.code_listing.specs.Program.{Procedure, body_code, function_table, handler_table, place_behind, procedure_code, procedures_code}
 use Rattle.code_listing.specs.Statement.{Exits, cases_code, labels_code, stmt_code}
 use Rattle.gen_expr.proofs.Emitted.{value_some}
 use Rattle.code_size.proofs.Steps.{arms_here, drop_next, is_nil-drop, sizes_here}
 use Rattle.gen_stmt.specs.Inside.Procedures.{entry_of, of_function}
+use Rattle.gen_stmt.proofs.Noted.{first_here}
 use Rattle.code_size.specs.Rows.{functions_size}
-use Rattle.gen_stmt.specs.Inside.Rows.{arms_code_of, groups_code_of}
+use Rattle.gen_stmt.specs.Inside.Rows.{arm_code, arm_jumps, arms_code_of, behind_arm, groups_code_of}
 use Rattle.code_size.specs.Rows.{arms_size_of, before_default, group_sizes_of, kept_if, labels_of_groups}
 
 -- Sizes.
@@ -52,14 +51,14 @@ before_default_le (first ∷ labels) (size ∷ sizes) =
 
 -- Code.
 
--- one more statement
-pub stmts_next : (typed : Typed) (exits : Exits) (all : List TStmt) (i : ℕ) (s : TStmt) (c1 c2 : Listing) →
-    i < length all → s ≡ get_or all i s → c2 ≡ c1 ++ stmt_code typed exits s (length c1) →
+-- one more of the first statements
+pub first_next : (typed : Typed) (exits : Exits) (all : List TStmt) (count i : ℕ) (s : TStmt) (c1 c2 : Listing) →
+    count ≤ length all → i < count → s ≡ get_or all i s → c2 ≡ c1 ++ stmt_code typed exits s (length c1) →
     length c2 ≡ length c1 + stmt_size typed s →
-    c2 ++ body_code typed exits (drop (i + 1) all) (length c2) ≡
-    c1 ++ body_code typed exits (drop i all) (length c1)
-stmts_next typed exits all i s c1 c2 within is code place =
-    rw (drop_next all i s within is, place, code) (simp append_assoc)
+    c2 ++ body_code typed exits (drop (i + 1) (take count all)) (length c2) ≡
+    c1 ++ body_code typed exits (drop i (take count all)) (length c1)
+first_next typed exits all count i s c1 c2 within there is code place =
+    rw (first_here all count i s within there is, place, code) (simp append_assoc)
 
 -- a jump over something
 some_jump : (b : Bool) (jump_at behind end : ℕ) → (behind == 0) ≡ b → end ≡ jump_at + (one_if (not b) + behind) →
@@ -83,25 +82,33 @@ arm_jump false jumps jump_at behind end ends is = rw is (refl, refl)
 arm_jump true jumps jump_at behind end ends is =
     rw is (some_jump (behind == 0) jump_at behind end refl ends)
 
+-- there is room for an arm
+pub arm_room : (typed : Typed) (arms : List TArm) (i : ℕ) (arm : TArm) (other place end : ℕ) →
+    i < length arms → arm ≡ get_or arms i arm → place + arms_size_of typed (drop i arms) other ≡ end →
+    behind_arm typed arm end place + arms_size_of typed (drop (i + 1) arms) other ≡ end
+arm_room typed arms i arm other place end within is whole =
+    let rest = arms_size_of typed (drop (i + 1) arms) other in
+    let jump_at = place + test_size typed false false arm.test + stmt_size typed arm.body in
+    let here = arms_here typed arms other i (i + 1) arm within is refl in
+    let jump = arm_jump (goes_on arm.body) (arm_jumps typed arm end place) jump_at rest end (omega (arith, whole, here)) refl in
+    omega (arith, whole, here, jump.1)
+
 -- one more arm
-pub arms_next : (typed : Typed) (exits : Exits) (arms : List TArm) (i : ℕ) (arm : TArm) (other : ℕ)
-    (behind : ℕ → Listing) (c1 c2 c3 c4 : Listing) (next end : ℕ) (jumps : Bool) →
-    i < length arms → arm ≡ get_or arms i arm →
+pub arm_next : (typed : Typed) (exits : Exits) (arms : List TArm) (i : ℕ) (arm : TArm) (other : ℕ)
+    (behind : ℕ → Listing) (c1 c2 : Listing) (end : ℕ) → i < length arms → arm ≡ get_or arms i arm →
     length c1 + arms_size_of typed (drop i arms) other ≡ end →
-    jumps ≡ (goes_on arm.body && nat_lt (length c1 + test_size typed false false arm.test + stmt_size typed arm.body) end) →
-    next ≡ length c1 + test_size typed false false arm.test + stmt_size typed arm.body + one_if jumps →
-    c2 ≡ c1 ++ test_code typed false (Forward next) arm.test (length c1) 0 →
-    length c2 ≡ length c1 + test_size typed false false arm.test →
-    c3 ≡ c2 ++ stmt_code typed exits arm.body (length c2) →
-    c4 ≡ c3 ++ instr_if jumps (Jump end, 0) → length c4 ≡ next →
-    c4 ++ arms_code_of typed exits (drop (i + 1) arms) other behind (length c4) ≡
-    c1 ++ arms_code_of typed exits (drop i arms) other behind (length c1)
-arms_next typed exits arms i arm other behind c1 c2 c3 c4 next end jumps within is whole does at e2 place e3 e4 long =
+    c2 ≡ c1 ++ arm_code typed exits arm end (length c1) → length c2 ≡ behind_arm typed arm end (length c1) →
+    (length c2 + arms_size_of typed (drop (i + 1) arms) other ≡ end) ×
+    (c2 ++ arms_code_of typed exits (drop (i + 1) arms) other behind (length c2) ≡
+    c1 ++ arms_code_of typed exits (drop i arms) other behind (length c1))
+arm_next typed exits arms i arm other behind c1 c2 end within is whole code long =
     let rest = arms_size_of typed (drop (i + 1) arms) other in
     let jump_at = length c1 + test_size typed false false arm.test + stmt_size typed arm.body in
     let here = arms_here typed arms other i (i + 1) arm within is refl in
-    let jump = arm_jump (goes_on arm.body) jumps jump_at rest end (omega (arith, whole, here)) does in
-    rw (drop_next arms i arm within is, jump.0, jump.1, long, e4, e3, place, e2, at) (simp append_assoc)
+    let jump = arm_jump (goes_on arm.body) (arm_jumps typed arm end (length c1)) jump_at rest end (omega (arith, whole, here)) refl in (
+      omega (arith, whole, here, long, jump.1),
+      rw (drop_next arms i arm within is, long, code, jump.0, jump.1) (simp append_assoc),
+    )
 
 -- one more label
 pub labels_next : (labels : List (Option ℤ)) (i : ℕ) (label : Option ℤ) (at : ℕ) (c1 c2 : Listing) →

@@ -56,8 +56,9 @@ pub fn cells_of(typed: &Typed) -> u64
 /// Compiles a typed program: its code is verified, and does what the program means. The program's
 /// source is asked for its weight alone, which bounds the code.
 ///
-/// Takes time and memory linear in the code and in the tables, once for each level of nesting, but for
-/// sorting the selectors and the timers of the event procedures.
+/// Takes time and memory linear in the code and in the tables, but for sorting the selectors and the timers
+/// of the event procedures, and for the time of expressions, whose code counts once for each level of `&&`,
+/// `||` and `?:`.
 pub fn compile(alloc: Global, program: &Program, typed: &Typed) -> Result<Verified, CompileRefusal>
     requires sound { IsSound typed.now }
     requires bounded { size typed.now ≤ weight program.now }

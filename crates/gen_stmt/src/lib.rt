@@ -2,7 +2,7 @@
 //!
 //! [`make_code`] makes exactly the code of code_listing's definition, with its tables. [`compile`] hands it
 //! over verified, or refuses a program that is too large: [`cells_of`] and [`weight_of`] tell.
-//! Targets are made of sizes, which are counted before the code is there, so nothing is filled in
+//! Targets are made of sizes, which are counted before the code is there, each once, so nothing is filled in
 //! afterwards. Lists are gone through by loops; only nesting takes calls within calls.
 #![tactic(auto, unfolding(crate::proofs::By::tree, crate::proofs::By::row))]
 
@@ -13,6 +13,7 @@ pub use program::make_code;
 mod cases;
 mod compiler;
 mod exits;
+mod jump;
+mod notes;
 mod program;
-mod size;
 mod statement;

@@ -9,10 +9,9 @@ ghost use Rattle.gen_stmt.specs.Inside.Procedures.{entry_of, of_function, of_han
 ghost use Rattle.code_size.specs.Rows.{functions_size, handlers_size};
 
 use crate::exits::Exits;
-use crate::size::stmts_size;
 use crate::statement::emit_stmts;
 use bytecode::{Code, Fun, Handler, Instr};
-use code_size::last_goes_on;
+use code_size::{Extent, note_statements};
 use gen_expr::Emitter;
 use items::Items;
 use std::alloc::Global;
@@ -35,27 +34,31 @@ fn add_tail(gives: bool, goes: bool, into: &mut Emitter) -> Result<(), NoMemory>
     Ok(())
 }
 
-/// Appends the code of a procedure that gives a number or not.
+/// Appends the code of a procedure that gives a number or not. Its statements are noted first, and the notes
+/// taken again.
 fn emit_procedure(
     gives: bool,
     body: &[TStmt],
     typed: &Typed,
+    notes: &mut Vec<Extent>,
     into: &mut Emitter,
 ) -> Result<(), NoMemory>
     requires fields { BodyHasFieldCells body.now }
     requires room { length into.old + procedure_size typed.now gives body.now < 2 ^ 32 }
     ensures grows { OnOk result
         (length into.new ≡ length into.old + procedure_size typed.now gives body.now) }
+    ensures taken { OnOk result (notes.new.items ≡ notes.old.items) }
     ensures code { OnOk result (into.new ≡ into.old
         ++ procedure_code typed.now (record { gives = gives; body = body.now }) (length into.old)) }
 {
-    let end = into.place() + stmts_size(body, typed);
+    let extent = note_statements(body, typed, notes)?;
+    let end = into.place() + extent.size as u32;
     let exits = Exits {
         break_at: end,
         continue_at: end,
     };
-    emit_stmts(body, typed, exits, into)?;
-    add_tail(gives, last_goes_on(body), into)?;
+    emit_stmts(body, typed, exits, notes, into)?;
+    add_tail(gives, extent.goes_on, into)?;
     Ok(())
 }
 
@@ -64,6 +67,7 @@ fn add_procedure(
     gives: bool,
     body: &[TStmt],
     typed: &Typed,
+    notes: &mut Vec<Extent>,
     code: &mut Emitter,
     table: &mut Vec<Fun>,
 ) -> Result<(), NoMemory>
@@ -79,7 +83,7 @@ fn add_procedure(
         ++ entry_of typed.now (record { gives = gives; body = body.now }) (length code.old) ∷ []) }
 {
     let start = code.place();
-    emit_procedure(gives, body, typed, code)?;
+    emit_procedure(gives, body, typed, notes, code)?;
     let end = code.place();
     table.push(Fun { start, end, gives })?;
     Ok(())
@@ -89,6 +93,7 @@ fn add_procedure(
 fn add_functions(
     functions: &[TFun],
     typed: &Typed,
+    notes: &mut Vec<Extent>,
     code: &mut Emitter,
     table: &mut Vec<Fun>,
 ) -> Result<(), NoMemory>
@@ -102,7 +107,7 @@ fn add_functions(
 {
     for function in functions {
         let body = function.body.as_slice();
-        add_procedure(function.gives.is_some(), body, typed, code, table)?;
+        add_procedure(function.gives.is_some(), body, typed, notes, code, table)?;
     }
     Ok(())
 }
@@ -112,6 +117,7 @@ fn add_handlers(
     alloc: Global,
     handlers: &[THandler],
     typed: &Typed,
+    notes: &mut Vec<Extent>,
     code: &mut Emitter,
     table: &mut Vec<Fun>,
 ) -> Result<Vec<Handler>, NoMemory>
@@ -128,7 +134,7 @@ fn add_handlers(
     let mut entries = Vec::new(alloc);
     for handler in handlers {
         let number = table.len() as u32;
-        add_procedure(false, handler.body.as_slice(), typed, code, table)?;
+        add_procedure(false, handler.body.as_slice(), typed, notes, code, table)?;
         entries.push(Handler {
             event: handler.event.copy()?,
             function: number,
@@ -150,8 +156,8 @@ fn copy_formats(alloc: Global, formats: &[Format]) -> Result<Items<Format>, NoMe
     Ok(Items::from_list(copies))
 }
 
-/// The code of a typed program, with its tables. Takes time linear in the code and in the tables, once
-/// for each level of nesting.
+/// The code of a typed program, with its tables. Takes time linear in the code and in the tables, but for
+/// expressions, whose code counts once for each level of `&&`, `||` and `?:`.
 pub fn make_code(alloc: Global, typed: &Typed) -> Result<Code, NoMemory>
     requires sound { IsSound typed.now }
     requires room { size typed.now < 2 ^ 32 }
@@ -159,9 +165,16 @@ pub fn make_code(alloc: Global, typed: &Typed) -> Result<Code, NoMemory>
 {
     let mut code = Emitter::new(alloc);
     let mut functions = Vec::new(alloc);
-    add_functions(typed.functions.as_slice(), typed, &mut code, &mut functions)?;
+    let mut notes = Vec::new(alloc);
+    add_functions(
+        typed.functions.as_slice(),
+        typed,
+        &mut notes,
+        &mut code,
+        &mut functions,
+    )?;
     let events = typed.handlers.as_slice();
-    let handlers = add_handlers(alloc, events, typed, &mut code, &mut functions)?;
+    let handlers = add_handlers(alloc, events, typed, &mut notes, &mut code, &mut functions)?;
     let (instrs, depths) = code.take();
     Ok(Code {
         instrs: Items::from_list(instrs),
