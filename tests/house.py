@@ -5,7 +5,7 @@
 
 Of each crate, or of those that are named:
 
-- a line of src/ or specs/ has at most 110 columns, unless it imports names or is a row of a table of `if`s;
+- a line of src/ or specs/ has at most 110 columns, unless it imports names;
 - each file begins with a comment that says what it is about;
 - each function of src/ has a `///` line, but for tests and for methods of a trait's
   impl, which have their trait's;
@@ -29,7 +29,6 @@ COLUMNS = 110
 LINES = 800
 
 IMPORT = re.compile(r"\s*(ghost |pub )*use ")
-ROW = re.compile(r"\s+else \(if \S+ == \S+ then ")
 FUNCTION = re.compile(r"\s*(pub(\([a-z]+\))? )?(final )?(const )?(unsafe )?fn [a-z_0-9]+")
 TRAIT_IMPL = re.compile(r"(unsafe )?impl\b[^{]*\bfor\b", re.S)
 DEFINITION = re.compile(r"(abbrev |unfoldable )?(pub )?(data |record |[^\s:(){}\[\]-][^\s:]* :( |$))")
@@ -122,7 +121,7 @@ def faults_of(path, part):
         yield 1, f"a file without a head comment, `{marker} ..`"
     if part in ("src", "specs"):
         for i, line in enumerate(lines):
-            if len(line) > COLUMNS and not IMPORT.match(line) and not ROW.match(line):
+            if len(line) > COLUMNS and not IMPORT.match(line):
                 yield i + 1, f"a line of {len(line)} columns"
     if part == "src":
         yield from faults_of_rust(lines)
