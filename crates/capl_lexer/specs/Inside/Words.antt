@@ -9,7 +9,7 @@ words_with first =
     if first == 98 then word.Break ∷ word.Byte ∷ []
     else (if first == 99 then word.Case ∷ word.Char ∷ word.Const ∷ word.Continue ∷ []
     else (if first == 100 then word.Do ∷ word.Double ∷ word.Dword ∷ word.Default ∷
-        word.DiagRequest ∷ word.DiagResponse ∷ []
+    word.DiagRequest ∷ word.DiagResponse ∷ []
     else (if first == 101 then word.Else ∷ word.Enum ∷ word.EthernetPacket ∷ []
     else (if first == 102 then word.For ∷ word.Float ∷ word.FrFrame ∷ []
     else (if first == 105 then word.If ∷ word.Int ∷ word.Int64 ∷ word.Includes ∷ []
