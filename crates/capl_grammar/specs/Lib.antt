@@ -1,0 +1,4 @@
+-- The definitions of this crate.
+pub mod Expression
+pub mod File
+pub mod Piece
