@@ -2,7 +2,7 @@
 use Rattle.std.specs.Prelude.{◌≤◌, ◌<◌, ℕ, List, ⊤}
 use Rattle.capl_lexer.specs.declared.token.Tok.{Tok}
 use Rattle.capl_tree.specs.Nesting.{nesting}
-use Rattle.capl_tree.specs.Tree.{IsTreeOf}
+use Rattle.capl_grammar.specs.File.{IsSourceOf}
 use Rattle.capl_tree.specs.declared.file.FileTree.{FileTree}
 use Rattle.viable_prefixes.specs.Prefix.{IsFirstWrong}
 use Rattle.capl_parser.specs.declared.refusal.ParseRefusal.{ParseRefusal}
@@ -16,6 +16,6 @@ nesting_limit = 200
 abbrev pub IsRefusalOf : List Tok → ParseRefusal → Type 0
 IsRefusalOf tokens Deep = nesting_limit < nesting tokens
 IsRefusalOf tokens (NotSpelled token) =
-    (nesting tokens ≤ nesting_limit) × ((tree : FileTree) → IsTreeOf tokens tree → ⊥)
+    (nesting tokens ≤ nesting_limit) × ((tree : FileTree) → IsSourceOf tokens tree → ⊥)
     × IsFirstWrong tokens token
 IsRefusalOf tokens NoMemory = ⊤

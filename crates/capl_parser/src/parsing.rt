@@ -3,7 +3,7 @@
 ghost use Rattle.std.specs.Prelude.{◌≡◌, ◌<◌, ◌≤◌, ◌^◌, IfOk, IfErr, OnOk, length};
 ghost use Rattle.capl_nesting.specs.Tokens.{toks};
 ghost use Rattle.capl_tree.specs.Nesting.{nesting};
-ghost use Rattle.capl_tree.specs.Tree.{IsTreeOf};
+ghost use Rattle.capl_grammar.specs.File.{IsSourceOf};
 ghost use Rattle.capl_tree.specs.declared.file.FileTree.{FileTree};
 ghost use Rattle.capl_parser.specs.Refusal.{nesting_limit, IsRefusalOf};
 
@@ -29,9 +29,9 @@ pub fn parse(alloc: Global, tokens: &[Token]) -> Result<FileTree, ParseRefusal>
     requires { length tokens.now < 2 ^ 32 }
 
     // The tokens spell the tree, whose parts stand where they may, and no other.
-    ensures tree { IfOk result (λ tree. IsTreeOf (toks tokens.now) tree) }
+    ensures tree { IfOk result (λ tree. IsSourceOf (toks tokens.now) tree) }
     ensures only { IfOk result (λ tree.
-        (other : FileTree) → IsTreeOf (toks tokens.now) other → other ≡ tree) }
+        (other : FileTree) → IsSourceOf (toks tokens.now) other → other ≡ tree) }
     ensures within_limit { OnOk result (nesting (toks tokens.now) ≤ nesting_limit) }
 
     // They nest too deep, or spell no tree, and the token is the first wrong one.

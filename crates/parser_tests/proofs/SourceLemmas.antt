@@ -8,21 +8,21 @@ use Rattle.capl_lexer.specs.declared.token.Tok.{Tok}
 use Rattle.capl_lexer.specs.declared.token.Token.{Token}
 use Rattle.capl_meaning.specs.Variable.{parts_of, variables_of}
 use Rattle.capl_nesting.specs.Tokens.{toks}
-use Rattle.capl_tree.specs.Tree.{IsTreeOf}
+use Rattle.capl_grammar.specs.File.{IsSourceOf}
 use Rattle.capl_tree.specs.declared.file.FileTree.{FileTree}
 use Rattle.capl_tree.specs.declared.file.Program.{Program}
 use Rattle.check_names.specs.Few.{IsFew}
 use Rattle.dbc_reader.specs.declared.message.DbcMessage.{DbcMessage}
 
 -- a program of one file that is spelled by fewer than 2^32 tokens
-pub source_few : ((texts : List (List Tok)) (p : Program) → AllZip IsTreeOf texts p.files → length (parts_of p) ≤ sum_by length texts) →
-    ((texts : List (List Tok)) (base : List DbcMessage) (p : Program) → AllZip IsTreeOf texts p.files →
+pub source_few : ((texts : List (List Tok)) (p : Program) → AllZip IsSourceOf texts p.files → length (parts_of p) ≤ sum_by length texts) →
+    ((texts : List (List Tok)) (base : List DbcMessage) (p : Program) → AllZip IsSourceOf texts p.files →
     length (variables_of base p) ≤ sum_by length texts) →
-    (tokens : List Token) (tree : FileTree) (program : Program) → length tokens < 2 ^ 32 → IsTreeOf (toks tokens) tree →
+    (tokens : List Token) (tree : FileTree) (program : Program) → length tokens < 2 ^ 32 → IsSourceOf (toks tokens) tree →
     program.files ≡ tree ∷ [] → IsFew program
 source_few parts variables tokens tree program few spelled is =
     let texts = toks tokens ∷ [] in
-    let are = subst (AllZip IsTreeOf texts) (sym is) (spelled, tt) in
+    let are = subst (AllZip IsSourceOf texts) (sym is) (spelled, tt) in
     let many : sum_by length texts ≡ length (toks tokens) + 0 = sum_by-cons length (toks tokens) [] in
     let same = length-map tokens (λ (t : Token). t.tok) in
     record {

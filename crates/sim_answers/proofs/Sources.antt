@@ -9,7 +9,7 @@ use Rattle.texts.specs.Rule.{source_rule}
 use Rattle.dbc_reader.specs.declared.message.DbcMessage.{DbcMessage}
 use Rattle.capl_nesting.specs.Tokens.{toks}
 use Rattle.capl_tree.specs.Nesting.{nesting}
-use Rattle.capl_tree.specs.Tree.{IsTreeOf}
+use Rattle.capl_grammar.specs.File.{IsSourceOf}
 use Rattle.capl_tree.specs.Weight.{weight}
 use Rattle.capl_tree.specs.declared.file.FileTree.{FileTree}
 use Rattle.capl_tree.specs.declared.file.Program.{Program}
@@ -60,8 +60,8 @@ screened_by file (inr (place, rule, breaks, first)) =
     inr (place_blame file.name breaks.token.line breaks.token.column rule, record { place = place; rule = rule; breaks = breaks; first = first; is = refl })
 
 spelled_by : (file : SourceFile) → nesting (toks file.tokens) ≤ nesting_limit
-    → ((tree : FileTree) × IsTreeOf (toks file.tokens) tree)
-    ⊎ ((number : ℕ) × ((tree : FileTree) → IsTreeOf (toks file.tokens) tree → ⊥) × IsFirstWrong (toks file.tokens) number)
+    → ((tree : FileTree) × IsSourceOf (toks file.tokens) tree)
+    ⊎ ((number : ℕ) × ((tree : FileTree) → IsSourceOf (toks file.tokens) tree → ⊥) × IsFirstWrong (toks file.tokens) number)
     → IsParsed file ⊎ ((blame : Blame) × IsTreeBlame blame file)
 spelled_by file shallow (inl (tree, is)) = inl (tree, (shallow, is))
 spelled_by file shallow (inr (number, none, first)) =

@@ -9,3 +9,4 @@ mod SmallStatements
 mod SmallFiles
 mod SmallTokens
 mod FewNames
+mod Sources

@@ -5,7 +5,7 @@ ghost use Rattle.std.specs.List.{AllZip};
 ghost use Rattle.capl_lexer.specs.Reading.{IsReading};
 ghost use Rattle.capl_lexer.specs.declared.token.Tok.{Tok};
 ghost use Rattle.capl_lexer.specs.declared.token.Token.{Token};
-ghost use Rattle.capl_tree.specs.Tree.{IsTreeOf};
+ghost use Rattle.capl_grammar.specs.File.{IsSourceOf};
 ghost use Rattle.capl_tree.specs.Weight.{weight};
 ghost use Rattle.capl_tree.specs.declared.file.Program.{Program};
 ghost use Rattle.dbc_reader.specs.declared.message.DbcMessage.{DbcMessage};
@@ -22,22 +22,22 @@ pub fn tokens_of_texts_are_small()
 
 /// A program is readable whose trees are spelled by small tokens, fewer than 2^32 in each file.
 pub fn programs_of_small_texts_are_readable()
-    ensures { (texts : List (List Tok)) (program : Program) → AllZip IsTreeOf texts program.files →
+    ensures { (texts : List (List Tok)) (program : Program) → AllZip IsSourceOf texts program.files →
         All IsSmallText texts → IsReadable program }
 {}
 
 /// The weight of a program is at most eight times the number of its tokens.
 pub fn programs_weigh_eight_times_their_tokens()
-    ensures { (texts : List (List Tok)) (program : Program) → AllZip IsTreeOf texts program.files →
+    ensures { (texts : List (List Tok)) (program : Program) → AllZip IsSourceOf texts program.files →
         weight program ≤ 8 * sum_by length texts }
 {}
 
 /// A program has as many files as texts, and no more parts and no more variables than tokens.
 pub fn programs_declare_no_more_than_their_tokens()
-    ensures files { (texts : List (List Tok)) (program : Program) → AllZip IsTreeOf texts program.files →
+    ensures files { (texts : List (List Tok)) (program : Program) → AllZip IsSourceOf texts program.files →
         length program.files ≡ length texts }
-    ensures parts { (texts : List (List Tok)) (program : Program) → AllZip IsTreeOf texts program.files →
+    ensures parts { (texts : List (List Tok)) (program : Program) → AllZip IsSourceOf texts program.files →
         length (parts_of program) ≤ sum_by length texts }
     ensures variables { (texts : List (List Tok)) (base : List DbcMessage) (program : Program) →
-        AllZip IsTreeOf texts program.files → length (variables_of base program) ≤ sum_by length texts }
+        AllZip IsSourceOf texts program.files → length (variables_of base program) ≤ sum_by length texts }
 {}

@@ -13,7 +13,7 @@ use Rattle.capl_lexer.specs.Reading.{IsReading, token_limit}
 use Rattle.capl_lexer.specs.declared.token.Tok.{Tok}
 use Rattle.capl_lexer.specs.declared.token.Token.{Token}
 use Rattle.capl_nesting.specs.Tokens.{toks}
-use Rattle.capl_tree.specs.Tree.{IsTreeOf}
+use Rattle.capl_grammar.specs.File.{IsSourceOf}
 use Rattle.capl_tree.specs.Weight.{weight}
 use Rattle.capl_tree.specs.declared.file.FileTree.{FileTree}
 use Rattle.capl_tree.specs.declared.file.Program.{Program}
@@ -30,7 +30,7 @@ abbrev texts_of : List SourceFile → List (List Tok)
 texts_of files = map (λ (file : SourceFile). toks file.tokens) files
 
 -- the trees are those of the texts
-text_trees : (files : List SourceFile) (trees : List FileTree) → AllZip HasTree files trees → AllZip IsTreeOf (texts_of files) trees
+text_trees : (files : List SourceFile) (trees : List FileTree) → AllZip HasTree files trees → AllZip IsSourceOf (texts_of files) trees
 text_trees [] [] are = tt
 text_trees [] (tree ∷ trees) are = absurd are
 text_trees (file ∷ files) [] are = absurd are
@@ -58,22 +58,22 @@ texts_counted (file ∷ files) =
 
 -- the program is readable
 pub files_readable : ((text : List ℕ) (tokens : List Token) → IsReading text tokens → AreBytes text → IsShortList text → AreSmallToks (toks tokens)) →
-    ((texts : List (List Tok)) (p : Program) → AllZip IsTreeOf texts p.files → All IsSmallText texts → IsReadable p) →
+    ((texts : List (List Tok)) (p : Program) → AllZip IsSourceOf texts p.files → All IsSmallText texts → IsReadable p) →
     (files : List SourceFile) (program : Program) → AreTreesOf files program → AreOfTexts files → token_count files ≤ token_limit → IsReadable program
 files_readable tokens programs files program trees are few =
     programs (texts_of files) program (text_trees files program.files trees) (small_texts tokens files are few)
 
 -- the program is light
-pub files_light : ((texts : List (List Tok)) (p : Program) → AllZip IsTreeOf texts p.files → weight p ≤ 8 * sum_by length texts) →
+pub files_light : ((texts : List (List Tok)) (p : Program) → AllZip IsSourceOf texts p.files → weight p ≤ 8 * sum_by length texts) →
     (files : List SourceFile) (program : Program) → AreTreesOf files program → token_count files ≤ token_limit → weight program < 2 ^ 35
 files_light law files program trees few =
     let most = law (texts_of files) program (text_trees files program.files trees) in
     omega (arith, most, few, texts_counted files)
 
 -- the program declares few
-pub files_few : ((texts : List (List Tok)) (p : Program) → AllZip IsTreeOf texts p.files → length p.files ≡ length texts) →
-    ((texts : List (List Tok)) (p : Program) → AllZip IsTreeOf texts p.files → length (parts_of p) ≤ sum_by length texts) →
-    ((texts : List (List Tok)) (base : List DbcMessage) (p : Program) → AllZip IsTreeOf texts p.files →
+pub files_few : ((texts : List (List Tok)) (p : Program) → AllZip IsSourceOf texts p.files → length p.files ≡ length texts) →
+    ((texts : List (List Tok)) (p : Program) → AllZip IsSourceOf texts p.files → length (parts_of p) ≤ sum_by length texts) →
+    ((texts : List (List Tok)) (base : List DbcMessage) (p : Program) → AllZip IsSourceOf texts p.files →
     length (variables_of base p) ≤ sum_by length texts) →
     (files : List SourceFile) (program : Program) → AreTreesOf files program → length files ≤ file_limit →
     token_count files ≤ token_limit → IsFew program

@@ -3,7 +3,7 @@ use Rattle.std.proofs.Common.{◌≡◌, ℕ, suc, ◌+◌, ◌≤◌, ◌<◌, 
 use Rattle.std.proofs.lemmas.Bool.{cases_order}
 use Rattle.std.proofs.lemmas.List.{take-append-drop, take-take}
 use Rattle.capl_lexer.specs.declared.token.Tok.{Tok}
-use Rattle.capl_tree.specs.Tree.{IsTreeOf}
+use Rattle.capl_grammar.specs.File.{IsSourceOf}
 use Rattle.viable_prefixes.specs.Prefix.{BeginsTree, IsFirstWrong}
 
 -- fewer of the tokens that begin a tree begin it too
@@ -13,7 +13,7 @@ begins_with_fewer tokens n m fewer begun =
     ap (λ (front : List Tok). front ++ drop n (take m tokens)) (sym (take-take n m tokens fewer)) ∙ take-append-drop n (take m tokens) in
     let all : take m tokens ++ begun.0 ≡ take n tokens ++ (drop n (take m tokens) ++ begun.0) =
     ap (λ (front : List Tok). front ++ begun.0) (sym parts) ∙ append_assoc (take n tokens) (drop n (take m tokens)) begun.0 in
-    (drop n (take m tokens) ++ begun.0, begun.1, subst (λ (whole : List Tok). IsTreeOf whole begun.1) all begun.2)
+    (drop n (take m tokens) ++ begun.0, begun.1, subst (λ (whole : List Tok). IsSourceOf whole begun.1) all begun.2)
 
 -- none is the first and stands before another
 not_before : (tokens : List Tok) (one other : ℕ) → IsFirstWrong tokens one → IsFirstWrong tokens other → one < other → ⊥

@@ -10,7 +10,7 @@ use Rattle.capl_lexer.specs.Screening.{Breaks}
 use Rattle.capl_lexer.specs.declared.token.Token.{Token}
 use Rattle.capl_nesting.specs.Tokens.{toks}
 use Rattle.capl_tree.specs.Nesting.{nesting}
-use Rattle.capl_tree.specs.Tree.{IsTreeOf}
+use Rattle.capl_grammar.specs.File.{IsSourceOf}
 use Rattle.capl_tree.specs.Weight.{weight}
 use Rattle.capl_tree.specs.declared.file.FileTree.{FileTree}
 use Rattle.capl_tree.specs.declared.file.Program.{Program}
@@ -65,7 +65,7 @@ IsScreenBlame files blame = IsFirstFile IsScreened (IsTokenBlame blame) files
 
 -- the tokens of a file nest no deeper than they may, and spell this tree
 abbrev pub HasTree : SourceFile → FileTree → Type 0
-HasTree file tree = (nesting (toks file.tokens) ≤ nesting_limit) × IsTreeOf (toks file.tokens) tree
+HasTree file tree = (nesting (toks file.tokens) ≤ nesting_limit) × IsSourceOf (toks file.tokens) tree
 
 -- they spell some tree
 abbrev pub IsParsed : SourceFile → Type 0
@@ -93,7 +93,7 @@ wrong_blame name None last = end_blame name last (source_rule 2)
 -- or the place just past the last
 pub record IsSpellingBlame (blame : Blame) (file : SourceFile) : Type 0 where
   pub shallow : nesting (toks file.tokens) ≤ nesting_limit
-  pub no_tree : (tree : FileTree) → IsTreeOf (toks file.tokens) tree → ⊥
+  pub no_tree : (tree : FileTree) → IsSourceOf (toks file.tokens) tree → ⊥
   pub number : ℕ
   pub first : IsFirstWrong (toks file.tokens) number
   pub is : blame ≡ wrong_blame file.name (slice_get file.tokens number)

@@ -21,6 +21,8 @@ use Rattle.capl_tree.specs.FileSpelling.{each}
 use Rattle.capl_tree.specs.Placed.{IsPlaced, IsDeclarationPlaced}
 use Rattle.capl_tree.specs.FilePlaced.{EachPlaced}
 use Rattle.capl_tree.specs.Tree.{IsTreeOf}
+use Rattle.capl_grammar.specs.File.{IsSourceOf}
+use Rattle.capl_grammar.proofs.WrittenFile.{written}
 use Rattle.capl_tree.specs.Nesting.{deepest, goes_on, nesting}
 use Rattle.sys_vars.specs.declared.item.SysItem.{SysItem}
 use Rattle.sys_vars.specs.Name.{IsLong, timer_name, variable_name}
@@ -191,7 +193,7 @@ all_well items =
     (in_order_well timer_declaration timer_toks timer_well (2 + length (flat_map variable_toks items)) items [] (All-nil IsDeclaration)))
 
 -- the tokens spell the tree, whose parts stand in their places
-pub prelude_is_tree : (items : List SysItem) → IsTreeOf (prelude_toks items) (prelude_tree items)
+prelude_is_tree : (items : List SysItem) → IsTreeOf (prelude_toks items) (prelude_tree items)
 prelude_is_tree items = record {
   well_formed = All-cons IsTopItem (top.Variables (variables_of items ++ timers_of items)) [] (all_well items) (All-nil IsTopItem);
   spelled_in_place = (
@@ -202,6 +204,10 @@ prelude_is_tree items = record {
     refl,
   );
 }
+
+-- the tokens are a source of the tree
+pub prelude_is_source : (items : List SysItem) → IsSourceOf (prelude_toks items) (prelude_tree items)
+prelude_is_source items = written (prelude_toks items) (prelude_tree items) (prelude_is_tree items)
 
 -- Nesting.
 

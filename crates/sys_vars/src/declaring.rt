@@ -4,7 +4,7 @@ ghost use Rattle.std.specs.Prelude.{◌≡◌, ◌+◌, ◌*◌, ◌≤◌, ◌�
 ghost use Rattle.capl_lexer.specs.declared.token.Tok.{Tok};
 ghost use Rattle.capl_nesting.specs.Tokens.{toks};
 ghost use Rattle.capl_tree.specs.Nesting.{nesting};
-ghost use Rattle.capl_tree.specs.Tree.{IsTreeOf};
+ghost use Rattle.capl_grammar.specs.File.{IsSourceOf};
 ghost use Rattle.sys_vars.specs.Name.{HasLong, IsLong};
 ghost use Rattle.sys_vars.specs.Prelude.{prelude_tokens, prelude_tree, timer_toks, unplaced, value_toks, variable_toks};
 
@@ -23,7 +23,7 @@ pub fn prelude(alloc: Global, items: &[SysItem]) -> Result<Vec<Token>, NoMemory>
 
     // Their tree declares the variables and then their timers, each in order, and is shallow enough to be
     // read.
-    ensures tree { IfOk result (λ tokens. IsTreeOf (toks tokens.items) (prelude_tree items.now)) }
+    ensures tree { IfOk result (λ tokens. IsSourceOf (toks tokens.items) (prelude_tree items.now)) }
     ensures shallow { IfOk result (λ tokens. nesting (toks tokens.items) ≤ 3) }
     ensures short { IfOk result (λ tokens. length tokens.items ≤ 3 + 9 * length items.now) }
 {

@@ -9,7 +9,9 @@ use Rattle.capl_lexer.specs.declared.token.Word.TheVariants as word
 use Rattle.capl_lexer.specs.declared.token.Sign.TheVariants as sign
 use Rattle.capl_tree.specs.declared.file.TopItem.{TopItem}
 use Rattle.capl_tree.specs.declared.file.FileTree.{FileTree}
-use Rattle.capl_tree.specs.Tree.{IsTreeOf}
+use Rattle.capl_grammar.specs.File.{IsSourceOf}
+use Rattle.capl_grammar.proofs.ReadFile.{read}
+use Rattle.capl_grammar.proofs.WrittenFile.{written}
 use Rattle.capl_tree.specs.declared.file.TopItem.TheVariants as top
 use Rattle.expr_parser.specs.Reading.{Read, and_then, begins}
 use Rattle.expr_parser.specs.Operators.{kind_of}
@@ -161,15 +163,15 @@ pub file_followed : (parts : Parts) → AreFollowed parts → (ts : List Tok) �
 file_followed parts known ts fits = file_same parts known ts fits ∙ sym (leads_goes (file parts ts) [])
 
 -- what is read with no token left fulfils the goal of a file
-pub tree_accepted : ((total : ℕ) → AreFollowed (parts_of total)) → (ts : List Tok) (tree : FileTree) → IsTreeOf ts tree → accepts (goal.File ∷ []) ts ≡ true
+pub tree_accepted : ((total : ℕ) → AreFollowed (parts_of total)) → (ts : List Tok) (tree : FileTree) → IsSourceOf ts tree → accepts (goal.File ∷ []) ts ≡ true
 tree_accepted known ts tree is =
-    file_followed (parts_of (length ts)) (known (length ts)) ts (omega arith) ∙ ap (λ (read : Read (List TopItem)). goes read []) (tree_read ts tree is)
+    file_followed (parts_of (length ts)) (known (length ts)) ts (omega arith) ∙ ap (λ (read : Read (List TopItem)). goes read []) (tree_read ts tree (read ts tree is))
 
-tree_of : (ts : List Tok) (read : Read (List TopItem)) → file (parts_of (length ts)) ts ≡ read → goes read [] ≡ true → (tree : FileTree) × IsTreeOf ts tree
+tree_of : (ts : List Tok) (read : Read (List TopItem)) → file (parts_of (length ts)) ts ≡ read → goes read [] ≡ true → (tree : FileTree) × IsSourceOf ts tree
 tree_of ts None same is = absurd cc
-tree_of ts (Some found) same is = (record { items = found.0 }, read_tree ts found.0 found.1 same)
+tree_of ts (Some found) same is = (record { items = found.0 }, written ts (record { items = found.0 }) (read_tree ts found.0 found.1 same))
 
 -- tokens that fulfil the goal of a file are those of a tree
-pub accepted_tree : ((total : ℕ) → AreFollowed (parts_of total)) → (ts : List Tok) → accepts (goal.File ∷ []) ts ≡ true → (tree : FileTree) × IsTreeOf ts tree
+pub accepted_tree : ((total : ℕ) → AreFollowed (parts_of total)) → (ts : List Tok) → accepts (goal.File ∷ []) ts ≡ true → (tree : FileTree) × IsSourceOf ts tree
 accepted_tree known ts is =
     tree_of ts (file (parts_of (length ts)) ts) refl (sym (file_followed (parts_of (length ts)) (known (length ts)) ts (omega arith)) ∙ is)

@@ -2,7 +2,7 @@
 use Rattle.std.proofs.Common.{◌≡◌, true, List, [], ◌∷◌}
 use Rattle.capl_lexer.specs.declared.token.Tok.{Tok}
 use Rattle.capl_tree.specs.declared.file.FileTree.{FileTree}
-use Rattle.capl_tree.specs.Tree.{IsTreeOf}
+use Rattle.capl_grammar.specs.File.{IsSourceOf}
 use Rattle.viable_prefixes.specs.declared.goal.Goal.TheVariants as goal
 use Rattle.viable_prefixes.specs.Prefix.{IsFirstWrong}
 use Rattle.viable_prefixes.specs.Inside.Goals.{accepts, first_wrong}
@@ -12,8 +12,8 @@ use Rattle.viable_prefixes.proofs.Wrong.{before_wrong, wrong_refused, wrong_amon
 -- what the goals accept is what trees are spelled by
 abbrev pub AreSpelled : Type 0
 AreSpelled =
-    ((ts : List Tok) (tree : FileTree) → IsTreeOf ts tree → accepts (goal.File ∷ []) ts ≡ true)
-    × ((ts : List Tok) → accepts (goal.File ∷ []) ts ≡ true → (tree : FileTree) × IsTreeOf ts tree)
+    ((ts : List Tok) (tree : FileTree) → IsSourceOf ts tree → accepts (goal.File ∷ []) ts ≡ true)
+    × ((ts : List Tok) → accepts (goal.File ∷ []) ts ≡ true → (tree : FileTree) × IsSourceOf ts tree)
 
 -- it is so where they are the same
 pub first_is : AreSpelled → (ts : List Tok) → IsFirstWrong ts (first_wrong (goal.File ∷ []) ts)

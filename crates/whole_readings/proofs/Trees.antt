@@ -3,7 +3,7 @@ use Rattle.std.proofs.Common.{ℕ, List, inl, inr}
 use Rattle.std.specs.Prelude.{◌⊎◌}
 use Rattle.capl_lexer.specs.declared.token.Tok.{Tok}
 use Rattle.capl_tree.specs.declared.file.FileTree.{FileTree}
-use Rattle.capl_tree.specs.Tree.{IsTreeOf}
+use Rattle.capl_grammar.specs.File.{IsSourceOf}
 use Rattle.viable_prefixes.specs.Prefix.{IsFirstWrong}
 use Rattle.viable_prefixes.proofs.DeclarationFollows.{parts_followed}
 use Rattle.viable_prefixes.proofs.FileFollows.{tree_accepted, accepted_tree}
@@ -11,7 +11,7 @@ use Rattle.viable_prefixes.proofs.First.{first_is}
 use Rattle.whole_readings.proofs.Known.{Known, known_told}
 
 abbrev IsTree : List Tok → Type 0
-IsTree ts = (tree : FileTree) × IsTreeOf ts tree
+IsTree ts = (tree : FileTree) × IsSourceOf ts tree
 
 -- whether tokens spell a tree
 pub known_tree : (ts : List Tok) → Known (IsTree ts)
@@ -22,7 +22,7 @@ pub has_first_wrong : (ts : List Tok) → (number : ℕ) × IsFirstWrong ts numb
 has_first_wrong ts = (_, first_is (tree_accepted parts_followed, accepted_tree parts_followed) ts)
 
 -- tokens spell a tree, or none and have a first wrong one
-pub tree_or_first_wrong : (ts : List Tok) → IsTree ts ⊎ ((number : ℕ) × ((tree : FileTree) → IsTreeOf ts tree → ⊥) × IsFirstWrong ts number)
+pub tree_or_first_wrong : (ts : List Tok) → IsTree ts ⊎ ((number : ℕ) × ((tree : FileTree) → IsSourceOf ts tree → ⊥) × IsFirstWrong ts number)
 tree_or_first_wrong ts =
     let wrong = has_first_wrong ts in
     elim (known_tree ts) [ inl tree ↦ inl tree | inr none ↦ inr (wrong.0, (λ tree is. none (tree, is)), wrong.1) ]

@@ -17,7 +17,7 @@ ghost use Rattle.capl_lexer.specs.Screening.{Breaks};
 ghost use Rattle.capl_lexer.specs.declared.token.Tok.{Tok};
 ghost use Rattle.capl_lexer.specs.declared.token.Token.{Token};
 ghost use Rattle.capl_include.specs.Expansion.{Contents, IsExpansion, Outcome};
-ghost use Rattle.capl_tree.specs.Tree.{IsTreeOf};
+ghost use Rattle.capl_grammar.specs.File.{IsSourceOf};
 ghost use Rattle.capl_tree.specs.declared.file.FileTree.{FileTree};
 ghost use Rattle.capl_tree.specs.declared.file.Program.{Program};
 ghost use Rattle.viable_prefixes.specs.Prefix.{IsFirstWrong};
@@ -64,8 +64,8 @@ pub fn each_token_list_is_right_or_has_a_first_break()
 /// Tokens spell a tree, or they spell none and one of them, or their end, is the first that is wrong.
 pub fn each_token_list_spells_a_tree_or_has_a_first_wrong()
     ensures { (tokens : List Tok) →
-        ((tree : FileTree) × IsTreeOf tokens tree)
-        ⊎ ((number : ℕ) × ((tree : FileTree) → IsTreeOf tokens tree → ⊥) × IsFirstWrong tokens number) }
+        ((tree : FileTree) × IsSourceOf tokens tree)
+        ⊎ ((number : ℕ) × ((tree : FileTree) → IsSourceOf tokens tree → ⊥) × IsFirstWrong tokens number) }
 {}
 
 /// A program breaks no rule of E09 to E28, or has a first offence.

@@ -8,8 +8,7 @@ use Rattle.expr_parser.specs.declared.refusal.Refusal.{Refusal}
 use Rattle.expr_parser.specs.Reading.{Gives}
 use Rattle.parser_laws.specs.File.{file}
 use Rattle.parser_laws.specs.Statement.{parts_of}
-use Rattle.parser_laws.proofs.Whole.{only_tree}
-use Rattle.capl_parser.proofs.Whole.{tree_parsed, none_parsed}
+use Rattle.capl_parser.proofs.Whole.{tree_parsed, none_parsed, only_parsed}
 use Rattle.capl_parser.proofs.parsing.parse.Goals as goal
 
 pub returns-in-Ok-clause-tree : goal.returns-in-Ok-clause-tree
@@ -21,7 +20,7 @@ pub returns-in-Ok-clause-only : goal.returns-in-Ok-clause-only
 returns-in-Ok-clause-only c =
     let is = tree_parsed c.args.tokens.now (length c.args.tokens.now) c.in-Ok.items c.read_file.new.cursor refl
     (subst (λ (ts : List Tok). file (parts_of (length c.args.tokens.now)) ts ≡ Some (c.in-Ok.items, c.read_file.new.cursor)) c.new-cursor.ensures c.in-Ok.ensures) in
-    λ (other : FileTree) spelled. only_tree (toks c.args.tokens.now) other (record { items = c.in-Ok.items }) spelled is
+    λ (other : FileTree) spelled. only_parsed (toks c.args.tokens.now) other (record { items = c.in-Ok.items }) spelled is
 
 pub returns-in_ok-token-in-Err-NotSpelled-clause-refusal : goal.returns-in_ok-token-in-Err-NotSpelled-clause-refusal
 returns-in_ok-token-in-Err-NotSpelled-clause-refusal c =

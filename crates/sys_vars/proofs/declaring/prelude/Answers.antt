@@ -9,10 +9,10 @@ use Rattle.capl_lexer.specs.declared.token.Word.TheVariants as word
 use Rattle.capl_lexer.specs.declared.token.Sign.TheVariants as sign
 use Rattle.capl_nesting.specs.Tokens.{toks}
 use Rattle.capl_tree.specs.Nesting.{nesting}
-use Rattle.capl_tree.specs.Tree.{IsTreeOf}
+use Rattle.capl_grammar.specs.File.{IsSourceOf}
 use Rattle.sys_vars.specs.declared.item.SysItem.{SysItem}
 use Rattle.sys_vars.specs.Prelude.{prelude_toks, prelude_tree, timer_toks, unplaced, variable_toks}
-use Rattle.sys_vars.proofs.PreludeLemmas.{all_written, prelude_is_tree, prelude_shallow, prelude_short, unplaced_toks}
+use Rattle.sys_vars.proofs.PreludeLemmas.{all_written, prelude_is_source, prelude_shallow, prelude_short, unplaced_toks}
 use Rattle.sys_vars.proofs.declaring.prelude.Goals as goal
 
 pub returns-clause-tokens : goal.returns-clause-tokens
@@ -27,7 +27,7 @@ returns-clause-tokens c =
 pub returns-clause-tree : goal.returns-clause-tree
 returns-clause-tree c =
     let is = ap (λ (ts : List Token). toks ts) (returns-clause-tokens c) ∙ unplaced_toks (prelude_toks c.args.items.now) in
-    subst (λ (ts : List Tok). IsTreeOf ts (prelude_tree c.args.items.now)) (sym is) (prelude_is_tree c.args.items.now)
+    subst (λ (ts : List Tok). IsSourceOf ts (prelude_tree c.args.items.now)) (sym is) (prelude_is_source c.args.items.now)
 
 pub returns-clause-shallow : goal.returns-clause-shallow
 returns-clause-shallow c =
