@@ -107,8 +107,7 @@ abbrev mutual
       ∷ expression assignment_level test (signed sign.CloseParen
       ∷ statement body (further_arms (takes_else body) others behind))
 
-  -- arms, each `else if ( TEST ) BODY`; and whether an `else` behind the statement before them would belong to
-  -- an `if` in it
+  -- arms, each `else if ( TEST ) BODY`, and whether an `else` would belong to an `if` in the statement before
   pub further_arms : Bool → {m : _} → Row_of-Arm m → (Bool → List Piece) → List Piece
   further_arms taken end_of-Arm behind = behind taken
   further_arms taken (more_of-Arm test body others) behind =
@@ -195,7 +194,8 @@ procedure_head (head.Timer name at) rest =
     worded word.On ∷ worded word.Timer ∷ At at ∷ named name ∷ rest
 procedure_head (head.Key pressed) rest = worded word.On ∷ named (codes "key") ∷ key pressed rest
 procedure_head (head.Function kind name params at) rest =
-    gives kind (At at ∷ named name ∷ signed sign.OpenParen ∷ parameters params (signed sign.CloseParen ∷ rest))
+    gives kind
+    (At at ∷ named name ∷ signed sign.OpenParen ∷ parameters params (signed sign.CloseParen ∷ rest))
 
 -- a procedure
 abbrev pub procedure : Proc → List Piece → List Piece

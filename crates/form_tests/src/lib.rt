@@ -1,5 +1,4 @@
-//! Tests of node_run: what each form of a source leaves behind, alone and in each other, and the rounds of a
-//! node, task by task.
+//! Tests of node_run: what each form of a source leaves behind, alone and in each other.
 //!
 //! They stand here, above that crate, so that it is proved without them. The nodes are made of sources by
 //! run_bench.
@@ -9,5 +8,3 @@
 mod forms;
 #[cfg(test)]
 mod nested;
-#[cfg(test)]
-mod tasks;

@@ -1,9 +1,7 @@
-//! Tests of the calls that make the typed trees of expressions and statements.
+//! Tests of the calls that make the typed trees of expressions.
 //!
-//! They stand here, above those crates, so that each of those is proved without them.
+//! They stand here, above that crate, so that it is proved without them.
 #![tactic(auto)]
 
-#[cfg(test)]
-mod statements;
 #[cfg(test)]
 mod typed_trees;

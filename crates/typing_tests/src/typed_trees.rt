@@ -1,8 +1,7 @@
-// The trees of an expression, a place, arguments and statements.
+// The trees of an expression, a place and arguments.
 
 ghost use Rattle.type_expressions.specs.Made.{AreTreeTables};
 
-use super::statements::check_made;
 use capl_meaning::Sort;
 use check_calls::Calls;
 use check_names::Names;
@@ -13,7 +12,6 @@ use std::alloc::Global;
 use std::process::Abort;
 use std::test::Fail;
 use type_expressions::{Layout, TreeTables, make_expression, make_place, make_row};
-use type_statements::StatementTables;
 use typed_tree::TExpr;
 
 /// What the calls make of `1 + 3000000000`, where it stands outside of procedures.
@@ -55,7 +53,7 @@ fn check_row(rt: &impl Abort, alloc: Global, names: &Names, tables: &TreeTables)
 }
 
 #[test]
-fn expressions_and_statements_have_trees(rt: HostRuntime) -> Result<(), Fail> {
+fn expressions_have_trees(rt: HostRuntime) -> Result<(), Fail> {
     let alloc = rt.alloc();
     let program = undeclared(alloc);
     let named = Names::build(alloc, &program, None)?;
@@ -68,11 +66,5 @@ fn expressions_and_statements_have_trees(rt: HostRuntime) -> Result<(), Fail> {
         calls: &calls,
     };
     check_sum(&rt, alloc, names, &tables)?;
-    check_row(&rt, alloc, names, &tables)?;
-    let tables = StatementTables {
-        trees: tables,
-        constants: &constants,
-    };
-    check_made(&rt, alloc, names, &tables)?;
-    Ok(())
+    check_row(&rt, alloc, names, &tables)
 }

@@ -1,7 +1,7 @@
 -- There is room for the one format of a `write`.
 use Rattle.check_sorts.specs.Scope.{scope_in}
-use Rattle.typing_tests.proofs.AloneLemmas.{alone_room}
-use Rattle.typing_tests.proofs.statements.check_write.Goals as goal
+use Rattle.statement_tests.proofs.AloneLemmas.{alone_room}
+use Rattle.statement_tests.proofs.statements.check_write.Goals as goal
 
 pub make_alone-requires-clause-room : goal.make_alone-requires-clause-room
 make_alone-requires-clause-room g c =

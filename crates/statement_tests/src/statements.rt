@@ -1,14 +1,16 @@
-// The typed trees of statements, which the test in typed_trees asks for.
+// The typed trees of statements.
 
 ghost use Rattle.type_statements.specs.Tables.{AreTables};
 
 use capl_tree::Stmt;
+use check_calls::Calls;
 use check_names::Names;
-use check_sorts::Scope;
-use parser_tests::sources::{expression, program};
+use check_sorts::{Constants, Scope};
+use parser_tests::sources::{expression, program, undeclared};
 use std::alloc::Global;
 use std::process::Abort;
 use std::test::Fail;
+use type_expressions::{Layout, TreeTables};
 use type_statements::{StatementTables, make_alone, make_body, make_statement};
 use typed_tree::TStmt;
 
@@ -50,15 +52,22 @@ fn check_write(
     Ok(())
 }
 
-/// What the calls make of a `break`, of two statements and of a `write`, outside of procedures.
-pub(crate) fn check_made(
-    rt: &impl Abort,
-    alloc: Global,
-    names: &Names,
-    tables: &StatementTables,
-) -> Result<(), Fail>
-    requires { AreTables names.now tables.now }
-{
-    check_body(rt, alloc, names, tables)?;
-    check_write(rt, alloc, names, tables)
+#[test]
+fn statements_have_trees(rt: HostRuntime) -> Result<(), Fail> {
+    let alloc = rt.alloc();
+    let program = undeclared(alloc);
+    let named = Names::build(alloc, &program, None)?;
+    let names = &named.names;
+    let constants = Constants::build(alloc, names)?;
+    let calls = Calls::build(alloc, names)?;
+    let layout = Layout::build(alloc, names, &constants)?.ok_or("it has few cells")?;
+    let tables = StatementTables {
+        trees: TreeTables {
+            layout: &layout,
+            calls: &calls,
+        },
+        constants: &constants,
+    };
+    check_body(&rt, alloc, names, &tables)?;
+    check_write(&rt, alloc, names, &tables)
 }
