@@ -1,4 +1,4 @@
-// Calls of the laws on readers and the trees that they give.
+// Calls of the laws on the grammar, on readers and on the trees that these give.
 
 #[test]
 fn readers_have_laws() {
@@ -8,4 +8,9 @@ fn readers_have_laws() {
     decl_parser::only_declarations_are_read();
     parser_laws::trees_are_read();
     parser_laws::one_tree();
+}
+
+#[test]
+fn the_grammar_has_a_law() {
+    capl_grammar::laws::sources_are_spelled_in_place();
 }
