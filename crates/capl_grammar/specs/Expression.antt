@@ -2,7 +2,7 @@
 --
 -- A part is written out before a rest, as the pieces that it is and then the rest. So a whole is its parts,
 -- each written out before what stands behind it. The place of a part is that of its first token.
-use Rattle.std.specs.Prelude.{ℕ, suc, Bool, true, false, nat_le, nat_lt, length, List, [], ◌∷◌, Option, Some, None}
+use Rattle.std.specs.Prelude.{ℕ, suc, true, false, nat_le, nat_lt, length, List, [], ◌∷◌, Option, Some, None}
 use Rattle.int_kinds.specs.declared.operators.BinOp.{BinOp}
 use Rattle.int_kinds.specs.declared.operators.BinOp.TheVariants as op
 use Rattle.capl_lexer.specs.declared.token.Tok.TheVariants as tok
