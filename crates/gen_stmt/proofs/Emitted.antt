@@ -1,25 +1,22 @@
 -- The code of each form, appended piece by piece: what each piece appends is known, and where a later one begins.
-use Rattle.std.specs.Prelude.{◌≡◌, ℕ, true, ◌+◌, List, [], ◌∷◌, ◌++◌, length, map, sum, Option}
+use Rattle.std.specs.Prelude.{◌≡◌, ℕ, true, ◌+◌, List, [], ◌++◌, length, map, Option}
 use Rattle.std.proofs.Common.{refl, ap, sym, ◌∙◌, append_assoc, arith}
 use Rattle.bytecode.specs.declared.code.Fun.{Fun}
-use Rattle.bytecode.specs.declared.instr.Instr.TheVariants.{Turn}
 use Rattle.typed_tree.specs.declared.expression.TExpr.{TExpr}
 use Rattle.typed_tree.specs.declared.program.TFun.{TFun}
 use Rattle.typed_tree.specs.declared.program.THandler.{THandler}
 use Rattle.typed_tree.specs.declared.program.Typed.{Typed}
-use Rattle.typed_tree.specs.declared.statement.TGroup.{TGroup}
 use Rattle.typed_tree.specs.declared.statement.TStmt.{TStmt}
 use Rattle.typed_tree.specs.declared.statement.TStmt.TheVariants as stmt
-use Rattle.typed_tree.specs.Size.{for_test_size, jump_size, stmt_size, test_size, value_size}
+use Rattle.typed_tree.specs.Size.{for_test_size, jump_size, stmt_size, test_size}
 use Rattle.code_listing.specs.Exit.{Backward}
-use Rattle.code_listing.specs.Expression.{test_code, value_code}
+use Rattle.code_listing.specs.Expression.{test_code}
 use Rattle.code_listing.specs.Listing.{Listing, jump_code}
 use Rattle.code_listing.specs.Program.{function_table, procedures_code, procedures_of, program_code}
 use Rattle.code_listing.specs.Statement.{Exits, for_test_code, stmt_code}
 use Rattle.gen_stmt.specs.Inside.Procedures.{of_function, of_handler}
-use Rattle.code_size.specs.Rows.{functions_size}
-use Rattle.gen_stmt.specs.Inside.Rows.{choice_code, groups_code_of, part_code_of, switch_code_of, turn_code}
-use Rattle.code_size.specs.Rows.{before_default, case_count_of, group_sizes_of, labels_of_groups, part_size_of, switch_size_of}
+use Rattle.gen_stmt.specs.Inside.Rows.{part_code_of, turn_code}
+use Rattle.code_size.specs.Rows.{functions_size, part_size_of}
 use Rattle.gen_stmt.proofs.Rows.{for_code}
 use Rattle.gen_stmt.proofs.Steps.{entries_join, procedures_join}
 
@@ -47,19 +44,6 @@ module _ (typed : Typed) (exits : Exits) (s : TStmt) (old : Listing) where
       ap (λ l. old ++ (jump ++ l)) (turn_placed test body at (k + test_size typed true true test) k (omega arith) (omega arith)) ∙
       ap (λ l. old ++ l) (sym (ap (λ s. stmt_code typed exits s (length old)) is))
 
-  -- `do`
-  pub do_emitted : (test : TExpr) (body : TStmt) (c1 c2 : Listing) → s ≡ stmt.Do body test →
-      c1 ≡ old ++ (Turn, 0) ∷ [] → length c1 ≡ length old + 1 →
-      c2 ≡ c1 ++ turn_code typed test body (length c1) → c2 ≡ old ++ stmt_code typed exits s (length old)
-  unfolding Rattle.typed_tree.specs.declared.statement.TStmt.TheBlock.hidden-the_row-TStmt-2 denote.Hole.Carrier.hidden
-  do_emitted test body c1 c2 is e1 place e2 =
-      let at : ℕ = length old + 1 in
-      let k : ℕ = at + stmt_size typed body in
-      e2 ∙ ap (λ p. c1 ++ turn_code typed test body p) place ∙ ap (λ l. l ++ turn_code typed test body at) e1 ∙
-      append_assoc old ((Turn, 0) ∷ []) (turn_code typed test body at) ∙
-      ap (λ l. old ++ ((Turn, 0) ∷ l)) (turn_placed test body at (k + test_size typed true true test) k refl (omega arith)) ∙
-      ap (λ l. old ++ l) (sym (ap (λ s. stmt_code typed exits s (length old)) is))
-
   -- `for`
   pub for_emitted : (init : Option TStmt) (test : Option TExpr) (step : Option TStmt) (body : TStmt)
       (body_at b k size : ℕ) (c0 c1 c2 c3 c4 : Listing) → s ≡ stmt.For init test step body →
@@ -84,21 +68,6 @@ module _ (typed : Typed) (exits : Exits) (s : TStmt) (old : Listing) where
   for_emitted init test step body body_at b k size c0 c1 c2 c3 c4 is at_size at_body at_k at_b e0 place0 e1 place1 e2 place2 e3 place3 e4 =
       rw (for_code typed exits s init test step body (length old) b k is at_k at_b, e4, place3, e3, place2, e2, place1, e1, place0, e0, at_body, at_size)
       (simp append_assoc)
-
--- a `switch`: what stands before its groups, and the groups
-pub switch_emitted : (typed : Typed) (exits : Exits) (on : TExpr) (groups : List TGroup) (old c1 c2 : Listing) (end : ℕ) →
-    end ≡ length old + (value_size typed on + switch_size_of typed groups) →
-    c1 ≡ old ++ choice_code typed on groups (length old) →
-    length c1 ≡ length old + (value_size typed on + (case_count_of groups +
-    (1 + jump_size (before_default (labels_of_groups groups) (group_sizes_of typed groups))))) →
-    c2 ≡ c1 ++ groups_code_of typed (record { break_at = end; continue_at = exits.continue_at }) groups (length c1) →
-    c2 ≡ old ++ (value_code typed on (length old) 0 ++ switch_code_of typed exits groups (length old + value_size typed on))
-switch_emitted typed exits on groups old c1 c2 end at_end e1 place e2 =
-    let over : ℕ = before_default (labels_of_groups groups) (group_sizes_of typed groups) in
-    let at : length c1 ≡ length old + value_size typed on + case_count_of groups + (1 + jump_size over) = omega (arith, place) in
-    let leads : end ≡ length old + value_size typed on + (case_count_of groups + (1 + (jump_size over + sum (group_sizes_of typed groups)))) =
-    omega (arith, at_end) in
-    rw (e2, at, e1, leads) (simp append_assoc)
 
 -- the code of a program
 pub program_emitted : (typed : Typed) (functions : List TFun) (handlers : List THandler) (c0 c1 c2 : Listing) →

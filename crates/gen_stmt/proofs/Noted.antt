@@ -32,6 +32,12 @@ apart n before behind inside e is = rw is (simp append_assoc)
 pub alone : (n before inside : List Extent) (e : Extent) → n ≡ before ++ (inside ++ e ∷ []) → n ≡ before ++ inside ++ e ∷ []
 alone n before inside e is = is ∙ sym (append_assoc before inside (e ∷ []))
 
+-- the notes of what is in a loop without parts, the extent of its body apart
+pub body_noted : (typed : Typed) (s body : TStmt) (n before : List Extent) → inside_notes typed s ≡ notes_of typed body →
+    n ≡ before ++ inside_notes typed s → n ≡ before ++ inside_notes typed body ++ extent_of typed body ∷ []
+body_noted typed s body n before is noted =
+    alone n before (inside_notes typed body) (extent_of typed body) (noted ∙ ap (λ l. before ++ l) is)
+
 -- the notes of what is in a `for`, part by part
 pub for_noted : (typed : Typed) (s : TStmt) (init : Option TStmt) (test : Option TExpr) (step : Option TStmt) (body : TStmt)
     (n before : List Extent) → s ≡ stmt.For init test step body → n ≡ before ++ inside_notes typed s →

@@ -1,14 +1,11 @@
 -- One step of each loop: one more item, and those behind it.
-use Rattle.std.specs.Prelude.{◌≡◌, ℕ, suc, ◌+◌, ◌<◌, ◌≤◌, Bool, true, false, not, ◌&&◌, if◌then◌else◌, ◌==◌, nat_lt, List, [], ◌∷◌, ◌++◌, length, map, sum, sum_by, drop, take, is_some, ℤ, Option, Some, None}
+use Rattle.std.specs.Prelude.{◌≡◌, ℕ, suc, ◌+◌, ◌<◌, ◌≤◌, Bool, true, false, not, ◌&&◌, if◌then◌else◌, ◌==◌, nat_lt, List, [], ◌∷◌, ◌++◌, length, map, sum, sum_by, drop, take, is_some, ℤ, Option, None}
 use Rattle.std.specs.List.{list_any}
 use Rattle.std.proofs.Common.{refl, ap, sym, ◌∙◌, arith, append_assoc, get_or, add-zero}
 use Rattle.std.proofs.lemmas.Bool.{eqb-true, le-ltb, lt-ltb}
 use Rattle.std.proofs.lemmas.List.Sums.{sum_by-cons}
-use Rattle.bytecode.specs.declared.code.Fun.{Fun}
-use Rattle.bytecode.specs.declared.code.Handler.{Handler}
 use Rattle.bytecode.specs.declared.instr.Instr.TheVariants.{Jump}
 use Rattle.typed_tree.specs.declared.program.TFun.{TFun}
-use Rattle.typed_tree.specs.declared.program.THandler.{THandler}
 use Rattle.typed_tree.specs.declared.program.Typed.{Typed}
 use Rattle.typed_tree.specs.declared.statement.TArm.{TArm}
 use Rattle.typed_tree.specs.declared.statement.TGroup.{TGroup}
@@ -18,7 +15,7 @@ use Rattle.typed_tree.specs.Size.{jump_size, one_if, procedure_size, stmt_size, 
 use Rattle.typed_tree.specs.declared.expression.TExpr.{TExpr}
 use Rattle.typed_tree.specs.Statement.{same_label}
 use Rattle.code_listing.specs.Listing.{Listing, instr_if, jump_code}
-use Rattle.code_listing.specs.Program.{Procedure, body_code, function_table, handler_table, place_behind, procedure_code, procedures_code}
+use Rattle.code_listing.specs.Program.{Procedure, body_code, function_table, place_behind, procedure_code, procedures_code}
 use Rattle.code_listing.specs.Statement.{Exits, cases_code, labels_code, stmt_code}
 use Rattle.gen_expr.proofs.Emitted.{value_some}
 use Rattle.code_size.proofs.Steps.{arms_here, drop_next, is_nil-drop, sizes_here}
@@ -110,15 +107,6 @@ arm_next typed exits arms i arm other behind c1 c2 end within is whole code long
       rw (drop_next arms i arm within is, long, code, jump.0, jump.1) (simp append_assoc),
     )
 
--- one more label
-pub labels_next : (labels : List (Option ℤ)) (i : ℕ) (label : Option ℤ) (at : ℕ) (c1 c2 : Listing) →
-    i < length labels → label ≡ get_or labels i label → c2 ≡ c1 ++ labels_code (label ∷ []) at →
-    c2 ++ labels_code (drop (i + 1) labels) at ≡ c1 ++ labels_code (drop i labels) at
-labels_next labels i None at c1 c2 within is code =
-    rw (drop_next labels i None within is, code) (simp append_assoc)
-labels_next labels i (Some n) at c1 c2 within is code =
-    rw (drop_next labels i (Some n) within is, code) (simp append_assoc)
-
 -- the cases of one more group
 pub cases_next : (typed : Typed) (groups : List TGroup) (i : ℕ) (group : TGroup) (at next : ℕ) (c1 c2 : Listing) →
     i < length groups → group ≡ get_or groups i group →
@@ -141,33 +129,6 @@ groups_next typed exits groups i group c1 c2 within is code place =
     rw (drop_next groups i group within is, last, place, code) (simp append_assoc)
 
 -- Procedures.
-
-module _ {A : Type 0} (f : A → Procedure) (typed : Typed) (xs : List A) (i : ℕ) (x : A)
-    (within : i < length xs) (is : x ≡ get_or xs i x) where
-  -- one more procedure
-  pub procedures_next : (c1 c2 : Listing) → c2 ≡ c1 ++ procedure_code typed (f x) (length c1) →
-      length c2 ≡ place_behind typed (f x) (length c1) →
-      c2 ++ procedures_code typed (map f (drop (i + 1) xs)) (length c2) ≡
-      c1 ++ procedures_code typed (map f (drop i xs)) (length c1)
-  procedures_next c1 c2 code place =
-      rw (drop_next xs i x within is, place, code) (simp append_assoc)
-
-  -- its entry
-  pub entries_next : (t1 t2 : List Fun) (place next : ℕ) → t2 ≡ t1 ++ entry_of typed (f x) place ∷ [] →
-      next ≡ place_behind typed (f x) place →
-      t2 ++ function_table typed (map f (drop (i + 1) xs)) next ≡
-      t1 ++ function_table typed (map f (drop i xs)) place
-  entries_next t1 t2 place next entry behind =
-      rw (drop_next xs i x within is, entry, behind) (simp append_assoc)
-
--- one more event procedure
-pub handlers_next : (handlers : List THandler) (i : ℕ) (handler : THandler) (h1 h2 : List Handler) (number next : ℕ) →
-    i < length handlers → handler ≡ get_or handlers i handler →
-    h2 ≡ h1 ++ record { event = handler.event; function = number; file = handler.file; line = handler.line } ∷ [] →
-    next ≡ number + 1 →
-    h2 ++ handler_table (drop (i + 1) handlers) next ≡ h1 ++ handler_table (drop i handlers) number
-handlers_next handlers i handler h1 h2 number next within is entry one =
-    rw (drop_next handlers i handler within is, entry, one) (simp append_assoc)
 
 -- functions, and other procedures behind them
 pub procedures_join : (typed : Typed) (functions : List TFun) (rest : List Procedure) (place : ℕ) →
