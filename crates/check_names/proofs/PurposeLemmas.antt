@@ -1,5 +1,5 @@
 -- What tables have of what procedures are for.
-use Rattle.std.proofs.Common.{◌≡◌, ◌<◌, ◌≤◌, ℕ, Bool, true, false, List, [], ◌∷◌, ◌++◌, ◌∙◌, ◌&&◌, ◌||◌, Option, Some, None, append_assoc, arith, refl, ap, sym, subst}
+use Rattle.std.proofs.Common.{◌≡◌, ◌<◌, ◌≤◌, ℕ, Bool, true, false, List, [], ◌∷◌, ◌++◌, ◌∙◌, ◌&&◌, ◌||◌, Option, Some, None, arith, refl, ap, sym, subst}
 use Rattle.std.specs.Prelude.{⊤, flat_map, is_some, if◌then◌else◌}
 use Rattle.std.specs.List.{AllByRecursion, list_any}
 use Rattle.std.specs.Option.{option_or}
@@ -151,13 +151,22 @@ keys_meet None (Some n) = grind (arith, nat_tests)
 keys_meet (Some m) None = grind (arith, nat_tests)
 keys_meet (Some m) (Some n) = grind (arith, nat_tests)
 
--- the numbers on channels are those on the first and those on the second
-pub numbers_as : (channels : Channels) (first second : Bool) (a : Selector) (all : List (ℕ × ℕ)) → hold_first channels ≡ first → hold_second channels ≡ second
-    → (if first then numbers_at 0 a ∷ [] else []) ++ ((if second then numbers_at 1 a ∷ [] else []) ++ all) ≡ numbers_on channels a ++ all
-numbers_as channels first second a all one other =
-    ap (λ (b : Bool). (if b then numbers_at 0 a ∷ [] else []) ++ ((if second then numbers_at 1 a ∷ [] else []) ++ all)) (sym one)
-    ∙ ap (λ (b : Bool). (if hold_first channels then numbers_at 0 a ∷ [] else []) ++ ((if b then numbers_at 1 a ∷ [] else []) ++ all)) (sym other)
-    ∙ sym (append_assoc (if hold_first channels then numbers_at 0 a ∷ [] else []) (if hold_second channels then numbers_at 1 a ∷ [] else []) all)
+-- the numbers on both channels
+pub on_both : (channels : Channels) (a : Selector) → hold_first channels ≡ true → hold_second channels ≡ true
+    → numbers_on channels a ≡ numbers_at 0 a ∷ numbers_at 1 a ∷ []
+on_both Both a one other = refl
+on_both First a one other = absurd (let e : false ≡ true = other in cc)
+on_both Second a one other = absurd (let e : false ≡ true = one in cc)
+
+-- what is known of them, where those on the second channel are added before those on the first are looked for
+pub both_known : (channels : Channels) (a : Selector) (first second : Bool) (all : List (ℕ × ℕ)) → a.high < 0x100000000
+    → hold_first channels ≡ true → hold_second channels ≡ true → second ≡ list_any (meet (numbers_at 1 a)) all
+    → first ≡ list_any (meet (numbers_at 0 a)) (numbers_at 1 a ∷ all) → (first || second) ≡ any_meet (numbers_on channels a) all
+both_known channels a first second all below one other second_is first_is =
+    ap (λ (b : Bool). b || second)
+    (first_is ∙ ap (λ (b : Bool). b || list_any (meet (numbers_at 0 a)) all) (first_and_second a a below below))
+    ∙ ap (λ (b : Bool). list_any (meet (numbers_at 0 a)) all || b) (second_is ∙ one_met (numbers_at 1 a) all)
+    ∙ ap (λ (l : List (ℕ × ℕ)). any_meet l all) (sym (on_both channels a one other))
 
 -- ---- what is told
 

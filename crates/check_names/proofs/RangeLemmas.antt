@@ -51,7 +51,7 @@ not_met ranges low high start end are there ends last (s, e, met) =
     ]
 
 -- a range is met or not as some range of the list is
-pub meets_as : (ranges : Ranges) (all : List (ℕ × ℕ)) (low high : ℕ) (met : Bool) → AreRanges ranges all → low ≤ high
+meets_as : (ranges : Ranges) (all : List (ℕ × ℕ)) (low high : ℕ) (met : Bool) → AreRanges ranges all → low ≤ high
     → (met ≡ true → IsMet ranges low high) → (met ≡ false → IsMet ranges low high → ⊥) → met ≡ list_any (meet (low, high)) all
 meets_as ranges all low high true are rises is not = sym (are.met low high rises (is refl))
 meets_as ranges all low high false are rises is not = by (list_any (meet (low, high)) all) refl
@@ -59,6 +59,20 @@ meets_as ranges all low high false are rises is not = by (list_any (meet (low, h
     by : (b : Bool) → list_any (meet (low, high)) all ≡ b → false ≡ b
     by true some = absurd (not refl (are.meets low high rises some))
     by false none = refl
+
+-- a range that is met before the first was met was met from the start
+pub known_since : (was is : Ranges × ℕ × ℕ) (known : Bool) → (known ≡ true → IsMet was.0 was.1 was.2)
+    → (known ≡ false → is ≡ was) → IsMet is.0 is.1 is.2 → IsMet was.0 was.1 was.2
+known_since was is true known same met = known refl
+known_since was is false known same met = subst (λ (now : Ranges × ℕ × ℕ). IsMet now.0 now.1 now.2) (same refl) met
+
+-- what is known of a range when nothing more is met
+pub known_as : (was is : Ranges × ℕ × ℕ) (known : Bool) (all : List (ℕ × ℕ)) → AreRanges was.0 all → was.1 ≤ was.2
+    → (known ≡ true → IsMet was.0 was.1 was.2) → (known ≡ false → is ≡ was) → (IsMet is.0 is.1 is.2 → ⊥)
+    → known ≡ list_any (meet (was.1, was.2)) all
+known_as was is known all are rises some same none =
+    meets_as was.0 all was.1 was.2 known are rises some
+    (λ not. subst (λ (now : Ranges × ℕ × ℕ). IsMet now.0 now.1 now.2 → ⊥) (same not) none)
 
 -- one more range, which may have numbers in common with those of the map
 pub with_one : (ranges : Ranges) (all : List (ℕ × ℕ)) (low high : ℕ) → AreRanges ranges all → low ≤ high

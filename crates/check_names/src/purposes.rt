@@ -1,6 +1,6 @@
 // Procedures that are for what an earlier one is for.
 
-ghost use Rattle.std.specs.Prelude.{◌≡◌, ◌≤◌, ◌++◌, ◌∷◌, [], ℕ, All, List, IfOk, OnOk, filter_map, flat_map, map};
+ghost use Rattle.std.specs.Prelude.{◌≡◌, ◌<◌, ◌≤◌, ◌++◌, ◌∷◌, [], ℕ, All, List, IfOk, OnOk, filter_map, flat_map, map};
 ghost use Rattle.std.specs.List.{list_any};
 ghost use Rattle.capl_meaning.specs.ProcedureRules.{Told, channels_of, collide, purpose_offences, told_by_head, told_by_part, told_by_selector};
 ghost use Rattle.capl_meaning.specs.StatementRules.{repeated};
@@ -177,32 +177,12 @@ impl<'p> Purposes<'p> {
         }
     }
 
-    /// Whether some procedure so far has a number in common with these keys on one channel.
-    fn meets_on(&self, channel: u8, keys: Selector) -> bool
+    /// Takes these keys on one channel, and says whether some procedure so far has a number in common with
+    /// them there.
+    fn add_on(&mut self, channel: u8, keys: Selector) -> Result<bool, NoMemory>
         requires { keys.low ≤ keys.high }
-        ensures { (all : List (ℕ × ℕ)) → AreRanges self.now.ranges all →
-            result ≡ list_any (meet (numbers_at channel keys)) all }
-    {
-        self.ranges.meets(
-            number_of(channel, keys.rank, keys.low),
-            number_of(channel, keys.rank, keys.high),
-        )
-    }
-
-    /// Whether some procedure so far has a number in common with these keys on a channel, 0 being both.
-    fn know_frames(&self, chan: u8, keys: Selector) -> bool
-        requires { keys.low ≤ keys.high }
-        ensures { (all : List (ℕ × ℕ)) → AreRanges self.now.ranges all →
-            result ≡ any_meet (numbers_on (channels_of chan) keys) all }
-    {
-        let first = holds_first(chan) && self.meets_on(0, keys);
-        let second = holds_second(chan) && self.meets_on(1, keys);
-        first || second
-    }
-
-    /// Takes these keys on one channel.
-    fn add_on(&mut self, channel: u8, keys: Selector) -> Result<(), NoMemory>
-        requires { keys.low ≤ keys.high }
+        ensures known { (all : List (ℕ × ℕ)) → AreRanges self.old.ranges all →
+            IfOk result (λ known. known ≡ list_any (meet (numbers_at channel keys)) all) }
         ensures ranges { (all : List (ℕ × ℕ)) → AreRanges self.old.ranges all →
             OnOk result (AreRanges self.new.ranges (numbers_at channel keys ∷ all)) }
         ensures timers { self.new.timers ≡ self.old.timers }
@@ -213,50 +193,46 @@ impl<'p> Purposes<'p> {
         )
     }
 
-    /// Takes these keys on a channel, 0 being both.
-    fn add_frames(&mut self, chan: u8, keys: Selector) -> Result<(), NoMemory>
-        requires { keys.low ≤ keys.high }
+    /// Takes these keys on a channel, 0 being both, and says whether some procedure so far has a number in
+    /// common with them.
+    fn add_frames(&mut self, chan: u8, keys: Selector) -> Result<bool, NoMemory>
+        requires some { keys.low ≤ keys.high }
+        requires below { keys.high < 0x100000000 }
+        ensures known { (all : List (ℕ × ℕ)) → AreRanges self.old.ranges all →
+            IfOk result (λ known. known ≡ any_meet (numbers_on (channels_of chan) keys) all) }
         ensures ranges { (all : List (ℕ × ℕ)) → AreRanges self.old.ranges all →
             OnOk result (AreRanges self.new.ranges (numbers_on (channels_of chan) keys ++ all)) }
-        ensures timers { OnOk result (self.new.timers ≡ self.old.timers) }
+        ensures timers { self.new.timers ≡ self.old.timers }
     {
-        if holds_second(chan) {
-            self.add_on(1, keys)?;
+        if !holds_second(chan) {
+            return self.add_on(0, keys);
         }
-        if holds_first(chan) {
-            self.add_on(0, keys)?;
+        if !holds_first(chan) {
+            return self.add_on(1, keys);
         }
-        Ok(())
+        let second = self.add_on(1, keys)?;
+        let first = self.add_on(0, keys)?;
+        Ok(first || second)
     }
 
-    /// Whether some procedure so far is for what this one is for. Takes time logarithmic in the
-    /// selectors and keys, and linear in the name of a timer.
-    fn know(&self, purpose: Purpose) -> bool
+    /// Takes what one more procedure is for, and says whether an earlier one is for it. Takes time
+    /// logarithmic in the selectors and keys, and linear in the name of a timer.
+    fn add(&mut self, purpose: Purpose<'p>) -> Result<bool, NoMemory>
         requires { IsOrdinary (purpose_of purpose) }
-        ensures { (earlier : List Told) → Knows self.now earlier →
-            result ≡ list_any (λ told. collide (purpose_of purpose.entry) told.purpose) earlier }
-    {
-        match purpose {
-            Purpose::Frames { chan, keys } => self.know_frames(chan, keys),
-            Purpose::Timer(name) => self.timers.number(name.bytes()).is_some(),
-            Purpose::Key(key) => self.ranges.meets(number_of_key(key), number_of_key(key)),
-        }
-    }
-
-    /// Takes what one more procedure is for.
-    fn add(&mut self, purpose: Purpose<'p>) -> Result<(), NoMemory>
-        requires { IsOrdinary (purpose_of purpose) }
-        ensures { (earlier : List Told) (told : Told) → told.purpose ≡ purpose_of purpose.entry →
+        ensures known { (earlier : List Told) → Knows self.old earlier → IfOk result (λ known.
+            known ≡ list_any (λ told. collide (purpose_of purpose.entry) told.purpose) earlier) }
+        ensures taken { (earlier : List Told) (told : Told) → told.purpose ≡ purpose_of purpose.entry →
             Knows self.old earlier → OnOk result (Knows self.new (told ∷ earlier)) }
     {
-        match purpose {
+        let known = match purpose {
             Purpose::Frames { chan, keys } => self.add_frames(chan, keys)?,
-            Purpose::Timer(name) => {
-                self.timers.note(name.bytes(), 0)?;
+            Purpose::Timer(name) => self.timers.note(name.bytes(), 0)?,
+            Purpose::Key(key) => {
+                let number = number_of_key(key);
+                self.ranges.add(number, number)?
             }
-            Purpose::Key(key) => self.ranges.add(number_of_key(key), number_of_key(key))?,
-        }
-        Ok(())
+        };
+        Ok(known)
     }
 }
 
@@ -273,9 +249,8 @@ fn note_collisions<'p>(
 {
     let mut purposes = Purposes::new(alloc, seed);
     for telling in tellings {
-        let known = purposes.know(telling.purpose);
+        let known = purposes.add(telling.purpose)?;
         note_where(known, telling.file, telling.token, SAME_PURPOSE, first);
-        purposes.add(telling.purpose)?;
     }
     Ok(())
 }

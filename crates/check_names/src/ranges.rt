@@ -1,6 +1,6 @@
 // Ranges of numbers, to find those that have a number in common.
 
-ghost use Rattle.std.specs.Prelude.{◌≡◌, ◌≤◌, ℕ, List, [], ◌∷◌, IfSome, None, OnOk};
+ghost use Rattle.std.specs.Prelude.{◌≡◌, ◌≤◌, ℕ, List, [], ◌∷◌, IfOk, IfSome, None, OnOk};
 ghost use Rattle.std.specs.List.{list_any};
 ghost use Rattle.check_names.specs.Inside.Ranges.{AreApart, AreRanges, IsMet, IsMetBy, meet};
 
@@ -39,29 +39,25 @@ impl Ranges {
         Some((*start, *end))
     }
 
-    /// Whether a range has a number in common with one of those so far. Takes time logarithmic in them.
-    pub(crate) fn meets(&self, low: u64, high: u64) -> bool
+    /// Takes one more range, makes one of those with which it has numbers in common, and says whether there
+    /// were some. Takes time logarithmic in the ranges so far, for itself and for each that it ends.
+    pub(crate) fn add(&mut self, low: u64, high: u64) -> Result<bool, NoMemory>
         requires { low ≤ high }
-        ensures { (all : List (ℕ × ℕ)) → AreRanges self.now all → result ≡ list_any (meet (low, high)) all }
-    {
-        self.met(low, high).is_some()
-    }
-
-    /// Takes one more range, and makes one of those with which it has numbers in common. Takes time
-    /// logarithmic in the ranges so far, for itself and for each that it ends.
-    pub(crate) fn add(&mut self, low: u64, high: u64) -> Result<(), NoMemory>
-        requires { low ≤ high }
-        ensures { (all : List (ℕ × ℕ)) → AreRanges self.old all →
+        ensures known { (all : List (ℕ × ℕ)) → AreRanges self.old all →
+            IfOk result (λ known. known ≡ list_any (meet (low, high)) all) }
+        ensures taken { (all : List (ℕ × ℕ)) → AreRanges self.old all →
             OnOk result (AreRanges self.new ((low, high) ∷ all)) }
     {
         let mut low = low;
         let mut high = high;
+        let mut known = false;
         while let Some((start, end)) = self.met(low, high) {
+            known = true;
             self.ends.remove(&start);
             low = low.min(start);
             high = high.max(end);
         }
         self.ends.insert(low, high)?;
-        Ok(())
+        Ok(known)
     }
 }

@@ -10,10 +10,10 @@ loop-telling-preserved c =
     let earlier = c.loop-telling.invariant.earlier in
     record {
       earlier = told_in item ∷ earlier;
-      knows = c.in_ok-add.ensures earlier (told_in item) refl c.loop-telling.invariant.knows;
+      knows = c.in_ok-known.ensures.taken earlier (told_in item) refl c.loop-telling.invariant.knows;
       noting =
           repeated_turn told_in same_purpose purpose_offence earlier c.args.tellings.now c.loop-telling.telling-index item
-          c.loop-telling.first c.note_where.new.first c.know-known.result c.loop-telling-test.true c.telling-item.is
-          (c.know-known.ensures earlier c.loop-telling.invariant.knows) c.note_where.ensures
+          c.loop-telling.first c.note_where.new.first c.in_ok-known.known c.loop-telling-test.true c.telling-item.is
+          (c.in_ok-known.ensures.known earlier c.loop-telling.invariant.knows) c.note_where.ensures
           ∙ c.loop-telling.invariant.noting;
     }

@@ -1,35 +1,53 @@
--- One more in its table.
-use Rattle.std.proofs.Common.{◌≡◌, ◌∙◌, ◌∷◌, ℕ, List, ap, refl, subst, sym}
+-- What its table had, and one more in it.
+use Rattle.std.proofs.Common.{◌≡◌, ◌∙◌, ◌∷◌, [], ℕ, List, ap, refl, subst, sym}
 use Rattle.std.specs.Prelude.{flat_map}
-use Rattle.capl_meaning.specs.ProcedureRules.{ForFrames, ForKey, Told, channels_of}
+use Rattle.capl_meaning.specs.ProcedureRules.{ForFrames, ForKey, Told, channels_of, collide}
 use Rattle.capl_meaning.specs.ProcedureRules as meant
-use Rattle.check_names.specs.Inside.Purpose.{IsOrdinary, number_of_key, numbers_of, purpose_of}
+use Rattle.std.specs.List.{list_any}
+use Rattle.check_names.specs.Inside.Purpose.{IsOrdinary, any_meet, numbers_of, purpose_of}
 use Rattle.check_names.specs.Inside.Ranges.{AreRanges}
-use Rattle.check_names.proofs.PurposeLemmas.{more_numbers, more_timers}
+use Rattle.check_names.proofs.PurposeLemmas.{known_numbers, more_numbers, more_timers, one_met}
 use Rattle.check_names.proofs.purposes.Purposes.add.Goals as goal
 
-pub returns-in_ok-add_frames-in-Frames : goal.returns-in_ok-add_frames-in-Frames
-returns-in_ok-add_frames-in-Frames c = λ earlier told same knows.
+pub returns-in_ok-known-in-Frames-clause-known : goal.returns-in_ok-known-in-Frames-clause-known
+returns-in_ok-known-in-Frames-clause-known c = λ earlier knows.
+    let b : meant.Purpose = ForFrames (channels_of c.in-Frames.chan) c.in-Frames.keys in
+    known_numbers c.args.self.now earlier (purpose_of c.args.purpose) b c.in_ok-known-in-Frames.known knows
+    (ap purpose_of c.in-Frames.is) c.requires tt (λ all are. c.in_ok-known-in-Frames.ensures.known all are)
+
+pub returns-in_ok-known-in-Frames-clause-taken : goal.returns-in_ok-known-in-Frames-clause-taken
+returns-in_ok-known-in-Frames-clause-taken c = λ earlier told same knows.
     let is = ap purpose_of c.in-Frames.is in
     more_numbers c.args.self.now _ earlier told (ForFrames (channels_of c.in-Frames.chan) c.in-Frames.keys) (same ∙ is) tt
     (subst IsOrdinary is c.requires) knows
-    (c.in_ok-add_frames-in-Frames.ensures.ranges (flat_map (λ (t : Told). numbers_of t.purpose) earlier) knows.ranges)
-    c.in_ok-add_frames-in-Frames.ensures.timers
+    (c.in_ok-known-in-Frames.ensures.ranges (flat_map (λ (t : Told). numbers_of t.purpose) earlier) knows.ranges)
+    c.in_ok-known-in-Frames.ensures.timers
 
-pub returns-in_ok-add-in-Key : goal.returns-in_ok-add-in-Key
-returns-in_ok-add-in-Key c = λ earlier told same knows.
-    let low = c.number_of_key.result in
-    let high = c.number_of_key-in-Key.result in
-    let key = c.in-Key.key in
+pub returns-in_ok-known-in-Key-clause-known : goal.returns-in_ok-known-in-Key-clause-known
+returns-in_ok-known-in-Key-clause-known c = λ earlier knows.
+    let number = c.number_of_key-number.result in
+    known_numbers c.args.self.now earlier (purpose_of c.args.purpose) (ForKey c.in-Key.key) c.in_ok-known-in-Key.known knows
+    (ap purpose_of c.in-Key.is) c.requires tt
+    (λ all are. c.in_ok-known-in-Key.ensures.known all are ∙ one_met (number, number) all
+    ∙ ap (λ (n : ℕ). any_meet ((n, n) ∷ []) all) c.number_of_key-number.ensures)
+
+pub returns-in_ok-known-in-Key-clause-taken : goal.returns-in_ok-known-in-Key-clause-taken
+returns-in_ok-known-in-Key-clause-taken c = λ earlier told same knows.
     let is = ap purpose_of c.in-Key.is in
-    let numbers : (low, high) ≡ (number_of_key key, number_of_key key) =
-    ap (λ (n : ℕ). (n, high)) c.number_of_key.ensures ∙ ap (λ (n : ℕ). (number_of_key key, n)) c.number_of_key-in-Key.ensures in
     let rest = flat_map (λ (t : Told). numbers_of t.purpose) earlier in
-    more_numbers c.args.self.now _ earlier told (ForKey key) (same ∙ is) tt (subst IsOrdinary is c.requires) knows
-    (subst (λ (n : ℕ × ℕ). AreRanges c.add.new.self (n ∷ rest)) numbers (c.in_ok-add-in-Key.ensures rest knows.ranges)) refl
+    more_numbers c.args.self.now _ earlier told (ForKey c.in-Key.key) (same ∙ is) tt (subst IsOrdinary is c.requires) knows
+    (subst (λ (n : ℕ). AreRanges c.add.new.self ((n, n) ∷ rest)) c.number_of_key-number.ensures
+    (c.in_ok-known-in-Key.ensures.taken rest knows.ranges)) refl
 
-pub returns-in_ok-note-in-Timer : goal.returns-in_ok-note-in-Timer
-returns-in_ok-note-in-Timer c = λ earlier told same knows.
+pub returns-in_ok-known-in-Timer-clause-known : goal.returns-in_ok-known-in-Timer-clause-known
+returns-in_ok-known-in-Timer-clause-known c = λ earlier knows.
+    let timer : purpose_of c.args.purpose ≡ meant.ForTimer c.bytes.result.now =
+    ap purpose_of c.in-Timer.is ∙ ap (λ (n : List ℕ). meant.ForTimer n) (sym c.bytes.ensures) in
+    c.in_ok-known-in-Timer.ensures.known ∙ knows.timers c.bytes.result.now
+    ∙ ap (λ (p : meant.Purpose). list_any (λ (t : Told). collide p t.purpose) earlier) (sym timer)
+
+pub returns-in_ok-known-in-Timer-clause-taken : goal.returns-in_ok-known-in-Timer-clause-taken
+returns-in_ok-known-in-Timer-clause-taken c = λ earlier told same knows.
     let timer : told.purpose ≡ meant.ForTimer c.bytes.result.now =
     same ∙ ap purpose_of c.in-Timer.is ∙ ap (λ (n : List ℕ). meant.ForTimer n) (sym c.bytes.ensures) in
-    more_timers c.args.self.now _ earlier told c.bytes.result.now timer knows refl (λ other. c.in_ok-note-in-Timer.ensures.noted other)
+    more_timers c.args.self.now _ earlier told c.bytes.result.now timer knows refl (λ other. c.in_ok-known-in-Timer.ensures.noted other)
