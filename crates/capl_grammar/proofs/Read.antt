@@ -1,4 +1,5 @@
--- How a part is read off pieces: its tokens stand at the front, and what it has to be holds.
+-- What follows where tokens say the pieces of a part: they begin with its spelling, and it is well formed and
+-- in its place.
 use Rattle.std.proofs.Common.{◌≡◌, ◌≢◌, ℕ, suc, ◌+◌, Bool, true, false, List, [], ◌∷◌, length, refl, ap, subst, ◌∙◌, arith}
 use Rattle.std.specs.Prelude.{⊤, nat_lt}
 use Rattle.std.specs.List.{All}
@@ -15,7 +16,8 @@ use Rattle.capl_grammar.specs.Piece.{Piece, Token, At, When, Spells}
 use Rattle.capl_grammar.specs.Expression.{further, separated}
 use Rattle.capl_grammar.specs.File.{each, braced}
 
--- the tokens are those of a part before a rest, where it holds, and the rest is what pieces behind it say
+-- the tokens are the spelling of a part before a rest, of which this holds, and the rest is what the pieces
+-- behind say
 pub record Apart (total : ℕ) (w : List Tok → List Tok) (Holds : List Tok → Type 0) (behind : List Piece)
     (tokens : List Tok) : Type 0 where
   pub rest : List Tok

@@ -17,7 +17,7 @@ use Rattle.capl_tree.specs.Grammar.{choice_level, IsValue, IsInitialItem, IsInit
 use Rattle.capl_tree.specs.Spelling as spelled
 use Rattle.capl_tree.specs.Spelling.{kind_word}
 use Rattle.capl_tree.specs.Placed.{IsPlaced, IsItemPlaced, IsInitialiserPlaced, IsSizePlaced, IsFirstPlaced, IsDeclaratorPlaced, IsTypePlaced, IsDeclarationPlaced}
-use Rattle.capl_grammar.specs.Expression.{value, item, initialiser, size_part, first_part, declarator, declared_type, declaration}
+use Rattle.capl_grammar.specs.Expression.{value, item, initialiser, size_part, initialiser_part, declarator, declared_type, declaration}
 use Rattle.capl_grammar.proofs.Read.{IsRead, ItemRead, nothing, token, only, both, became, placed, asked, some_items, separated_read}
 use Rattle.capl_grammar.proofs.ReadExpression.{expression_read, field_read}
 
@@ -62,7 +62,7 @@ size_read total (Some size) =
     (λ rest h. (of_some IsValue size h.0.0, h.0.1))
 
 first_read : (total : ℕ) (init : Option Init)
-    → IsRead total (first_part init) (spelled.first_part init)
+    → IsRead total (initialiser_part init) (spelled.first_part init)
     (λ rest. ForSome init IsInitialiser × IsFirstPlaced total init rest)
 first_read total None = became nothing (λ rest h. (of_none IsInitialiser, tt))
 first_read total (Some init) =

@@ -19,8 +19,8 @@ use Rattle.capl_tree.specs.Grammar.{operator_level, assignment_level, choice_lev
 use Rattle.capl_tree.specs.Spelling as spelled
 use Rattle.capl_tree.specs.Spelling.{kind_word, prefix_sign, postfix_sign, operator_sign, assignment_sign}
 use Rattle.capl_tree.specs.Placed.{IsPlaced, IsFieldPlaced, ArePlaced}
-use Rattle.capl_grammar.specs.Piece.{Piece, signed}
-use Rattle.capl_grammar.specs.Expression.{sign_of_assignment, needed, expression, field, arguments, further_arguments}
+use Rattle.capl_grammar.specs.Piece.{Piece, a_sign}
+use Rattle.capl_grammar.specs.Expression.{assignment, expression, field, arguments, further_arguments}
 use Rattle.capl_grammar.proofs.Read.{IsRead, nothing, token, only, both, became, placed, asked, never}
 
 -- what is to be shown of an expression
@@ -55,7 +55,7 @@ operator_bound op.Rem = omega arith
 -- the sign of an operator that has one with `=`
 compound_read : {total : ℕ} {pieces : List Piece → List Piece} {w : List Tok → List Tok}
     {Holds : List Tok → Type 0} (found : Sign) (of : BinOp) → IsCompound of → IsRead total pieces w Holds
-    → IsRead total (λ behind. signed found ∷ pieces behind) (λ rest. tok.Sign found ∷ w rest)
+    → IsRead total (λ behind. a_sign found ∷ pieces behind) (λ rest. tok.Sign found ∷ w rest)
     (λ rest. ForSome (Some of) IsCompound × Holds rest)
 compound_read found of compound part =
     became (token (tok.Sign found) part) (λ rest h. (some_compound of compound, h))
@@ -63,7 +63,7 @@ compound_read found of compound part =
 -- the sign of an assignment
 sign_read : {total : ℕ} {pieces : List Piece → List Piece} {w : List Tok → List Tok}
     {Holds : List Tok → Type 0} (operator : Option BinOp) → IsRead total pieces w Holds
-    → IsRead total (λ behind. needed (sign_of_assignment operator) (pieces behind))
+    → IsRead total (λ behind. assignment operator (pieces behind))
     (λ rest. tok.Sign (assignment_sign operator) ∷ w rest) (λ rest. ForSome operator IsCompound × Holds rest)
 sign_read None part = became (token (tok.Sign sign.Assign) part) (λ rest h. (λ of is. absurd cc, h))
 sign_read (Some op.Or) part = compound_read sign.BarAssign op.Or tt part

@@ -30,9 +30,9 @@ use Rattle.capl_tree.specs.FileSpelling as spelled_file
 use Rattle.capl_tree.specs.FileSpelling.{Voids}
 use Rattle.capl_tree.specs.FilePlaced.{IsPartPlaced, IsStatementPlaced, IsSelectionPlaced, IsSelectorPlaced, IsParameterPlaced, IsHeadPlaced, IsProcedurePlaced, IsTopItemPlaced}
 use Rattle.capl_tree.specs.Tree.{AreInPlace, IsTreeOf}
-use Rattle.capl_grammar.specs.Piece.{Piece, Token, At, signed, named, Spells}
+use Rattle.capl_grammar.specs.Piece.{Piece, Token, At, Spells}
 use Rattle.capl_grammar.specs.Expression.{declaration}
-use Rattle.capl_grammar.specs.File.{each, body_part, numeral, range_end, selection, channel, selector, key, parameter, gives, parameters, procedure_head, procedure, included, top_item, IsSourceOf}
+use Rattle.capl_grammar.specs.File.{each, body_part, numeral, range_end, selection, channel, selector, key, parameter, gives, parameters, signature, procedure_head, procedure, included, top_item, IsSourceOf}
 use Rattle.capl_grammar.proofs.Read.{Apart, IsRead, ItemRead, nothing, token, only, both, became, placed, asked, never, some_items, separated_read, braced_read}
 use Rattle.capl_grammar.proofs.ReadExpression.{any_read}
 use Rattle.capl_grammar.proofs.ReadDeclaration.{of_some, of_none, declaration_read}
@@ -198,11 +198,6 @@ parameters_read total (first ∷ others) =
     (separated_read total parameter spelled_file.parameter (λ p. ⊤) (IsParameterPlaced total)
     (parameter_read total) (first ∷ others))
     (λ rest h. h.1))
-
--- the pieces of a name of a function and its parameters between parentheses
-abbrev signature : Text → List Param → ℕ → List Piece → List Piece
-signature name params at rest =
-    At at ∷ named name ∷ signed sign.OpenParen ∷ parameters params (signed sign.CloseParen ∷ rest)
 
 signature_read : (total : ℕ) (name : Text) (params : List Param) (at : ℕ)
     → IsChosen total (signature name params at) (spelled_file.signature name params)

@@ -14,13 +14,13 @@ use Rattle.capl_tree.specs.Forms as form
 use Rattle.capl_tree.specs.Grammar.{IsExpression, IsValue, IsOptional, IsLabel, AreLabels, takes_else, IsNoIf, HasStatement, IsStatement, AreStatements, AreArms, IsElse, AreGroups, IsBodyPart}
 use Rattle.capl_tree.specs.FileSpelling as spelled_file
 use Rattle.capl_tree.specs.FilePlaced.{IsPartPlaced, IsLabelPlaced, IsStatementPlaced, AreStatementsPlaced, AreArmsPlaced, IsElsePlaced, AreGroupsPlaced}
-use Rattle.capl_grammar.specs.File.{part, label_part, label, is_if, has_statement, has_no_group, statement, statements, first_arm, further_arms, last_else, label_groups, body_part}
+use Rattle.capl_grammar.specs.File.{optional, label_part, label, is_if, has_statement, has_no_group, statement, statements, first_arm, further_arms, last_else, label_groups, body_part}
 use Rattle.capl_grammar.proofs.Read.{IsRead, ItemRead, nothing, token, only, both, became, placed, asked, never, some_items, each_read}
 use Rattle.capl_grammar.proofs.ReadExpression.{any_read}
 use Rattle.capl_grammar.proofs.ReadDeclaration.{of_some, of_none, value_read, declaration_read}
 
 part_read : (total : ℕ) (given : Option Expr)
-    → IsRead total (part given) (spelled_file.part given)
+    → IsRead total (optional given) (spelled_file.part given)
     (λ rest. IsOptional given × IsPartPlaced total given rest)
 part_read total None = became nothing (λ rest h. (of_none IsExpression, tt))
 part_read total (Some e) = became (any_read total e) (λ rest h. (of_some IsExpression e h.0, h.1))

@@ -15,7 +15,7 @@ use Rattle.capl_tree.specs.Spelling as spelled
 use Rattle.capl_tree.specs.Placed.{IsAt, EachBefore}
 use Rattle.capl_tree.specs.FileSpelling as spelled_file
 use Rattle.capl_tree.specs.FilePlaced.{EachPlaced}
-use Rattle.capl_grammar.specs.Piece.{Piece, Token, Void, At, When, Spells}
+use Rattle.capl_grammar.specs.Piece.{Piece, Token, VoidOrNothing, At, When, Spells}
 use Rattle.capl_grammar.specs.Expression.{further, separated, some_of}
 use Rattle.capl_grammar.specs.File.{each, braced}
 
@@ -37,13 +37,13 @@ place_written here written =
 
 -- `void` where it stands
 pub void_written : {total : ℕ} {rest : List Piece} {tokens : List Tok} → Written total rest tokens
-    → Written total (Void ∷ rest) (tok.Word word.Void ∷ tokens)
+    → Written total (VoidOrNothing ∷ rest) (tok.Word word.Void ∷ tokens)
 void_written {tokens} written =
     record { spells = λ number is. inr (tokens, refl, written.spells (suc number) (omega (arith, is))) }
 
 -- `void` where it does not stand
 pub no_void_written : {total : ℕ} {rest : List Piece} {tokens : List Tok} → Written total rest tokens
-    → Written total (Void ∷ rest) tokens
+    → Written total (VoidOrNothing ∷ rest) tokens
 no_void_written written = record { spells = λ number is. inl (written.spells number is) }
 
 -- a condition

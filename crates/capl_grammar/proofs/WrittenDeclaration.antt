@@ -19,7 +19,7 @@ use Rattle.capl_tree.specs.Spelling as spelled
 use Rattle.capl_tree.specs.Spelling.{kind_word}
 use Rattle.capl_tree.specs.Placed.{IsPlaced, IsItemPlaced, IsInitialiserPlaced, IsSizePlaced, IsFirstPlaced, IsDeclaratorPlaced, IsTypePlaced, IsDeclarationPlaced}
 use Rattle.capl_grammar.specs.Piece.{Piece}
-use Rattle.capl_grammar.specs.Expression.{value, item, initialiser, size_part, first_part, declarator, declared_type, declaration}
+use Rattle.capl_grammar.specs.Expression.{value, item, initialiser, size_part, initialiser_part, declarator, declared_type, declaration}
 use Rattle.capl_grammar.proofs.Written.{Written, token_written, place_written, some_written, separated_written}
 use Rattle.capl_grammar.proofs.WrittenExpression.{expression_written, field_written}
 
@@ -64,7 +64,7 @@ size_written total (Some size) behind rest well placed written =
 -- what a variable is given at first, where there is anything
 first_written : (total : ℕ) (init : Option Init) (behind : List Piece) (rest : List Tok)
     → ForSome init IsInitialiser → IsFirstPlaced total init rest → Written total behind rest
-    → Written total (first_part init behind) (spelled.first_part init rest)
+    → Written total (initialiser_part init behind) (spelled.first_part init rest)
 first_written total None behind rest well placed written = written
 first_written total (Some init) behind rest well placed written =
     token_written (tok.Sign sign.Assign)

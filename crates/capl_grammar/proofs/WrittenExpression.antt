@@ -17,7 +17,7 @@ use Rattle.capl_tree.specs.Spelling as spelled
 use Rattle.capl_tree.specs.Spelling.{kind_word, prefix_sign, postfix_sign, operator_sign, assignment_sign}
 use Rattle.capl_tree.specs.Placed.{IsPlaced, IsFieldPlaced, ArePlaced}
 use Rattle.capl_grammar.specs.Piece.{Piece}
-use Rattle.capl_grammar.specs.Expression.{needed, sign_of_assignment, expression, field, arguments, further_arguments}
+use Rattle.capl_grammar.specs.Expression.{assignment, expression, field, arguments, further_arguments}
 use Rattle.capl_grammar.proofs.Written.{Written, token_written, place_written, level_written}
 
 -- every operator binds at least as strongly as an assignment
@@ -62,7 +62,7 @@ level_some (form.Assign operator left right at) = omega arith
 -- the sign of an assignment
 sign_written : (total : ℕ) (operator : Option BinOp) (behind : List Piece) (rest : List Tok)
     → ForSome operator IsCompound → Written total behind rest
-    → Written total (needed (sign_of_assignment operator) behind) (tok.Sign (assignment_sign operator) ∷ rest)
+    → Written total (assignment operator behind) (tok.Sign (assignment_sign operator) ∷ rest)
 sign_written total None behind rest compound written = token_written (tok.Sign sign.Assign) written
 sign_written total (Some op.Or) behind rest compound written = token_written (tok.Sign sign.BarAssign) written
 sign_written total (Some op.Xor) behind rest compound written =

@@ -16,7 +16,7 @@ use Rattle.capl_tree.specs.Grammar.{assignment_level, takes_else, IsOptional, Is
 use Rattle.capl_tree.specs.FileSpelling as spelled
 use Rattle.capl_tree.specs.FilePlaced.{IsPartPlaced, IsLabelPlaced, IsStatementPlaced, AreStatementsPlaced, AreArmsPlaced, IsElsePlaced, AreGroupsPlaced}
 use Rattle.capl_grammar.specs.Piece.{Piece}
-use Rattle.capl_grammar.specs.File.{part, label_part, label, is_if, has_statement, statement, statements, first_arm, further_arms, last_else, label_groups, body_part}
+use Rattle.capl_grammar.specs.File.{optional, label_part, label, is_if, has_statement, statement, statements, first_arm, further_arms, last_else, label_groups, body_part}
 use Rattle.capl_grammar.proofs.Written.{Written, token_written, place_written, condition_written, some_written, each_written}
 use Rattle.capl_grammar.proofs.WrittenExpression.{level_some, expression_written}
 use Rattle.capl_grammar.proofs.WrittenDeclaration.{value_written, declaration_written}
@@ -24,7 +24,7 @@ use Rattle.capl_grammar.proofs.WrittenDeclaration.{value_written, declaration_wr
 -- an expression that may be missing
 part_written : (total : ℕ) (e : Option Expr) (behind : List Piece) (rest : List Tok) → IsOptional e
     → IsPartPlaced total e rest → Written total behind rest
-    → Written total (part e behind) (spelled.part e rest)
+    → Written total (optional e behind) (spelled.part e rest)
 part_written total None behind rest well placed written = written
 part_written total (Some e) behind rest well placed written =
     expression_written total assignment_level e behind rest (well e refl) (level_some e) placed written

@@ -1,8 +1,8 @@
 -- The grammar of statements, procedures and files (CAPL manual, statements and event procedures).
 --
--- Parts are written out as expressions are. An `else` belongs to the nearest `if` that has none. The place
--- of a parameter, of a timer's procedure and of a function is that of the name, that of a selector of what
--- stands behind its channel.
+-- Parts are written out as expressions are. An `else` belongs to the nearest `if` that has none. A place is
+-- that of the first token, but a parameter and the head of a timer's procedure or of a function have that of
+-- their name, and a selector that of what stands behind its channel.
 use Rattle.std.specs.Prelude.{ℕ, zero, suc, Bool, true, false, not, ◌||◌, List, [], ◌∷◌, Option, Some, None, codes}
 use Rattle.texts.specs.declared.text.Text.{Text}
 use Rattle.int_kinds.specs.declared.kinds.Kind.{Kind}
@@ -29,18 +29,18 @@ use Rattle.capl_tree.specs.declared.file.FileTree.{FileTree}
 use Rattle.capl_tree.specs.Forms as form
 use Rattle.capl_tree.specs.Grammar.{assignment_level, takes_else}
 use Rattle.capl_tree.specs.Spelling.{kind_word}
-use Rattle.capl_grammar.specs.Piece.{Piece, Token, Void, At, When, signed, worded, named, Spells}
+use Rattle.capl_grammar.specs.Piece.{Piece, Token, VoidOrNothing, At, When, a_sign, a_word, a_name, Spells}
 use Rattle.capl_grammar.specs.Expression.{expression, value, separated, some_of, declaration}
 
 -- an expression that may be missing
-abbrev pub part : Option Expr → List Piece → List Piece
-part None rest = rest
-part (Some e) rest = expression assignment_level e rest
+abbrev pub optional : Option Expr → List Piece → List Piece
+optional None rest = rest
+optional (Some e) rest = expression assignment_level e rest
 
 -- `case VALUE :` or `default :`
 abbrev pub label_part : Option Expr → List Piece → List Piece
-label_part None rest = worded word.Default ∷ signed sign.Colon ∷ rest
-label_part (Some e) rest = worded word.Case ∷ value e (signed sign.Colon ∷ rest)
+label_part None rest = a_word word.Default ∷ a_sign sign.Colon ∷ rest
+label_part (Some e) rest = a_word word.Case ∷ value e (a_sign sign.Colon ∷ rest)
 
 -- a label
 abbrev pub label : Label → List Piece → List Piece
@@ -56,7 +56,7 @@ abbrev pub is_if : Stmt → Bool
 is_if (stmt.If' shape arms other) = true
 is_if _ = false
 
--- whether the row has a statement
+-- whether the row has a declaration or a statement
 abbrev pub has_statement : {m : _} → Row_of-Stmt m → Bool
 has_statement end_of-Stmt = false
 has_statement (more_of-Stmt first others) = true
@@ -69,29 +69,29 @@ has_no_group (more_of-Group labels shape body others) = false
 abbrev mutual
   -- a statement that is no declaration
   pub statement : Stmt → List Piece → List Piece
-  statement stmt.Empty rest = signed sign.Semi ∷ rest
+  statement stmt.Empty rest = a_sign sign.Semi ∷ rest
   statement (stmt.Block' shape body) rest =
-      signed sign.OpenBrace ∷ statements body (signed sign.CloseBrace ∷ rest)
+      a_sign sign.OpenBrace ∷ statements body (a_sign sign.CloseBrace ∷ rest)
   statement (stmt.Decl declared) rest = When false ∷ rest
-  statement (stmt.Expr e) rest = expression assignment_level e (signed sign.Semi ∷ rest)
+  statement (stmt.Expr e) rest = expression assignment_level e (a_sign sign.Semi ∷ rest)
   statement (stmt.If' shape arms other) rest = first_arm arms (last_else other rest)
   statement (form.While test body) rest =
-      worded word.While ∷ signed sign.OpenParen
-      ∷ expression assignment_level test (signed sign.CloseParen ∷ statement body rest)
+      a_word word.While ∷ a_sign sign.OpenParen
+      ∷ expression assignment_level test (a_sign sign.CloseParen ∷ statement body rest)
   statement (form.Do body test) rest =
-      worded word.Do ∷ statement body (worded word.While ∷ signed sign.OpenParen
-      ∷ expression assignment_level test (signed sign.CloseParen ∷ signed sign.Semi ∷ rest))
+      a_word word.Do ∷ statement body (a_word word.While ∷ a_sign sign.OpenParen
+      ∷ expression assignment_level test (a_sign sign.CloseParen ∷ a_sign sign.Semi ∷ rest))
   statement (form.For init test step body) rest =
-      worded word.For ∷ signed sign.OpenParen
-      ∷ part init (signed sign.Semi ∷ part test (signed sign.Semi
-      ∷ part step (signed sign.CloseParen ∷ statement body rest)))
+      a_word word.For ∷ a_sign sign.OpenParen
+      ∷ optional init (a_sign sign.Semi ∷ optional test (a_sign sign.Semi
+      ∷ optional step (a_sign sign.CloseParen ∷ statement body rest)))
   statement (stmt.Switch' on shape groups) rest =
-      worded word.Switch ∷ signed sign.OpenParen
-      ∷ expression assignment_level on (signed sign.CloseParen ∷ signed sign.OpenBrace
-      ∷ label_groups groups (signed sign.CloseBrace ∷ rest))
-  statement (stmt.Break at) rest = At at ∷ worded word.Break ∷ signed sign.Semi ∷ rest
-  statement (stmt.Continue at) rest = At at ∷ worded word.Continue ∷ signed sign.Semi ∷ rest
-  statement (stmt.Return e at) rest = At at ∷ worded word.Return ∷ part e (signed sign.Semi ∷ rest)
+      a_word word.Switch ∷ a_sign sign.OpenParen
+      ∷ expression assignment_level on (a_sign sign.CloseParen ∷ a_sign sign.OpenBrace
+      ∷ label_groups groups (a_sign sign.CloseBrace ∷ rest))
+  statement (stmt.Break at) rest = At at ∷ a_word word.Break ∷ a_sign sign.Semi ∷ rest
+  statement (stmt.Continue at) rest = At at ∷ a_word word.Continue ∷ a_sign sign.Semi ∷ rest
+  statement (stmt.Return e at) rest = At at ∷ a_word word.Return ∷ optional e (a_sign sign.Semi ∷ rest)
 
   -- declarations and statements, one after another
   pub statements : {m : _} → Row_of-Stmt m → List Piece → List Piece
@@ -99,29 +99,31 @@ abbrev mutual
   statements (more_of-Stmt (stmt.Decl declared) others) rest = declaration declared (statements others rest)
   statements (more_of-Stmt first others) rest = statement first (statements others rest)
 
-  -- `if ( TEST ) BODY`, the arms behind it, and what stands behind the last one
+  -- `if ( TEST ) BODY`, the arms behind it, and what stands behind the last one, which is told whether its
+  -- body would take an `else`
   pub first_arm : {m : _} → Row_of-Arm m → (Bool → List Piece) → List Piece
   first_arm end_of-Arm behind = When false ∷ []
   first_arm (more_of-Arm test body others) behind =
-      worded word.If ∷ signed sign.OpenParen
-      ∷ expression assignment_level test (signed sign.CloseParen
+      a_word word.If ∷ a_sign sign.OpenParen
+      ∷ expression assignment_level test (a_sign sign.CloseParen
       ∷ statement body (further_arms (takes_else body) others behind))
 
-  -- arms, each `else if ( TEST ) BODY`, and whether an `else` would belong to an `if` in the statement before
+  -- arms, each `else if ( TEST ) BODY`; `taken` is whether an `if` in the body before would take an `else`
   pub further_arms : Bool → {m : _} → Row_of-Arm m → (Bool → List Piece) → List Piece
   further_arms taken end_of-Arm behind = behind taken
   further_arms taken (more_of-Arm test body others) behind =
-      When (not taken) ∷ worded word.Else ∷ worded word.If ∷ signed sign.OpenParen
-      ∷ expression assignment_level test (signed sign.CloseParen
+      When (not taken) ∷ a_word word.Else ∷ a_word word.If ∷ a_sign sign.OpenParen
+      ∷ expression assignment_level test (a_sign sign.CloseParen
       ∷ statement body (further_arms (takes_else body) others behind))
 
-  -- `else BODY`, where it stands, behind such a statement
+  -- `else BODY`, where it stands; an `if` as BODY would be a further arm
   pub last_else : Held-Stmt-If-1 → List Piece → Bool → List Piece
   last_else form.NoElse rest taken = rest
   last_else (form.Else body) rest taken =
-      When (not taken) ∷ When (not (is_if body)) ∷ worded word.Else ∷ statement body rest
+      When (not taken) ∷ When (not (is_if body)) ∷ a_word word.Else ∷ statement body rest
 
-  -- the groups of a `switch`, of which only the last may be without statements
+  -- the groups of a `switch`; only the last may be without statements, so that labels which stand together
+  -- are one group
   pub label_groups : {m : _} → Row_of-Group m → List Piece → List Piece
   label_groups end_of-Group rest = rest
   label_groups (more_of-Group labels shape body others) rest =
@@ -133,31 +135,31 @@ abbrev pub body_part : Stmt → List Piece → List Piece
 body_part (stmt.Decl declared) rest = declaration declared rest
 body_part other rest = statement other rest
 
--- what stands between braces
+-- items between braces
 abbrev pub braced : {A : Type 0} → (A → List Piece → List Piece) → List A → List Piece → List Piece
-braced one items rest = signed sign.OpenBrace ∷ each one items (signed sign.CloseBrace ∷ rest)
+braced one items rest = a_sign sign.OpenBrace ∷ each one items (a_sign sign.CloseBrace ∷ rest)
 
--- a number
+-- a number, and no other expression
 abbrev pub numeral : Expr → List Piece → List Piece
-numeral (expr.Num number ext at) rest = expression assignment_level (expr.Num number ext at) rest
+numeral (expr.Num number ext at) rest = At at ∷ Token (tok.Num number ext) ∷ rest
 numeral _ rest = When false ∷ rest
 
 -- what is behind the first number of a selector, where it is a range
 abbrev pub range_end : Option Expr → List Piece → List Piece
 range_end None rest = rest
-range_end (Some high) rest = signed sign.Minus ∷ numeral high rest
+range_end (Some high) rest = a_sign sign.Minus ∷ numeral high rest
 
--- which frames of a channel
+-- which frames, behind a channel
 abbrev pub selection : SelWhat → List Piece → List Piece
-selection (selected.Any at) rest = At at ∷ signed sign.Star ∷ rest
-selection (selected.Name name at) rest = At at ∷ named name ∷ rest
+selection (selected.Any at) rest = At at ∷ a_sign sign.Star ∷ rest
+selection (selected.Name name at) rest = At at ∷ a_name name ∷ rest
 selection (selected.Ids low high at) rest = At at ∷ numeral low (range_end high rest)
 
--- the name of one of two channels and a dot, or nothing
+-- `CAN1 .` for channel 1, `CAN2 .` for channel 2, nothing where no channel is named
 abbrev pub channel : ℕ → List Piece → List Piece
 channel zero rest = rest
-channel (suc zero) rest = named (codes "CAN1") ∷ signed sign.Dot ∷ rest
-channel (suc (suc zero)) rest = named (codes "CAN2") ∷ signed sign.Dot ∷ rest
+channel (suc zero) rest = a_name (codes "CAN1") ∷ a_sign sign.Dot ∷ rest
+channel (suc (suc zero)) rest = a_name (codes "CAN2") ∷ a_sign sign.Dot ∷ rest
 channel _ rest = When false ∷ rest
 
 -- a selector
@@ -166,36 +168,39 @@ selector s rest = channel s.chan (selection s.what rest)
 
 -- the key of a procedure, `*` being any
 abbrev pub key : Option ℕ → List Piece → List Piece
-key None rest = signed sign.Star ∷ rest
+key None rest = a_sign sign.Star ∷ rest
 key (Some pressed) rest = Token (tok.Char pressed) ∷ rest
 
 -- a parameter
 abbrev pub parameter : Param → List Piece → List Piece
-parameter p rest = worded (kind_word p.kind) ∷ At p.at ∷ named p.name ∷ rest
+parameter p rest = a_word (kind_word p.kind) ∷ At p.at ∷ a_name p.name ∷ rest
 
--- what a function gives
+-- the kind of what a function gives, or `void` or nothing
 abbrev pub gives : Option Kind → List Piece → List Piece
-gives (Some kind) rest = worded (kind_word kind) ∷ rest
-gives None rest = Void ∷ rest
+gives (Some kind) rest = a_word (kind_word kind) ∷ rest
+gives None rest = VoidOrNothing ∷ rest
 
--- the parameters of a function
+-- the parameters of a function, or `void` or nothing
 abbrev pub parameters : List Param → List Piece → List Piece
-parameters [] rest = Void ∷ rest
+parameters [] rest = VoidOrNothing ∷ rest
 parameters params rest = separated parameter params rest
+
+-- the name of a function, and its parameters between parentheses
+abbrev pub signature : Text → List Param → ℕ → List Piece → List Piece
+signature name params at rest =
+    At at ∷ a_name name ∷ a_sign sign.OpenParen ∷ parameters params (a_sign sign.CloseParen ∷ rest)
 
 -- the head of a procedure
 abbrev pub procedure_head : Head → List Piece → List Piece
-procedure_head head.PreStart rest = worded word.On ∷ named (codes "preStart") ∷ rest
-procedure_head head.Start rest = worded word.On ∷ named (codes "start") ∷ rest
-procedure_head head.Stop rest = worded word.On ∷ named (codes "stopMeasurement") ∷ rest
+procedure_head head.PreStart rest = a_word word.On ∷ a_name (codes "preStart") ∷ rest
+procedure_head head.Start rest = a_word word.On ∷ a_name (codes "start") ∷ rest
+procedure_head head.Stop rest = a_word word.On ∷ a_name (codes "stopMeasurement") ∷ rest
 procedure_head (head.Message selectors) rest =
-    worded word.On ∷ worded word.Message ∷ some_of selectors ∷ separated selector selectors rest
+    a_word word.On ∷ a_word word.Message ∷ some_of selectors ∷ separated selector selectors rest
 procedure_head (head.Timer name at) rest =
-    worded word.On ∷ worded word.Timer ∷ At at ∷ named name ∷ rest
-procedure_head (head.Key pressed) rest = worded word.On ∷ named (codes "key") ∷ key pressed rest
-procedure_head (head.Function kind name params at) rest =
-    gives kind
-    (At at ∷ named name ∷ signed sign.OpenParen ∷ parameters params (signed sign.CloseParen ∷ rest))
+    a_word word.On ∷ a_word word.Timer ∷ At at ∷ a_name name ∷ rest
+procedure_head (head.Key pressed) rest = a_word word.On ∷ a_name (codes "key") ∷ key pressed rest
+procedure_head (head.Function kind name params at) rest = gives kind (signature name params at rest)
 
 -- a procedure
 abbrev pub procedure : Proc → List Piece → List Piece
@@ -207,10 +212,10 @@ included name rest = Token (tok.Include name) ∷ rest
 
 -- a part of a file
 abbrev pub top_item : TopItem → List Piece → List Piece
-top_item (top.Includes names) rest = worded word.Includes ∷ braced included names rest
-top_item (top.Variables declarations) rest = worded word.Variables ∷ braced declaration declarations rest
+top_item (top.Includes names) rest = a_word word.Includes ∷ braced included names rest
+top_item (top.Variables declarations) rest = a_word word.Variables ∷ braced declaration declarations rest
 top_item (top.Proc p) rest = procedure p rest
 
--- the tokens spell the tree, whose parts stand where they may and where their places say
+-- the tokens are a source of the tree: what its parts are written out as, from token 0 on
 abbrev pub IsSourceOf : List Tok → FileTree → Type 0
 IsSourceOf tokens file = Spells 0 (each top_item file.items []) tokens

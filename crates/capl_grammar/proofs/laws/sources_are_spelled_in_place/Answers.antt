@@ -1,4 +1,4 @@
--- What is written is read, and what is read is written.
+-- A source is spelled in place, and what is spelled in place is a source.
 use Rattle.capl_grammar.proofs.ReadFile.{read}
 use Rattle.capl_grammar.proofs.WrittenFile.{written}
 use Rattle.capl_grammar.proofs.laws.sources_are_spelled_in_place.Goals as goal
