@@ -12,6 +12,7 @@ to what can be seen without a second implementation:
                 on standard error, at most a second of processor time (or --most, for a program without optimisation)
     again       the same bytes when run again
     refusals    all commands refuse with the same line, or none does: `check` is `ok` exactly where `run` is done
+    tokens      up to the token of an E02 a source could become a program, and with it none, whatever comes next
     parts       `run` is the lines of `window` and of `log`
     picks       with other picks the same log, profile and lines of each node
     prefix      where the output takes only some bytes: status 4, and these bytes of the answer
@@ -261,7 +262,7 @@ class Trial:
         if self.said["check"].status != 0 or is_short(self.case):
             for command in COMMANDS[1:]:
                 self.said[command] = self.run(command)
-        checks = [of_again, of_refusals, of_the_wrong_token]
+        checks = [of_again, of_refusals, of_tokens]
         if self.said["check"].status == 0 and all(it.status == 0 for it in self.said.values()) and len(self.said) > 1:
             checks += [of_parts, of_picks, of_prefix, of_reads, of_layout, of_end, of_silence, of_replay]
         faults = [f"{check.__name__[3:]}: {fault}" for check in checks for fault in check(self)]
@@ -318,7 +319,7 @@ def wrong_token(case, out):
     return name, data, sum(len(line) + 1 for line in lines) + int(match[3]) - 1
 
 
-def of_the_wrong_token(trial):
+def of_tokens(trial):
     """Up to it a source could become a program, and with it none, whatever comes next."""
     refused = trial.said["check"].out
     name, data, place = wrong_token(trial.case, refused) or (None, b"", 0)
@@ -687,6 +688,7 @@ WRONG = {
     "moments that fall": ("form", where("[ $1 = log ]", "1{h;d};$G")),
     "a text that changes with the process": ("again", where("true", "s/text/$$/")),
     "a check that is always ok": ("refusals", '[ $1 != check ] || { echo ok; exit 0; }; P "$@"'),
+    "a wrong token at the beginning of its line": ("tokens", where("true", r"s/:[0-9]* E02$/:1 E02/")),
     "a window that lacks a line": ("parts", where("[ $1 = window ]", "1d")),
     "a log that lacks its last line": ("parts", where("[ $1 = log ]", r"\$d")),
     "frames by the picks": ("picks", where('grep -q ^picks "$2"', "/^(/s/#..*/#/")),
