@@ -17,7 +17,7 @@ use Rattle.capl_lexer.specs.declared.token.Token.{Token}
 use Rattle.capl_lexer.specs.declared.token.Word.{Word}
 use Rattle.capl_lexer.specs.declared.token.Word.TheVariants as word
 use Rattle.capl_nesting.specs.Tokens.{toks}
-use Rattle.parser_laws.proofs.Whole.{only_tree}
+use Rattle.capl_parser.proofs.Whole.{only_parsed}
 use Rattle.capl_tree.specs.declared.file.FileTree.{FileTree}
 use Rattle.capl_tree.specs.declared.file.Program.{Program}
 use Rattle.capl_include.specs.declared.expanded.SourceFile.{SourceFile}
@@ -201,7 +201,7 @@ one_zip [] (x ∷ trees) others one two = absurd one
 one_zip (file ∷ files) [] others one two = absurd one
 one_zip (file ∷ files) (x ∷ trees) [] one two = absurd two
 one_zip (file ∷ files) (x ∷ trees) (y ∷ others) one two =
-    let head = only_tree (toks file.tokens) x y one.0.1 two.0.1 in
+    let head = only_parsed (toks file.tokens) x y one.0.1 two.0.1 in
     let tail = one_zip files trees others one.1 two.1 in
     (λ i. head i ∷ tail i)
 
