@@ -1,12 +1,6 @@
--- The lemmas of this crate: how the tokens of a source are taken apart, and how what is spelled in place is
--- written out.
-pub mod Read
-pub mod ReadExpression
-pub mod ReadDeclaration
-pub mod ReadStatement
-pub mod ReadFile
-pub mod Written
-pub mod WrittenExpression
-pub mod WrittenDeclaration
-pub mod WrittenStatement
-pub mod WrittenFile
+-- The lemmas of this crate: what the pieces of each part say is the part where it is spelled in place.
+pub mod Same
+pub mod SameExpression
+pub mod SameDeclaration
+pub mod SameStatement
+pub mod SameFile

@@ -7,8 +7,7 @@ use Rattle.capl_nesting.specs.Tokens.{toks}
 use Rattle.capl_tree.specs.declared.file.TopItem.{TopItem}
 use Rattle.capl_tree.specs.declared.file.FileTree.{FileTree}
 use Rattle.capl_grammar.specs.File.{IsSourceOf}
-use Rattle.capl_grammar.proofs.ReadFile.{read}
-use Rattle.capl_grammar.proofs.WrittenFile.{written}
+use Rattle.capl_grammar.proofs.SameFile.{read, written}
 use Rattle.parser_laws.specs.File.{file}
 use Rattle.parser_laws.specs.Statement.{parts_of}
 use Rattle.parser_laws.proofs.Whole.{read_tree, none_spelled, only_tree}

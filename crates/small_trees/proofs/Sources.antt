@@ -5,7 +5,7 @@ use Rattle.capl_lexer.specs.declared.token.Tok.{Tok}
 use Rattle.capl_tree.specs.declared.file.FileTree.{FileTree}
 use Rattle.capl_tree.specs.Tree.{IsTreeOf}
 use Rattle.capl_grammar.specs.File.{IsSourceOf}
-use Rattle.capl_grammar.proofs.ReadFile.{read}
+use Rattle.capl_grammar.proofs.SameFile.{read}
 
 -- each text spells its tree
 pub spelled : (texts : List (List Tok)) (files : List FileTree) → AllZip IsSourceOf texts files → AllZip IsTreeOf texts files

@@ -22,7 +22,7 @@ use Rattle.capl_tree.specs.Placed.{IsPlaced, IsDeclarationPlaced}
 use Rattle.capl_tree.specs.FilePlaced.{EachPlaced}
 use Rattle.capl_tree.specs.Tree.{IsTreeOf}
 use Rattle.capl_grammar.specs.File.{IsSourceOf}
-use Rattle.capl_grammar.proofs.WrittenFile.{written}
+use Rattle.capl_grammar.proofs.SameFile.{written}
 use Rattle.capl_tree.specs.Nesting.{deepest, goes_on, nesting}
 use Rattle.sys_vars.specs.declared.item.SysItem.{SysItem}
 use Rattle.sys_vars.specs.Name.{IsLong, timer_name, variable_name}

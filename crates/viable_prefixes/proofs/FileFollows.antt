@@ -10,8 +10,7 @@ use Rattle.capl_lexer.specs.declared.token.Sign.TheVariants as sign
 use Rattle.capl_tree.specs.declared.file.TopItem.{TopItem}
 use Rattle.capl_tree.specs.declared.file.FileTree.{FileTree}
 use Rattle.capl_grammar.specs.File.{IsSourceOf}
-use Rattle.capl_grammar.proofs.ReadFile.{read}
-use Rattle.capl_grammar.proofs.WrittenFile.{written}
+use Rattle.capl_grammar.proofs.SameFile.{read, written}
 use Rattle.capl_tree.specs.declared.file.TopItem.TheVariants as top
 use Rattle.expr_parser.specs.Reading.{Read, and_then, begins}
 use Rattle.expr_parser.specs.Operators.{kind_of}

@@ -1,6 +1,5 @@
 -- A source is spelled in place, and what is spelled in place is a source.
-use Rattle.capl_grammar.proofs.ReadFile.{read}
-use Rattle.capl_grammar.proofs.WrittenFile.{written}
+use Rattle.capl_grammar.proofs.SameFile.{read, written}
 use Rattle.capl_grammar.proofs.laws.sources_are_spelled_in_place.Goals as goal
 
 pub returns : goal.returns
