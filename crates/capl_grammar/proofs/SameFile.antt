@@ -24,7 +24,7 @@ use Rattle.capl_tree.specs.declared.file.TopItem.TheVariants as top
 use Rattle.capl_tree.specs.declared.file.FileTree.{FileTree}
 use Rattle.capl_tree.specs.Grammar.{IsNumeral, IsSelection, IsSelector, IsHead, IsProcedure, IsTopItem}
 use Rattle.capl_tree.specs.Spelling as spelled
-use Rattle.capl_tree.specs.Spelling.{kind_word}
+use Rattle.capl_tree.specs.Signs.{kind_word}
 use Rattle.capl_tree.specs.Placed.{IsAt, IsPlaced, EachBefore}
 use Rattle.capl_tree.specs.FileSpelling as spelled_file
 use Rattle.capl_tree.specs.FileSpelling.{Voids}

@@ -11,7 +11,8 @@ use Rattle.capl_tree.specs.declared.statement.Stmt.TheBlock.{Row_of-Arm, end_of-
 use Rattle.capl_tree.specs.declared.statement.Stmt.TheVariants as stmt
 use Rattle.capl_tree.specs.declared.statement.Label.{Label}
 use Rattle.capl_tree.specs.Forms as form
-use Rattle.capl_tree.specs.Grammar.{assignment_level, IsExpression, IsValue, IsOptional, IsLabel, AreLabels, takes_else, IsNoIf, HasStatement, IsStatement, AreStatements, AreArms, IsElse, AreGroups, IsBodyPart}
+use Rattle.capl_tree.specs.Binding.{assignment_level, takes_else}
+use Rattle.capl_tree.specs.Grammar.{IsExpression, IsValue, IsOptional, IsLabel, AreLabels, IsNoIf, HasStatement, IsStatement, AreStatements, AreArms, IsElse, AreGroups, IsBodyPart}
 use Rattle.capl_tree.specs.Spelling as spelled
 use Rattle.capl_tree.specs.FileSpelling as spelled_file
 use Rattle.capl_tree.specs.FilePlaced.{IsPartPlaced, IsLabelPlaced, IsStatementPlaced, AreStatementsPlaced, AreArmsPlaced, IsElsePlaced, AreGroupsPlaced}

@@ -22,8 +22,8 @@ use Rattle.capl_tree.specs.declared.declaration.Init.TheVariants.{One, Many}
 use Rattle.capl_tree.specs.declared.declaration.Item.{Item}
 use Rattle.capl_tree.specs.declared.declaration.Item.TheVariants.{Plain, Set}
 use Rattle.capl_tree.specs.Forms as form
-use Rattle.capl_tree.specs.Grammar.{operator_level, assignment_level, choice_level, binary_level, prefix_level, postfix_level}
-use Rattle.capl_tree.specs.Spelling.{kind_word, prefix_sign, postfix_sign, operator_sign}
+use Rattle.capl_tree.specs.Binding.{operator_level, assignment_level, choice_level, binary_level, prefix_level, postfix_level}
+use Rattle.capl_tree.specs.Signs.{kind_word, prefix_sign, postfix_sign, operator_sign}
 use Rattle.capl_grammar.specs.Piece.{Piece, Token, At, When, a_sign, a_word, a_name}
 
 -- the sign of an assignment; some operators have none with `=`

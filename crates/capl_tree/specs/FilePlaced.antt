@@ -1,4 +1,5 @@
--- Where each part of a file stands: its `at` is the number of its first token.
+-- Where each part of a file stands: its `at` is the number of its first token. Those of a parameter, of a
+-- function and of a timer's procedure are that of the name, and that of a selector is behind its channel.
 --
 -- The file has `total` tokens. A part is written out before the rest of the file, so that the number of its
 -- first token and the count of the tokens from there on make the total.

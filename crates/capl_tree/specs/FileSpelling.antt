@@ -26,7 +26,8 @@ use Rattle.capl_tree.specs.declared.file.TopItem.{TopItem}
 use Rattle.capl_tree.specs.declared.file.TopItem.TheVariants as top
 use Rattle.capl_tree.specs.declared.file.FileTree.{FileTree}
 use Rattle.capl_tree.specs.Forms as form
-use Rattle.capl_tree.specs.Spelling.{kind_word, expression, separated, declaration}
+use Rattle.capl_tree.specs.Signs.{kind_word}
+use Rattle.capl_tree.specs.Spelling.{expression, separated, declaration}
 
 -- an expression that may be missing
 abbrev pub part : Option Expr → List Tok → List Tok

@@ -1,8 +1,10 @@
 -- The definitions of this crate.
 pub mod Forms
 pub mod Weight
+pub mod Binding
 pub mod Grammar
 pub mod Place
+pub mod Signs
 pub mod Spelling
 pub mod Placed
 pub mod FileSpelling

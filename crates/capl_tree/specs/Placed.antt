@@ -1,4 +1,5 @@
--- Where each part of a tree stands: its `at` is the number of its first token in its file.
+-- Where each part of a tree stands: its `at` is the number of its first token in its file. That of a
+-- message's type is the number of the token behind `message`.
 --
 -- The file has `total` tokens. A part is written out before the rest of the file, so that the number of its
 -- first token and the count of the tokens from there on make the total.
@@ -19,7 +20,8 @@ use Rattle.capl_tree.specs.declared.declaration.Init.TheVariants.{One, Many}
 use Rattle.capl_tree.specs.declared.declaration.Item.{Item}
 use Rattle.capl_tree.specs.declared.declaration.Item.TheVariants.{Plain, Set}
 use Rattle.capl_tree.specs.Forms as form
-use Rattle.capl_tree.specs.Spelling.{operator_sign, prefix_sign, postfix_sign, assignment_sign, kind_word, expression, field, arguments, further_arguments, further, separated, item, initialiser, size_part, first_part, declarator, declared_type, declaration}
+use Rattle.capl_tree.specs.Signs.{operator_sign, prefix_sign, postfix_sign, assignment_sign, kind_word}
+use Rattle.capl_tree.specs.Spelling.{expression, field, arguments, further_arguments, further, separated, item, initialiser, size_part, first_part, declarator, declared_type, declaration}
 
 -- the number of the first of these tokens, the last of a file
 abbrev pub IsAt : ℕ → ℕ → List Tok → Type 0

@@ -1,9 +1,9 @@
 //! The trees of CAPL sources.
 //!
-//! A [`Program`] holds the tree of each of its files. Each `at` is the number of the first token of its
-//! part in its file. The lists and boxes of a tree are seen as lists and values, so that two trees of
-//! equal parts are one value, wherever they lie in memory. [`weight_of`] bounds the number of
-//! instructions of a program's code.
+//! A [`Program`] holds the tree of each of its files. Each `at` is the number of a token in its file: of
+//! the first one of its part, where the part says no other. The lists and boxes of a tree are seen as
+//! lists and values, so that two trees of equal parts are one value, wherever they lie in memory.
+//! [`weight_of`] bounds the number of instructions of a program's code.
 #![tactic(auto)]
 
 pub use declaration::{Decl, DeclType, Declr, Init, Item};

@@ -2,7 +2,8 @@
 use Rattle.std.specs.Prelude.{◌≡◌, ◌≤◌, ◌<◌, ℕ, List, length, Some}
 use Rattle.capl_lexer.specs.declared.token.Tok.{Tok}
 use Rattle.capl_tree.specs.declared.expr.Expr.{Expr}
-use Rattle.capl_tree.specs.Grammar.{level, prefix_level, assignment_level, IsExpression}
+use Rattle.capl_tree.specs.Binding.{level, prefix_level, assignment_level}
+use Rattle.capl_tree.specs.Grammar.{IsExpression}
 use Rattle.capl_tree.specs.Spelling as spelled
 use Rattle.capl_tree.specs.Placed.{IsPlaced}
 use Rattle.expr_parser.specs.Operators.{binding}

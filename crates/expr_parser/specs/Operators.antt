@@ -11,7 +11,7 @@ use Rattle.capl_lexer.specs.declared.token.Word.{Word}
 use Rattle.capl_lexer.specs.declared.token.Word.TheVariants as word
 use Rattle.capl_lexer.specs.declared.token.Sign.{Sign}
 use Rattle.capl_lexer.specs.declared.token.Sign.TheVariants as sign
-use Rattle.capl_tree.specs.Grammar.{assignment_level, choice_level, postfix_level, operand_level, operator_level}
+use Rattle.capl_tree.specs.Binding.{assignment_level, choice_level, postfix_level, operand_level, operator_level}
 use Rattle.expr_parser.specs.declared.operator.Operator.{Operator}
 use Rattle.expr_parser.specs.declared.operator.Operator.TheVariants as behind
 

@@ -2,7 +2,7 @@
 
 ghost use Rattle.std.specs.Prelude.{◌≡◌, ◌≤◌};
 ghost use Rattle.expr_parser.specs.Operators.{operator_of, binding_of, prefix_operator, kind_of};
-ghost use Rattle.capl_tree.specs.Grammar.{operator_level};
+ghost use Rattle.capl_tree.specs.Binding.{operator_level};
 
 use capl_lexer::{Sign, Word};
 use int_kinds::{BinOp, Kind, UnOp};

@@ -6,7 +6,8 @@ use Rattle.capl_lexer.specs.declared.token.Sign.{Sign}
 use Rattle.capl_lexer.specs.declared.token.Sign.TheVariants as sign
 use Rattle.capl_tree.specs.declared.expr.Expr.{Expr}
 use Rattle.capl_tree.specs.declared.declaration.Decl.{Decl}
-use Rattle.capl_tree.specs.Grammar.{assignment_level, choice_level, IsExpression, IsValue, IsDeclaration}
+use Rattle.capl_tree.specs.Binding.{assignment_level, choice_level}
+use Rattle.capl_tree.specs.Grammar.{IsExpression, IsValue, IsDeclaration}
 use Rattle.capl_tree.specs.Spelling.{expression, declaration}
 use Rattle.capl_tree.specs.Placed.{IsPlaced, IsDeclarationPlaced}
 use Rattle.parser_laws.specs.Statement.{Parts}

@@ -17,7 +17,8 @@ use Rattle.capl_tree.specs.declared.statement.Arm.{Arm}
 use Rattle.capl_tree.specs.declared.statement.Group.{Group}
 use Rattle.capl_tree.specs.declared.statement.Label.{Label}
 use Rattle.capl_tree.specs.Forms as form
-use Rattle.capl_tree.specs.Grammar.{IsExpression, IsOptional, IsLabel, AreLabels, takes_else, last_takes_else, IsStatement, AreStatements, AreArms, IsElse, IsNoIf, AreGroups, HasStatement, IsBodyPart, IsDeclaration}
+use Rattle.capl_tree.specs.Binding.{takes_else, last_takes_else}
+use Rattle.capl_tree.specs.Grammar.{IsExpression, IsOptional, IsLabel, AreLabels, IsStatement, AreStatements, AreArms, IsElse, IsNoIf, AreGroups, HasStatement, IsBodyPart, IsDeclaration}
 use Rattle.capl_tree.specs.Spelling.{expression, declaration}
 use Rattle.capl_tree.specs.Placed.{IsAt, IsPlaced, IsDeclarationPlaced}
 use Rattle.capl_tree.specs.FileSpelling as spell

@@ -16,7 +16,8 @@ use Rattle.capl_tree.specs.declared.declaration.Init.TheVariants.{One, Many}
 use Rattle.capl_tree.specs.declared.declaration.Item.{Item}
 use Rattle.capl_tree.specs.declared.declaration.Item.TheVariants.{Plain, Set}
 use Rattle.capl_tree.specs.Forms as form
-use Rattle.capl_tree.specs.Grammar.{choice_level, IsExpression}
+use Rattle.capl_tree.specs.Binding.{choice_level}
+use Rattle.capl_tree.specs.Grammar.{IsExpression}
 use Rattle.capl_tree.specs.Spelling.{expression, field, further, separated, item, initialiser, size_part, first_part, declarator, declared_type, declaration}
 use Rattle.capl_tree.specs.Placed.{IsPlaced}
 use Rattle.expr_parser.specs.Operators.{binding}

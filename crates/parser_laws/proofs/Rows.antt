@@ -16,7 +16,8 @@ use Rattle.capl_tree.specs.declared.statement.Arm.{Arm}
 use Rattle.capl_tree.specs.declared.statement.Group.{Group}
 use Rattle.capl_tree.specs.declared.statement.Label.{Label}
 use Rattle.capl_tree.specs.Forms as form
-use Rattle.capl_tree.specs.Grammar.{IsExpression, AreLabels, takes_else, IsStatement, AreStatements, HasStatement, AreArms, IsClosedBefore, IsElse, IsNoIf, AreGroups, IsBodyPart}
+use Rattle.capl_tree.specs.Binding.{takes_else}
+use Rattle.capl_tree.specs.Grammar.{IsExpression, AreLabels, IsStatement, AreStatements, HasStatement, AreArms, IsClosedBefore, IsElse, IsNoIf, AreGroups, IsBodyPart}
 use Rattle.capl_tree.specs.Spelling.{expression}
 use Rattle.capl_tree.specs.Placed.{IsPlaced}
 use Rattle.capl_tree.specs.FileSpelling as spell

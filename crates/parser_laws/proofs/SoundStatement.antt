@@ -18,7 +18,8 @@ use Rattle.capl_tree.specs.declared.statement.Arm.{Arm}
 use Rattle.capl_tree.specs.declared.statement.Group.{Group}
 use Rattle.capl_tree.specs.declared.statement.Label.{Label}
 use Rattle.capl_tree.specs.Forms as form
-use Rattle.capl_tree.specs.Grammar.{assignment_level, choice_level, IsExpression, IsValue, IsDeclaration, IsOptional, IsLabel, AreLabels, takes_else, IsStatement, AreArms, IsNoIf, IsBodyPart}
+use Rattle.capl_tree.specs.Binding.{assignment_level, choice_level, takes_else}
+use Rattle.capl_tree.specs.Grammar.{IsExpression, IsValue, IsDeclaration, IsOptional, IsLabel, AreLabels, IsStatement, AreArms, IsNoIf, IsBodyPart}
 use Rattle.capl_tree.specs.Spelling.{expression, declaration}
 use Rattle.capl_tree.specs.Placed.{IsAt, IsPlaced, IsDeclarationPlaced}
 use Rattle.capl_tree.specs.FileSpelling as spell

@@ -14,7 +14,7 @@ use Rattle.capl_tree.specs.declared.statement.Stmt.TheVariants as stmt
 use Rattle.capl_tree.specs.declared.statement.Arm.{Arm}
 use Rattle.capl_tree.specs.declared.statement.Group.{Group}
 use Rattle.capl_tree.specs.declared.statement.Label.{Label}
-use Rattle.capl_tree.specs.Grammar.{assignment_level, choice_level}
+use Rattle.capl_tree.specs.Binding.{assignment_level, choice_level}
 use Rattle.decl_parser.specs.Declaration.{declaration}
 use Rattle.expr_parser.specs.Expression.{expression}
 use Rattle.expr_parser.specs.Operators.{kind_at}

@@ -6,7 +6,7 @@ use Rattle.capl_lexer.specs.declared.token.Tok.TheVariants as tok
 use Rattle.capl_lexer.specs.declared.token.Word.TheVariants as word
 use Rattle.capl_lexer.specs.declared.token.Sign.TheVariants as sign
 use Rattle.capl_tree.specs.declared.declaration.Init.TheVariants.{One, Many}
-use Rattle.capl_tree.specs.Grammar.{choice_level}
+use Rattle.capl_tree.specs.Binding.{choice_level}
 use Rattle.expr_parser.specs.Operators.{kind_at, kind_of}
 use Rattle.expr_parser.specs.Reading.{and_then, begins, behind, after, items}
 use Rattle.expr_parser.specs.Expression.{expression}

@@ -11,7 +11,7 @@ use Rattle.capl_tree.specs.declared.expr.Field.{Field}
 use Rattle.capl_tree.specs.declared.expr.Field.TheVariants.{Named}
 use Rattle.capl_tree.specs.declared.declaration.Init.TheVariants.{One, Many}
 use Rattle.capl_tree.specs.declared.declaration.Item.TheVariants.{Plain, Set}
-use Rattle.capl_tree.specs.Grammar.{choice_level}
+use Rattle.capl_tree.specs.Binding.{choice_level}
 use Rattle.expr_parser.specs.Operators.{kind_at, kind_of}
 use Rattle.expr_parser.specs.Reading.{and_then, begins, behind, after, items}
 use Rattle.expr_parser.specs.Expression.{expression, field}

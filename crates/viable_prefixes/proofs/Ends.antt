@@ -12,7 +12,7 @@ use Rattle.capl_lexer.specs.declared.token.Sign.TheVariants as sign
 use Rattle.capl_lexer.specs.contracts.token.Sign as signs
 use Rattle.capl_lexer.specs.contracts.token.Word as words
 use Rattle.expr_parser.specs.Reading.{same_sign, same_word}
-use Rattle.capl_tree.specs.Grammar.{assignment_level, choice_level}
+use Rattle.capl_tree.specs.Binding.{assignment_level, choice_level}
 use Rattle.viable_prefixes.specs.declared.goal.Goal.{Goal}
 use Rattle.viable_prefixes.specs.declared.goal.Goal.TheVariants as goal
 use Rattle.viable_prefixes.specs.Inside.Stack.{Stack, when}

@@ -9,7 +9,7 @@ use Rattle.capl_lexer.specs.declared.token.Sign.TheVariants as sign
 use Rattle.capl_tree.specs.declared.expr.Expr.{Expr}
 use Rattle.capl_tree.specs.declared.expr.Expr.TheVariants as expr
 use Rattle.capl_tree.specs.declared.expr.Field.TheVariants.{Bytes}
-use Rattle.capl_tree.specs.Grammar.{assignment_level, choice_level, prefix_level, operator_level}
+use Rattle.capl_tree.specs.Binding.{assignment_level, choice_level, prefix_level, operator_level}
 use Rattle.capl_tree.specs.Place.{expression_place}
 use Rattle.expr_parser.specs.declared.operator.Operator.{Operator}
 use Rattle.expr_parser.specs.declared.operator.Operator.TheVariants as behind

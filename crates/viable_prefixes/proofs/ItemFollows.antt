@@ -15,7 +15,7 @@ use Rattle.capl_tree.specs.declared.expr.Expr.TheVariants as expr
 use Rattle.capl_tree.specs.declared.expr.Field.{Field}
 use Rattle.capl_tree.specs.declared.expr.Field.TheVariants.{Named}
 use Rattle.capl_tree.specs.declared.declaration.Item.TheVariants.{Plain, Set}
-use Rattle.capl_tree.specs.Grammar.{assignment_level, choice_level, prefix_level, operator_level}
+use Rattle.capl_tree.specs.Binding.{assignment_level, choice_level, prefix_level, operator_level}
 use Rattle.capl_tree.specs.Place.{expression_place}
 use Rattle.expr_parser.specs.declared.operator.Operator.{Operator}
 use Rattle.expr_parser.specs.declared.operator.Operator.TheVariants as behind

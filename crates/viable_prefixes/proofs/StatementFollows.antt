@@ -13,7 +13,7 @@ use Rattle.capl_tree.specs.declared.statement.Stmt.TheVariants as stmt
 use Rattle.capl_tree.specs.declared.statement.Arm.{Arm}
 use Rattle.capl_tree.specs.declared.statement.Group.{Group}
 use Rattle.capl_tree.specs.declared.statement.Label.{Label}
-use Rattle.capl_tree.specs.Grammar.{assignment_level}
+use Rattle.capl_tree.specs.Binding.{assignment_level}
 use Rattle.expr_parser.specs.Reading.{Read, and_then, begins, begins_word, behind, after, after_word}
 use Rattle.parser_laws.specs.Statement.{Parts, until, enclosed, part_before, begins_declaration, begins_label, ends_body, body_part, body, block, arm, next_arm, arms_from, choice, label, labels, group, groups, switch, while_loop, do_loop, for_loop, evaluation, jump, repeat, statement_by, statement}
 use Rattle.parser_laws.proofs.Steps.{step, by_test, moved}

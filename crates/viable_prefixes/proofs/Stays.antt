@@ -10,7 +10,7 @@ use Rattle.capl_lexer.specs.declared.token.Tok.TheVariants as tok
 use Rattle.capl_lexer.specs.declared.token.Word.TheVariants as word
 use Rattle.capl_lexer.specs.declared.token.Sign.{Sign}
 use Rattle.capl_lexer.specs.declared.token.Sign.TheVariants as sign
-use Rattle.capl_tree.specs.Grammar.{assignment_level, choice_level, prefix_level, operator_level}
+use Rattle.capl_tree.specs.Binding.{assignment_level, choice_level, prefix_level, operator_level}
 use Rattle.expr_parser.specs.declared.operator.Operator.{Operator}
 use Rattle.expr_parser.specs.declared.operator.Operator.TheVariants as behind
 use Rattle.expr_parser.specs.Operators.{prefix_operator, kind_of}

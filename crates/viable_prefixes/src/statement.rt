@@ -2,7 +2,7 @@
 
 ghost use Rattle.std.specs.Prelude.{◌≡◌, ◌∷◌, ◌++◌, Some, reverse};
 ghost use Rattle.capl_lexer.specs.declared.token.Sign.TheVariants as sign;
-ghost use Rattle.capl_tree.specs.Grammar.{assignment_level};
+ghost use Rattle.capl_tree.specs.Binding.{assignment_level};
 ghost use Rattle.viable_prefixes.specs.declared.goal.Goal.TheVariants as goal;
 ghost use Rattle.viable_prefixes.specs.Inside.Expression.{expression_from};
 ghost use Rattle.viable_prefixes.specs.Inside.Statement as spec;

@@ -3,7 +3,7 @@ use Rattle.std.specs.Prelude.{â„•, zero, suc, nat_lt, Bool, true, false, not, â—
 use Rattle.capl_lexer.specs.declared.token.Tok.{Tok}
 use Rattle.capl_lexer.specs.declared.token.Word.TheVariants as word
 use Rattle.capl_lexer.specs.declared.token.Sign.TheVariants as sign
-use Rattle.capl_tree.specs.Grammar.{assignment_level, choice_level}
+use Rattle.capl_tree.specs.Binding.{assignment_level, choice_level}
 use Rattle.expr_parser.specs.Operators.{binding_of}
 use Rattle.viable_prefixes.specs.declared.goal.Goal.{Goal}
 use Rattle.viable_prefixes.specs.declared.goal.Goal.TheVariants as goal

@@ -5,7 +5,7 @@ use Rattle.capl_lexer.specs.declared.token.Tok.TheVariants as tok
 use Rattle.capl_lexer.specs.declared.token.Word.TheVariants as word
 use Rattle.capl_lexer.specs.declared.token.Sign.{Sign}
 use Rattle.capl_lexer.specs.declared.token.Sign.TheVariants as sign
-use Rattle.capl_tree.specs.Grammar.{assignment_level, choice_level}
+use Rattle.capl_tree.specs.Binding.{assignment_level, choice_level}
 use Rattle.viable_prefixes.specs.declared.goal.Goal.TheVariants as goal
 use Rattle.viable_prefixes.specs.Inside.Token.{is_sign, is_word, kind_in}
 use Rattle.viable_prefixes.specs.Inside.Stack.{Stack}
