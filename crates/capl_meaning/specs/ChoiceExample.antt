@@ -1,9 +1,10 @@
 -- Short sources at the edges of rules, and what their definitions come to. The numbers are those of the
 -- sources' tokens.
-use Rattle.std.specs.Prelude.{ℕ, true, List, [], ◌∷◌, map, codes, Some, None}
+use Rattle.std.specs.Prelude.{ℕ, Bool, true, false, List, [], ◌∷◌, map, codes, Some, None}
 use Rattle.int_kinds.specs.declared.kinds.Kind.TheVariants.{Byte, Dword, Long}
 use Rattle.int_kinds.specs.declared.operators.BinOp.TheVariants as op
 use Rattle.int_kinds.specs.declared.operators.UnOp.TheVariants as prefix
+use Rattle.signal_codec.specs.declared.layout.Layout.{Layout}
 use Rattle.dbc_reader.specs.declared.message.DbcMessage.{DbcMessage}
 use Rattle.capl_tree.specs.declared.declaration.Decl.{Decl}
 use Rattle.capl_tree.specs.declared.declaration.DeclType.TheVariants as decl_type
@@ -175,3 +176,7 @@ constant_assigned = on_start (stmt.Decl (declares 3 (decl_type.Number Long true)
 abbrev pub number_too_great_for_a_size : Program
 number_too_great_for_a_size = file_of (top.Variables
     (declares 2 (plain Byte) (codes "a") 3 (Some (expr.Num (Some 0x20000000) true 5)) None ∷ []) ∷ [])
+
+-- a signal of so many bits from bit 0 on, signed or not
+abbrev pub of_bits : ℕ → Bool → Layout
+of_bits bits signed = record { start = 0; len = bits; big = false; signed = signed }

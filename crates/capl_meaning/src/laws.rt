@@ -1,15 +1,17 @@
 //! Laws of the definitions. Each call does nothing: its contract is the law.
 
-ghost use Rattle.std.specs.Prelude.{◌≡◌, [], ◌∷◌, List};
+ghost use Rattle.std.specs.Prelude.{◌≡◌, [], ◌∷◌, List, false, true};
 ghost use Rattle.dbc_reader.specs.declared.message.DbcMessage.{DbcMessage};
 ghost use Rattle.capl_tree.specs.declared.file.Program.{Program};
 ghost use Rattle.capl_meaning.specs.declared.offence.Offence.{Offence};
+ghost use Rattle.int_kinds.specs.declared.kinds.Kind.TheVariants as kind;
+ghost use Rattle.capl_meaning.specs.Message.{kind_of_signal};
 ghost use Rattle.capl_meaning.specs.Offences.{IsFirstOffence};
 ghost use Rattle.capl_meaning.specs.Example.{broken, argument_missing, array_as_test, break_outside, empty_array, identifier_too_great, key_twice, label_twice, member_of_number, name_twice, number_assigned, number_too_great, recursion, this_in_start, too_few_arguments, too_many_elements, unknown_message, unknown_name, value_returned, variable_as_constant};
 ghost use Rattle.std.specs.Prelude.{codes, neg_ℤ, pos, Some};
 ghost use Rattle.run_effects.specs.declared.outcome.Outcome.TheVariants.{Cut, Done, Trapped};
 ghost use Rattle.run_effects.specs.declared.outcome.TrapKind.TheVariants.{Index, ZeroDivisor};
-ghost use Rattle.capl_meaning.specs.ChoiceExample.{added_to_message, broken_with, constant_assigned, constant_of_itself, direction_assigned, equal_ends, far_recursion, inner_block, labels_that_wrap, local_beside_function, long_message, message_added, message_stepped, message_too_long, mixed_case, needed_division, number_too_great_for_a_size, one_channel_of_both, one_for_an_array, one_on_each_channel, text_assigned, text_in_parentheses, this_copied, unknown_in_size, unknown_to_message, unneeded_division, variable_in_size};
+ghost use Rattle.capl_meaning.specs.ChoiceExample.{added_to_message, broken_with, constant_assigned, constant_of_itself, direction_assigned, equal_ends, far_recursion, inner_block, labels_that_wrap, local_beside_function, long_message, message_added, message_stepped, message_too_long, mixed_case, needed_division, number_too_great_for_a_size, of_bits, one_channel_of_both, one_for_an_array, one_on_each_channel, text_assigned, text_in_parentheses, this_copied, unknown_in_size, unknown_to_message, unneeded_division, variable_in_size};
 ghost use Rattle.capl_meaning.specs.RunExample.{counts, divides_by_zero, fills, keeps_its_local, left, needs_one_side, passes_the_end, puts_signals, ran, signals_put, two_messages, wraps, wrote};
 
 /// A program has one first offence at most: two of them have the same file, token and rule number.
@@ -72,6 +74,17 @@ pub fn sources_at_the_edges()
     ensures text_in_parentheses { broken text_in_parentheses ≡ [] }
     ensures labels_that_wrap { broken labels_that_wrap ≡ (15, 20) ∷ [] }
     ensures inner_block { broken inner_block ≡ [] }
+{}
+
+/// Signals of so many bits are of these kinds.
+pub fn signals_have_these_kinds()
+    ensures unsigned_31 { kind_of_signal (of_bits 31 false) ≡ kind.Long }
+    ensures unsigned_32 { kind_of_signal (of_bits 32 false) ≡ kind.Dword }
+    ensures unsigned_33 { kind_of_signal (of_bits 33 false) ≡ kind.Int64 }
+    ensures unsigned_64 { kind_of_signal (of_bits 64 false) ≡ kind.Qword }
+    ensures signed_32 { kind_of_signal (of_bits 32 true) ≡ kind.Long }
+    ensures signed_33 { kind_of_signal (of_bits 33 true) ≡ kind.Int64 }
+    ensures signed_64 { kind_of_signal (of_bits 64 true) ≡ kind.Int64 }
 {}
 
 /// Each of these event procedures does what was worked out by hand: its lines, how many turns it takes,

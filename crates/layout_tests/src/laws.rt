@@ -5,6 +5,7 @@ fn meaning_has_laws() {
     capl_meaning::laws::one_first_offence();
     capl_meaning::laws::sources_break_their_rules();
     capl_meaning::laws::sources_at_the_edges();
+    capl_meaning::laws::signals_have_these_kinds();
     capl_meaning::laws::worked_procedures_end_so();
 }
 
