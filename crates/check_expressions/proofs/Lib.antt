@@ -1,3 +1,4 @@
 -- Lemmas of this crate.
 pub mod FormLemmas
 pub mod NotedLemmas
+pub mod PlaceLemmas
