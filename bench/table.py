@@ -46,15 +46,20 @@ def counting(count):
     return single(f"on start {{ long i; for (i = 0; i < {count}; i++) ; }}", "turns 10000000")
 
 
+def repeated(count, statement):
+    """A loop that does a statement so often, a hundred times a turn, so that its turns hardly count."""
+    return f"for (i = 0; i < {count // 100}; i++) {{ {statement * 100}}}"
+
+
 def calls(count):
     """A procedure that calls a function so often."""
     return single("long f(long x) { return x + 1; } on start { long i, s; "
-                  f"for (i = 0; i < {count}; i++) s = f(s); }}", "turns 10000000")
+                  f"{repeated(count, 's = f(s); ')} }}", "turns 10000000")
 
 
 def signals(count):
     """A procedure that sets a signal so often."""
-    return single(f"variables {{ message M m; }} on start {{ long i; for (i = 0; i < {count}; i++) m.S = i; }}",
+    return single(f"variables {{ message M m; }} on start {{ long i; {repeated(count, 'm.S = i; ')} }}",
                   "turns 10000000", "database d.dbc",
                   **{"d.dbc": 'BO_ 1 M: 8 V\n SG_ S : 3|17@1+ (1,0) [0|0] "" A\n'})
 
