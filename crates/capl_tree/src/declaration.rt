@@ -2,11 +2,11 @@
 
 use crate::expr::{Expr, Field};
 use int_kinds::Kind;
-use items::Items;
+use items::{Boxed, Items};
 use texts::Text;
 
 /// A declaration of variables of one type.
-#[derive(Debug, Drop)]
+#[derive(Drop)]
 pub struct Decl {
     /// Their type.
     pub what: DeclType,
@@ -17,7 +17,7 @@ pub struct Decl {
 }
 
 /// The type of a declaration.
-#[derive(Debug, Drop)]
+#[derive(Drop)]
 pub enum DeclType {
     /// A kind of number, behind `const` where `fixed` is true.
     Number {
@@ -44,20 +44,20 @@ pub enum DeclType {
 }
 
 /// A declared variable.
-#[derive(Debug, Drop)]
+#[derive(Drop)]
 pub struct Declr {
     /// Its name.
     pub name: Text,
     /// The name's token.
     pub at: u32,
     /// What stands between `[` and `]`, if they stand.
-    pub size: Option<Expr>,
+    pub size: Option<Boxed<Expr>>,
     /// What stands behind `=`, if it stands.
-    pub init: Option<Init>,
+    pub init: Option<Boxed<Init>>,
 }
 
 /// What a variable is given at first.
-#[derive(Debug, Drop)]
+#[derive(Drop)]
 pub enum Init {
     /// A value.
     One(Expr),
@@ -66,7 +66,7 @@ pub enum Init {
 }
 
 /// An item between the braces of an initialiser.
-#[derive(Debug, Drop)]
+#[derive(Drop)]
 pub enum Item {
     /// A value.
     Plain(Expr),

@@ -8,7 +8,7 @@ use items::{Boxed, Items};
 use texts::Text;
 
 /// An expression.
-#[derive(Debug, Drop)]
+#[derive(Drop)]
 #[cycle(expr)]
 pub enum Expr {
     /// A number as it is spelled: None where it is above 2^64 - 1. `ext` is true where an `x` marks it
@@ -103,7 +103,7 @@ pub enum Expr {
 }
 
 /// What stands behind the point of a member.
-#[derive(Debug, Drop)]
+#[derive(Drop)]
 #[cycle(expr)]
 pub enum Field {
     /// `NAME`

@@ -6,7 +6,7 @@ use items::Items;
 use texts::Text;
 
 /// A part of a file at its outermost level.
-#[derive(Debug, Drop)]
+#[derive(Drop)]
 pub enum TopItem {
     /// `includes { .. }`, by the names of the files.
     Includes(Items<Text>),
@@ -17,14 +17,14 @@ pub enum TopItem {
 }
 
 /// The tree of a file.
-#[derive(Debug, Drop)]
+#[derive(Drop)]
 pub struct FileTree {
     /// Its parts, in order.
     pub items: Items<TopItem>,
 }
 
 /// The trees of the files of a program.
-#[derive(Debug, Drop)]
+#[derive(Drop)]
 pub struct Program {
     /// The files in program order: what a file includes stands before it, and each file once.
     pub files: Items<FileTree>,

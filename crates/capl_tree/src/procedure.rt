@@ -7,7 +7,7 @@ use items::Items;
 use texts::Text;
 
 /// An event procedure or a function.
-#[derive(Debug, Drop)]
+#[derive(Drop)]
 pub struct Proc {
     /// What it is run for, or what its calls look like.
     pub head: Head,
@@ -18,7 +18,7 @@ pub struct Proc {
 }
 
 /// The head of a procedure.
-#[derive(Debug, Drop)]
+#[derive(Drop)]
 pub enum Head {
     /// `on preStart`
     PreStart,
@@ -48,7 +48,7 @@ pub enum Head {
 }
 
 /// A parameter of a function.
-#[derive(Debug, Drop)]
+#[derive(Drop)]
 pub struct Param {
     /// Its kind.
     pub kind: Kind,
@@ -59,7 +59,7 @@ pub struct Param {
 }
 
 /// Which frames a message procedure is for: `SELECTED`, `CAN1.SELECTED` or `CAN2.SELECTED`.
-#[derive(Debug, Drop)]
+#[derive(Drop)]
 pub struct Sel {
     /// The channel: 1 or 2, or 0 where none is named.
     pub chan: u8,
@@ -69,7 +69,7 @@ pub struct Sel {
 
 /// Which frames of a channel. Each `at` is the first token of this part, so that a selector with a channel
 /// begins two tokens before it.
-#[derive(Debug, Drop)]
+#[derive(Drop)]
 pub enum SelWhat {
     /// `*`
     Any {

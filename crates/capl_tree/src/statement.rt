@@ -5,7 +5,7 @@ use crate::expr::Expr;
 use items::{Boxed, Items};
 
 /// A statement.
-#[derive(Debug, Drop)]
+#[derive(Drop)]
 #[cycle(statement)]
 pub enum Stmt {
     /// `;`
@@ -60,7 +60,7 @@ pub enum Stmt {
 }
 
 /// An arm of an `if`.
-#[derive(Debug, Drop)]
+#[derive(Drop)]
 #[cycle(statement)]
 pub struct Arm {
     /// What stands between the parentheses.
@@ -70,7 +70,7 @@ pub struct Arm {
 }
 
 /// A group of a `switch`: the labels that stand together, and what stands behind them.
-#[derive(Debug, Drop)]
+#[derive(Drop)]
 #[cycle(statement)]
 pub struct Group {
     /// Its labels, at least one.
@@ -80,7 +80,7 @@ pub struct Group {
 }
 
 /// `case VALUE:`, or `default:`, which has no value.
-#[derive(Debug, Drop)]
+#[derive(Drop)]
 pub struct Label {
     /// The value of a `case`.
     pub value: Option<Expr>,

@@ -16,7 +16,7 @@ use std::alloc::Global;
 use texts::NoMemory;
 
 /// Which functions of a program call which, and an order of the functions.
-#[derive(Debug, Drop)]
+#[derive(Drop)]
 pub struct Calls {
     /// The numbers of the functions' procedures, in this order.
     order: Vec<u32>,

@@ -13,7 +13,7 @@ use texts::NoMemory;
 
 /// The components of a program's calls, each with a root, which is one of its functions, and a rank.
 /// Functions are named by their places among the functions of the program.
-#[derive(Debug, Drop)]
+#[derive(Drop)]
 pub(crate) struct Components {
     /// For each function the root of its component.
     roots: Vec<u32>,

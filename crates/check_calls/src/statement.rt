@@ -50,14 +50,14 @@ fn add_calls_in_init(names: &Names, init: &Init, into: &mut Vec<u32>) -> Result<
 /// Appends those that are called in an initialiser that may be missing.
 fn add_calls_in_start(
     names: &Names,
-    init: &Option<Init>,
+    init: &Option<Boxed<Init>>,
     into: &mut Vec<u32>,
 ) -> Result<(), NoMemory>
     ensures { OnOk result (AreAdded names.now into.new.items into.old.items
         (flat_map calls_in_init (option_to_list init.now))) }
 {
     match init {
-        Some(init) => add_calls_in_init(names, init, into),
+        Some(init) => add_calls_in_init(names, init.get(), into),
         None => Ok(()),
     }
 }
@@ -71,7 +71,7 @@ fn add_calls_in_declarator(
     ensures { OnOk result (AreAdded names.now into.new.items into.old.items
         (calls_in_declarator declarator.now)) }
 {
-    add_calls_in_part(names, &declarator.size, into)?;
+    add_calls_in_boxed(names, &declarator.size, into)?;
     add_calls_in_start(names, &declarator.init, into)?;
     Ok(())
 }

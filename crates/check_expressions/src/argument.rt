@@ -15,7 +15,7 @@ use capl_tree::Expr;
 use check_sorts::{Scope, is_bad};
 
 /// What is needed of an argument.
-#[derive(Clone, Copy, Debug)]
+#[derive(Clone, Copy)]
 pub(crate) enum Needed {
     /// An array.
     Array,

@@ -4,7 +4,7 @@ use capl_meaning::Sort;
 use capl_tree::Expr;
 
 /// An expression and its sort.
-#[derive(Clone, Copy, Debug)]
+#[derive(Clone, Copy)]
 pub(crate) struct Judged<'e> {
     /// The expression.
     pub(crate) e: &'e Expr,
@@ -13,7 +13,7 @@ pub(crate) struct Judged<'e> {
 }
 
 /// What an expression can be assigned.
-#[derive(Clone, Copy, Debug)]
+#[derive(Clone, Copy)]
 pub(crate) struct Places {
     /// Whether it is an assignable place of a number.
     pub(crate) number: bool,

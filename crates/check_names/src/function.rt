@@ -17,7 +17,7 @@ use std::alloc::Global;
 use texts::{NoMemory, Text};
 
 /// A function of a program.
-#[derive(Clone, Copy, Debug)]
+#[derive(Clone, Copy)]
 pub struct DeclaredFunction<'p> {
     /// The number of its procedure, from 1 on.
     pub number: u32,

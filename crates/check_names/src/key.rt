@@ -9,7 +9,7 @@ ghost use Rattle.std.proofs.Common.{ap};
 use std::hash::{Hash, Hasher};
 
 /// A name of the program as a key of a table. Its bytes are hashed at once, and not one by one.
-#[derive(Clone, Copy, Debug)]
+#[derive(Clone, Copy)]
 pub(crate) struct Key<'p> {
     /// The name.
     pub(crate) bytes: &'p [u8],

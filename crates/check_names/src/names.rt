@@ -35,7 +35,7 @@ use texts::NoMemory;
 
 /// What a program declares, with tables of the names. Contracts see it as the messages of its
 /// database, its variables and its functions, both in program order.
-#[derive(Debug, Drop)]
+#[derive(Drop)]
 pub struct Names<'p> {
     base: Option<&'p Database>,
     variables: Vec<Declared<'p>>,
@@ -78,7 +78,7 @@ impl<'p> Model for Names<'p> {
 }
 
 /// What the names of a program mean, and the first of what they break in it.
-#[derive(Debug, Drop)]
+#[derive(Drop)]
 pub struct Named<'p> {
     /// What they mean.
     pub names: Names<'p>,

@@ -10,7 +10,7 @@ use std::alloc::Global;
 use texts::NoMemory;
 
 /// A part of a program that declares.
-#[derive(Clone, Copy, Debug)]
+#[derive(Clone, Copy)]
 pub enum ProgramPart<'p> {
     /// Variables for all procedures.
     Globals {

@@ -24,7 +24,7 @@ use std::alloc::Global;
 use texts::{NoMemory, Text};
 
 /// What a procedure is for.
-#[derive(Clone, Copy, Debug)]
+#[derive(Clone, Copy)]
 enum Purpose<'p> {
     /// Frames of a selector, on its channel, 0 being both.
     Frames { chan: u8, keys: Selector },
@@ -35,7 +35,7 @@ enum Purpose<'p> {
 }
 
 /// What a procedure is for, and where that is told.
-#[derive(Clone, Copy, Debug)]
+#[derive(Clone, Copy)]
 struct Telling<'p> {
     /// The number of the file.
     file: u32,
@@ -46,7 +46,7 @@ struct Telling<'p> {
 }
 
 /// What the procedures so far are for.
-#[derive(Debug, Drop)]
+#[derive(Drop)]
 struct Purposes<'p> {
     /// Numbers that stand for the frames and keys.
     ranges: Ranges,

@@ -9,7 +9,7 @@ use std::collections::BTreeMap;
 use texts::NoMemory;
 
 /// Ranges of numbers, of which those with a number in common are kept as one.
-#[derive(Debug, Drop)]
+#[derive(Drop)]
 pub(crate) struct Ranges {
     /// The greatest number of each range, by its least.
     ends: BTreeMap<u64, u64>,

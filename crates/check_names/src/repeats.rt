@@ -18,7 +18,7 @@ use std::alloc::Global;
 use texts::{NoMemory, Text};
 
 /// A name that is declared, and where.
-#[derive(Clone, Copy, Debug)]
+#[derive(Clone, Copy)]
 struct NameAt<'p> {
     /// The number of the file.
     file: u32,

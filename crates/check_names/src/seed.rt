@@ -2,7 +2,6 @@
 
 use crate::function::DeclaredFunction;
 use crate::variable::Declared;
-use std::fmt::{Debug, Formatter, Result, Write};
 use std::hash::{BuildHasher, DefaultHasher, Hasher};
 
 /// The hash of a program's tables: SipHash, begun with a number that hangs on all its names. Each
@@ -39,11 +38,5 @@ impl BuildHasher for Seed {
 
     fn build_hasher(&self) -> DefaultHasher {
         self.begun
-    }
-}
-
-impl Debug for Seed {
-    fn fmt<W: Write>(&self, f: &mut Formatter<W>) -> Result {
-        f.write_str("Seed")
     }
 }

@@ -26,7 +26,7 @@ const EXTENDED: u32 = 0x8000_0000;
 const SECOND_CHANNEL: u32 = 0x4000_0000;
 
 /// A number of a selector as it is spelled.
-#[derive(Clone, Copy, Debug, PartialEq, Eq)]
+#[derive(Clone, Copy, PartialEq, Eq)]
 pub(crate) struct Spelled {
     /// Its value, if it is below 2^64.
     pub value: Option<u64>,

@@ -12,7 +12,7 @@ use std::alloc::Global;
 use texts::NoMemory;
 
 /// Names of the program with the first number that each was noted with.
-#[derive(Debug, Drop)]
+#[derive(Drop)]
 pub(crate) struct NameTable<'p> {
     numbers: IndexMap<Key<'p>, u32, Seed>,
 }

@@ -23,7 +23,7 @@ pub struct Place {
 }
 
 /// A declared variable.
-#[derive(Clone, Copy, Debug)]
+#[derive(Clone, Copy)]
 pub struct Declared<'p> {
     /// Where it is declared.
     pub place: Place,
@@ -32,7 +32,7 @@ pub struct Declared<'p> {
 }
 
 /// What declares a variable.
-#[derive(Clone, Copy, Debug)]
+#[derive(Clone, Copy)]
 pub enum Source<'p> {
     /// A declaration, of this type.
     Item {
@@ -71,7 +71,7 @@ impl<'p> Declared<'p> {
         ensures { (base : List DbcMessage) → option_copied result ≡ (variable_in base self.now).init }
     {
         match self.source {
-            Source::Item { item, .. } => item.init.as_ref(),
+            Source::Item { item, .. } => item.init.as_ref().map(|init| init.get()),
             Source::Parameter(_) => None,
         }
     }

@@ -19,7 +19,7 @@ use std::alloc::Global;
 use texts::NoMemory;
 
 /// The values of a program's const integers, and how many elements its arrays have.
-#[derive(Debug, Drop)]
+#[derive(Drop)]
 pub struct Constants {
     values: ValueTable,
     lengths: Vec<u32>,

@@ -18,7 +18,7 @@ use capl_meaning::Sort;
 use int_kinds::{BinOp, Kind, UnOp, inv, is_equal, join, neg, truth, value, wrap};
 
 /// A constant.
-#[derive(Clone, Copy, Debug)]
+#[derive(Clone, Copy)]
 pub(crate) struct Evaluated {
     /// Its sort.
     pub(crate) sort: Sort,

@@ -13,7 +13,7 @@ use dbc_reader::DbcMessage;
 use int_kinds::Kind;
 
 /// What a variable is.
-#[derive(Clone, Copy, Debug)]
+#[derive(Clone, Copy)]
 pub enum Form<'p> {
     /// A number.
     Number {
@@ -40,7 +40,7 @@ pub enum Form<'p> {
 }
 
 /// How a message variable is declared.
-#[derive(Clone, Copy, Debug)]
+#[derive(Clone, Copy)]
 pub enum MessageType<'p> {
     /// By an identifier, as it stands in its cell: bit 31 marks an extended one. It need not fit there.
     ByIdentifier(u128),
@@ -105,7 +105,7 @@ pub(crate) fn declared_form<'p>(names: &Names<'p>, declared: &Declared<'p>) -> F
     match declared.source {
         Source::Item { what, item } => match &item.size {
             None => plain_form(names, what),
-            Some(size) => sized_form(what, size),
+            Some(size) => sized_form(what, size.get()),
         },
         Source::Parameter(parameter) => Form::Number {
             kind: parameter.kind,

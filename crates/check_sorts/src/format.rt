@@ -16,7 +16,7 @@ use texts::NoMemory;
 use write_format::{Code, Conversion, Piece, next_piece};
 
 /// What is first of the codes of a text.
-#[derive(Clone, Copy, Debug)]
+#[derive(Clone, Copy)]
 pub enum NextCode<'t> {
     /// A code, and what stands behind it.
     Code(Code, &'t [u8]),

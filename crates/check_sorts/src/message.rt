@@ -21,7 +21,7 @@ use dbc_reader::{DbcMessage, DbcSignal};
 use signal_codec::{Layout, usable};
 
 /// A message that an expression names.
-#[derive(Clone, Copy, Debug)]
+#[derive(Clone, Copy)]
 pub enum Held<'p> {
     /// The frame of a message procedure.
     Frame(DeclaredSignals<'p>),

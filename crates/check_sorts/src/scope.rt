@@ -16,7 +16,7 @@ use check_names::{Declared, Names};
 use int_kinds::Kind;
 
 /// What `this` is in a procedure.
-#[derive(Clone, Copy, Debug)]
+#[derive(Clone, Copy)]
 pub enum ThisForm<'p> {
     /// Nothing.
     NoThis,
@@ -27,7 +27,7 @@ pub enum ThisForm<'p> {
 }
 
 /// Where a part of a program stands.
-#[derive(Clone, Copy, Debug)]
+#[derive(Clone, Copy)]
 pub struct Scope<'a, 'p> {
     /// What the program declares.
     pub names: &'a Names<'p>,
@@ -42,7 +42,7 @@ pub struct Scope<'a, 'p> {
 }
 
 /// A variable that a name means.
-#[derive(Clone, Copy, Debug)]
+#[derive(Clone, Copy)]
 pub struct Meaning<'p> {
     /// Its number among the variables of the program.
     pub number: u32,

@@ -3,7 +3,7 @@
 use dbc_reader::DbcMessage;
 
 /// The signals that a message has by its declaration.
-#[derive(Clone, Copy, Debug)]
+#[derive(Clone, Copy)]
 pub enum DeclaredSignals<'p> {
     /// It is not declared by name.
     Unnamed,

@@ -11,13 +11,13 @@ use texts::NoMemory;
 
 /// Values by the file and the token of the names that have them. At each place the first stays. They
 /// are kept in order and not hashed, since who writes a program chooses where its names stand.
-#[derive(Debug, Drop)]
+#[derive(Drop)]
 pub(crate) struct ValueTable {
     values: BTreeMap<(u32, u32), i128>,
 }
 
 /// The values that are known at a place.
-#[derive(Clone, Copy, Debug)]
+#[derive(Clone, Copy)]
 pub(crate) struct Known<'c> {
     /// All values.
     pub(crate) table: &'c ValueTable,

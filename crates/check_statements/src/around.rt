@@ -6,7 +6,7 @@ ghost use Rattle.check_statements.specs.Statement.{around_in};
 
 /// What a statement stands in: a loop or a `switch`, so that a `break` may stand here; a loop, so that a
 /// `continue` may.
-#[derive(Clone, Copy, Debug, PartialEq, Eq)]
+#[derive(Clone, Copy, PartialEq, Eq)]
 pub(crate) struct Around {
     /// Whether a `break` may stand here.
     pub breakable: bool,

@@ -31,7 +31,7 @@ fn judge_declarator(
     note_const(site, item.at, what, &item.init, first);
     judge_size(alloc, site, item.at, &item.size, first)?;
     if let Some(init) = &item.init {
-        judge_initialiser(alloc, site, item.at, what, &item.size, init, first)?;
+        judge_initialiser(alloc, site, item.at, what, &item.size, init.get(), first)?;
     }
     Ok(())
 }

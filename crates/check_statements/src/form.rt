@@ -17,6 +17,7 @@ use crate::site::Site;
 use capl_meaning::Offence;
 use capl_tree::{DeclType, Expr, Init};
 use check_expressions::note_broken;
+use items::Boxed;
 use std::alloc::Global;
 use texts::NoMemory;
 
@@ -43,7 +44,7 @@ pub(crate) fn note_form(
     site: &Site,
     at: u32,
     what: &DeclType,
-    size: &Option<Expr>,
+    size: &Option<Boxed<Expr>>,
     first: &mut Option<Offence>,
 )
     ensures { first.new ≡ noted first.old
@@ -58,7 +59,7 @@ pub(crate) fn note_const(
     site: &Site,
     at: u32,
     what: &DeclType,
-    init: &Option<Init>,
+    init: &Option<Boxed<Init>>,
     first: &mut Option<Offence>,
 )
     ensures { first.new ≡ noted first.old (const_rule (place_of site.now) at what.now init.now) }
@@ -83,7 +84,7 @@ pub(crate) fn judge_size(
     alloc: Global,
     site: &Site,
     at: u32,
-    size: &Option<Expr>,
+    size: &Option<Boxed<Expr>>,
     first: &mut Option<Offence>,
 ) -> Result<(), NoMemory>
     requires { IsReady site.now }
@@ -92,6 +93,7 @@ pub(crate) fn judge_size(
     let Some(size) = size else {
         return Ok(());
     };
+    let size = size.get();
     judge_constant(alloc, site, at, size, first)?;
     let broken = match site.constants.constant_at(site.scope, at, size) {
         Some(n) => !is_length(n),

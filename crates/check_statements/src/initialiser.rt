@@ -20,6 +20,7 @@ use capl_tree::{DeclType, Expr, Init, Item};
 use check_expressions::{judge, note_broken};
 use check_sorts::{DeclaredSignals, text_in};
 use int_kinds::Kind;
+use items::Boxed;
 use std::alloc::Global;
 use texts::NoMemory;
 
@@ -72,7 +73,7 @@ fn note_one(
     site: &Site,
     token: u32,
     what: &DeclType,
-    size: &Option<Expr>,
+    size: &Option<Boxed<Expr>>,
     e: &Expr,
     sort: Sort,
     first: &mut Option<Offence>,
@@ -85,7 +86,7 @@ fn note_one(
     match (what, size) {
         (DeclType::Number { .. }, None) => note_one_for_number(site, token, e, sort, first),
         (DeclType::Number { kind, .. }, Some(size)) => {
-            note_one_for_array(site, token, *kind, size, e, first);
+            note_one_for_array(site, token, *kind, size.get(), e, first);
         }
         (_, Some(_)) => {}
         (_, None) => note_broken(site.scope, true, e.place(), 27, first),
@@ -154,7 +155,7 @@ fn judge_many(
     site: &Site,
     braces: Braces,
     what: &DeclType,
-    size: &Option<Expr>,
+    size: &Option<Boxed<Expr>>,
     items: &[Item],
     first: &mut Option<Offence>,
 ) -> Result<(), NoMemory>
@@ -164,7 +165,9 @@ fn judge_many(
 {
     match (what, size) {
         (DeclType::Number { .. }, Some(size)) => {
-            let elements = site.constants.length_at(site.scope, braces.token, size);
+            let elements = site
+                .constants
+                .length_at(site.scope, braces.token, size.get());
             note_broken(
                 site.scope,
                 is_above(elements, items.len()),
@@ -198,7 +201,7 @@ pub(crate) fn judge_initialiser(
     site: &Site,
     token: u32,
     what: &DeclType,
-    size: &Option<Expr>,
+    size: &Option<Boxed<Expr>>,
     init: &Init,
     first: &mut Option<Offence>,
 ) -> Result<(), NoMemory>

@@ -23,7 +23,7 @@ use std::alloc::Global;
 use texts::NoMemory;
 
 /// Where the items of an initialiser stand.
-#[derive(Clone, Copy, Debug)]
+#[derive(Clone, Copy)]
 pub(crate) struct Braces {
     /// The token of the variable's name.
     pub token: u32,

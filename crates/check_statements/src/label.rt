@@ -20,7 +20,7 @@ use std::collections::BTreeSet;
 use texts::NoMemory;
 
 /// What a label says.
-#[derive(Clone, Copy, Debug, PartialEq, Eq)]
+#[derive(Clone, Copy, PartialEq, Eq)]
 enum Saying {
     /// `default`
     Default,
@@ -31,7 +31,7 @@ enum Saying {
 }
 
 /// What the labels so far say.
-#[derive(Debug, Drop)]
+#[derive(Drop)]
 struct Seen {
     /// The numbers.
     numbers: BTreeSet<i128>,

@@ -4,7 +4,7 @@ use check_calls::Calls;
 use check_sorts::{Constants, Scope};
 
 /// Where a part of a program stands, with the calls and the const integers of the program.
-#[derive(Clone, Copy, Debug)]
+#[derive(Clone, Copy)]
 pub(crate) struct Site<'a, 'p> {
     /// Where it stands.
     pub scope: Scope<'a, 'p>,

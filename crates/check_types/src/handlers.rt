@@ -20,7 +20,7 @@ use typed_tree::THandler;
 use write_format::Format;
 
 /// What the event procedures of a program are made by.
-#[derive(Clone, Copy, Debug)]
+#[derive(Clone, Copy)]
 pub(crate) struct Source<'s, 'p> {
     /// What the program declares.
     pub(crate) names: &'s Names<'p>,

@@ -36,22 +36,22 @@ fn turns_size(init: u64, test: u64, step: u64, body: u64) -> u64
 }
 
 /// The size of the expression of a `return`.
-fn returned_size(value: &Option<TExpr>, typed: &Typed) -> u64
+fn returned_size(value: &Option<Boxed<TExpr>>, typed: &Typed) -> u64
     ensures { result ≡ min (returned_size typed.now value.now) (2 ^ 64 - 1) }
 {
     match value {
         None => 0,
-        Some(e) => value_size(e, typed),
+        Some(e) => value_size(e.get(), typed),
     }
 }
 
 /// The size of the test of a `for`, or 2^64 - 1 where it has more.
-fn for_test_size(test: &Option<TExpr>, typed: &Typed) -> u64
+fn for_test_size(test: &Option<Boxed<TExpr>>, typed: &Typed) -> u64
     ensures { result ≡ min (for_test_size typed.now test.now) (2 ^ 64 - 1) }
 {
     match test {
         None => 2,
-        Some(e) => test_size(e, typed, true, true),
+        Some(e) => test_size(e.get(), typed, true, true),
     }
 }
 

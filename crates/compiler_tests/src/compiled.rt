@@ -34,23 +34,42 @@ fn source(alloc: Global) -> Result<Program, AllocError>
     })
 }
 
+/// The cells of that program, and what is in them at first.
+fn cells(alloc: Global) -> Result<(Vec<Kind>, Vec<(u32, i128)>), AllocError>
+    ensures kinds { IfOk result (λ cells. cells.0.items ≡ (on_start []).cells) }
+    ensures starts { IfOk result (λ cells. cells.1.items ≡ (on_start []).starts) }
+{
+    let mut kinds = MESSAGE_KINDS.to_vec(alloc)?;
+    kinds.extend_from_slice(&[Kind::Char, Kind::Byte])?;
+    let starts = vec![in alloc; (15u32, 255i128)]?;
+    Ok((kinds, starts))
+}
+
+/// An event procedure for the start with this statement.
+fn handlers(alloc: Global, statement: TStmt) -> Result<Vec<THandler>, AllocError>
+    ensures { IfOk result (λ handlers. handlers.items ≡ (on_start (statement ∷ [])).handlers) }
+{
+    let body = vec![in alloc; statement]?;
+    let handler = THandler {
+        event: Event::Start,
+        body: Items::from_list(body),
+        file: 0,
+        line: 1,
+    };
+    Ok(vec![in alloc; handler]?)
+}
+
 /// The program `byte b = 255; on start { .. }` with this statement, where cell 15 is `b`.
 fn on_start(alloc: Global, statement: TStmt) -> Result<Typed, AllocError>
     ensures { IfOk result (λ typed. typed ≡ on_start (statement ∷ [])) }
 {
-    let mut cells = MESSAGE_KINDS.to_vec(alloc)?;
-    cells.extend_from_slice(&[Kind::Char, Kind::Byte])?;
-    let handler = THandler {
-        event: Event::Start,
-        body: Items::from_list(vec![in alloc; statement]?),
-        file: 0,
-        line: 1,
-    };
+    let (kinds, starts) = cells(alloc)?;
+    let handlers = handlers(alloc, statement)?;
     Ok(Typed {
         functions: Items::new(alloc),
-        handlers: Items::from_list(vec![in alloc; handler]?),
-        cells: Items::from_list(cells),
-        starts: Items::from_list(vec![in alloc; (15u32, 255i128)]?),
+        handlers: Items::from_list(handlers),
+        cells: Items::from_list(kinds),
+        starts: Items::from_list(starts),
         timers: Items::new(alloc),
         formats: Items::new(alloc),
     })

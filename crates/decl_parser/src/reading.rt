@@ -10,7 +10,7 @@ use capl_tree::{Decl, DeclType, Declr, Expr, Field, Init, Item};
 use expr_parser::operator::kind_of;
 use expr_parser::{Cursor, Refusal, read_expression, read_field};
 use int_kinds::Kind;
-use items::Items;
+use items::{Boxed, Items};
 use texts::Text;
 
 /// A declaration up to its semicolon. `total` is the number of tokens of the file, from which the places are
@@ -120,7 +120,11 @@ fn declarator(cursor: &mut Cursor<'_>, total: u32, depth: usize) -> Result<Declr
 
 /// The number of elements, where there is one.
 #[tactic(auto, unfolding(crate::specs::Declaration::size_part, expr_parser::specs::Reading::after))]
-fn size_part(cursor: &mut Cursor<'_>, total: u32, depth: usize) -> Result<Option<Expr>, Refusal>
+fn size_part(
+    cursor: &mut Cursor<'_>,
+    total: u32,
+    depth: usize,
+) -> Result<Option<Boxed<Expr>>, Refusal>
     ensures { Gives (read.size_part total depth cursor.old) result cursor.new }
 {
     if !cursor.eat(Sign::OpenBracket) {
@@ -128,18 +132,24 @@ fn size_part(cursor: &mut Cursor<'_>, total: u32, depth: usize) -> Result<Option
     }
     let size = read_expression(cursor, total, depth, 2)?;
     cursor.expect(Sign::CloseBracket)?;
+    let size = Boxed::new(cursor.alloc(), size)?;
     Ok(Some(size))
 }
 
 /// What a variable is given at first, where there is anything.
 #[tactic(auto, unfolding(crate::specs::Declaration::first_part))]
-fn first_part(cursor: &mut Cursor<'_>, total: u32, depth: usize) -> Result<Option<Init>, Refusal>
+fn first_part(
+    cursor: &mut Cursor<'_>,
+    total: u32,
+    depth: usize,
+) -> Result<Option<Boxed<Init>>, Refusal>
     ensures { Gives (read.first_part total depth cursor.old) result cursor.new }
 {
     if !cursor.eat(Sign::Assign) {
         return Ok(None);
     }
     let init = initialiser(cursor, total, depth)?;
+    let init = Boxed::new(cursor.alloc(), init)?;
     Ok(Some(init))
 }
 

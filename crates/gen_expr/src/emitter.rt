@@ -13,7 +13,7 @@ use texts::NoMemory;
 /// stack when it is reached.
 ///
 /// Contracts see it as its listing.
-#[derive(Debug, Drop)]
+#[derive(Drop)]
 pub struct Emitter {
     instrs: Vec<Instr>,
     depths: Vec<u32>,

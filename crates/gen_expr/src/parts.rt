@@ -236,7 +236,7 @@ pub(crate) fn add_update(
 }
 
 /// The operator of an update.
-#[derive(Clone, Copy, Debug)]
+#[derive(Clone, Copy)]
 pub(crate) struct Update {
     /// The operator.
     pub op: BinOp,
@@ -247,7 +247,7 @@ pub(crate) struct Update {
 }
 
 /// How 1 is added to a place, or taken from it.
-#[derive(Clone, Copy, Debug)]
+#[derive(Clone, Copy)]
 pub(crate) struct Bump {
     /// The kind in which this is done.
     pub kind: Kind,

@@ -1,7 +1,7 @@
 // Where `break` and `continue` lead.
 
 /// The places to which `break` and `continue` lead.
-#[derive(Clone, Copy, Debug)]
+#[derive(Clone, Copy)]
 pub(crate) struct Exits {
     /// The place of a `break`.
     pub break_at: u32,

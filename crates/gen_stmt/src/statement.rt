@@ -26,7 +26,11 @@ use texts::NoMemory;
 use typed_tree::{TArm, TExpr, TGroup, TStmt, Typed};
 
 /// Appends a `return`.
-fn emit_return(value: &Option<TExpr>, typed: &Typed, into: &mut Emitter) -> Result<(), NoMemory>
+fn emit_return(
+    value: &Option<Boxed<TExpr>>,
+    typed: &Typed,
+    into: &mut Emitter,
+) -> Result<(), NoMemory>
     requires fields { OptionHasFieldCells value.now }
     requires room { length into.old + (returned_size typed.now value.now + 1) < 2 ^ 32 }
     ensures grows { OnOk result
@@ -39,7 +43,7 @@ fn emit_return(value: &Option<TExpr>, typed: &Typed, into: &mut Emitter) -> Resu
             Ok(())
         }
         Some(e) => {
-            emit(e, typed, 0, into)?;
+            emit(e.get(), typed, 0, into)?;
             into.add(Instr::Ret, 1)?;
             Ok(())
         }
@@ -49,7 +53,7 @@ fn emit_return(value: &Option<TExpr>, typed: &Typed, into: &mut Emitter) -> Resu
 /// Appends the test of a `for`, which goes back to a place. Without one, a number that is not 0 goes
 /// back.
 fn emit_for_test(
-    test: &Option<TExpr>,
+    test: &Option<Boxed<TExpr>>,
     target: u32,
     typed: &Typed,
     into: &mut Emitter,
@@ -67,7 +71,7 @@ fn emit_for_test(
             Ok(())
         }
         Some(e) => {
-            emit_test(e, typed, true, Exit::Backward(target), 0, into)?;
+            emit_test(e.get(), typed, true, Exit::Backward(target), 0, into)?;
             Ok(())
         }
     }

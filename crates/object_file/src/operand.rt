@@ -2,7 +2,7 @@
 
 /// What stands behind the number of an instruction. A place is a cell, a place of the code or an entry
 /// of a table.
-#[derive(Clone, Copy, Debug)]
+#[derive(Clone, Copy)]
 pub(crate) enum Operands {
     /// Nothing.
     Nothing,
@@ -17,7 +17,7 @@ pub(crate) enum Operands {
 }
 
 /// Two things behind the number of an instruction.
-#[derive(Clone, Copy, Debug)]
+#[derive(Clone, Copy)]
 pub(crate) enum Pair {
     /// Two places.
     Places,

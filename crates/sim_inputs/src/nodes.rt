@@ -22,7 +22,7 @@ use texts::Text;
 const MOST_TOGETHER: u64 = 4_000_000;
 
 /// What is made of the sources of nodes.
-#[derive(Debug, Drop)]
+#[derive(Drop)]
 pub(crate) struct NodeCodes {
     /// The code of each node, in order.
     pub(crate) codes: Vec<Verified>,

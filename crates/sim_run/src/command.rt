@@ -25,7 +25,7 @@ pub enum Command {
 }
 
 /// What a user asks for.
-#[derive(Clone, Copy, Debug)]
+#[derive(Clone, Copy)]
 pub(crate) enum Asked<'a> {
     /// A command on the scenario of this name.
     Files(Command, &'a [u8]),

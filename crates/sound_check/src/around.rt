@@ -5,7 +5,7 @@ ghost use Rattle.typed_tree.specs.SoundStatement.{in_loop, in_switch};
 ghost use Rattle.sound_check.specs.Around.{around_of};
 
 /// What a statement stands in.
-#[derive(Clone, Copy, Debug)]
+#[derive(Clone, Copy)]
 pub(crate) struct Around {
     /// The procedure's number: it may call each function of a smaller one.
     pub number: usize,

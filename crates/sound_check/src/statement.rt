@@ -60,12 +60,12 @@ fn is_plain_part(part: &Option<Boxed<TStmt>>) -> bool
 }
 
 /// Whether an expression that may be missing is sound.
-fn is_sound_option(value: &Option<TExpr>, typed: &Typed, number: usize) -> bool
+fn is_sound_option(value: &Option<Boxed<TExpr>>, typed: &Typed, number: usize) -> bool
     ensures { IsTrue result ↔ IsSoundOption typed.now number value.now }
 {
     match value {
         None => true,
-        Some(e) => is_sound_expr(e, typed, number),
+        Some(e) => is_sound_expr(e.get(), typed, number),
     }
 }
 

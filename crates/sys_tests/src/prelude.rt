@@ -21,7 +21,7 @@ fn expect_variable(rt: &impl Abort, declaration: &Decl, name: &[u8], value: i128
     match declaration.items.as_slice() {
         [one] => {
             assert!(rt; one.name.bytes() == name);
-            assert!(rt; first_value(one.init.as_ref()) == Some(value));
+            assert!(rt; first_value(one.init.as_ref().map(|init| init.get())) == Some(value));
         }
         _ => assert!(rt; false),
     }

@@ -11,7 +11,7 @@ use texts::NoMemory;
 
 /// Declared variables, with their names in order. They are kept in order and not hashed, since who writes
 /// a scenario chooses them. Contracts see the variables.
-#[derive(Debug, Drop)]
+#[derive(Drop)]
 pub(crate) struct Declared<'i> {
     items: &'i [SysItem],
     names: BTreeSet<(&'i [u8], &'i [u8])>,

@@ -17,7 +17,7 @@ const SHORT: u32 = 3;
 const LONG: u32 = 5;
 
 /// A declared variable that tokens name.
-#[derive(Clone, Copy, Debug)]
+#[derive(Clone, Copy)]
 pub(crate) struct Found<'t> {
     /// The name of its space.
     pub(crate) space: &'t Text,

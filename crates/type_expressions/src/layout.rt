@@ -34,7 +34,7 @@ pub struct Laid {
 }
 
 /// Where the variables of a program lie.
-#[derive(Debug, Drop)]
+#[derive(Drop)]
 pub struct Layout {
     all: Vec<Laid>,
 }
@@ -64,7 +64,7 @@ fn size_of_form(elements: u32, form: &Form) -> u32
 }
 
 /// What the next variable is laid behind.
-#[derive(Clone, Copy, Debug)]
+#[derive(Clone, Copy)]
 struct Next {
     /// The next cell.
     cell: u32,

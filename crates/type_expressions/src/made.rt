@@ -13,7 +13,7 @@ use texts::NoMemory;
 use typed_tree::{Place, TExpr};
 
 /// What the trees of a program's expressions are made by.
-#[derive(Clone, Copy, Debug)]
+#[derive(Clone, Copy)]
 pub struct TreeTables<'t> {
     /// Where the variables lie.
     pub layout: &'t Layout,

@@ -18,7 +18,7 @@ use int_kinds::{Kind, residue};
 use signal_codec::{Layout, put};
 
 /// A message whose direction and time are 0.
-#[derive(Clone, Copy, Debug)]
+#[derive(Clone, Copy)]
 pub(crate) struct Message {
     /// The identifier, with bit 31 for an extended one.
     pub(crate) id: u64,

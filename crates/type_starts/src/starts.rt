@@ -6,7 +6,7 @@ ghost use Rattle.type_starts.specs.Starts.{Goes};
 use texts::NoMemory;
 
 /// The cells so far that begin with another number than 0.
-#[derive(Debug, Drop)]
+#[derive(Drop)]
 pub(crate) struct Starts {
     /// The next cell.
     pub(crate) cell: u32,

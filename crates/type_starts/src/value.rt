@@ -19,7 +19,7 @@ use check_sorts::{Constants, DeclaredSignals, MessageType, Scope, member_named, 
 use int_kinds::{Kind, wrap};
 
 /// Where an initialiser stands.
-#[derive(Clone, Copy, Debug)]
+#[derive(Clone, Copy)]
 pub(crate) struct Spot<'c, 'a, 'p> {
     /// The constants of the program.
     pub(crate) constants: &'c Constants,

@@ -88,14 +88,14 @@ fn make_return(
     };
     let made = make_expression(alloc, scope, &tables.trees, e.get())?;
     match scope.gives {
-        None => Ok(TStmt::Return {
-            value: Some(made.tree),
-        }),
+        None => {
+            let given = Boxed::new(alloc, made.tree)?;
+            Ok(TStmt::Return { value: Some(given) })
+        }
         Some(kind) => {
             let inner = Boxed::new(alloc, made.tree)?;
-            Ok(TStmt::Return {
-                value: Some(TExpr::Convert { kind, inner }),
-            })
+            let given = Boxed::new(alloc, TExpr::Convert { kind, inner })?;
+            Ok(TStmt::Return { value: Some(given) })
         }
     }
 }
@@ -106,7 +106,7 @@ fn make_test(
     scope: Scope,
     tables: &StatementTables,
     test: &Option<Boxed<Expr>>,
-) -> Result<Option<TExpr>, NoMemory>
+) -> Result<Option<Boxed<TExpr>>, NoMemory>
     requires { AreTables scope.names.now tables.now }
     ensures { IfOk result (λ made. made
         ≡ option_map (expression_of (scope_in scope.entry) (order_of tables.now)) test.now) }
@@ -115,7 +115,8 @@ fn make_test(
         None => Ok(None),
         Some(e) => {
             let made = make_expression(alloc, scope, &tables.trees, e.get())?;
-            Ok(Some(made.tree))
+            let test = Boxed::new(alloc, made.tree)?;
+            Ok(Some(test))
         }
     }
 }
@@ -126,7 +127,7 @@ struct Head {
     /// The first part.
     init: Option<Boxed<TStmt>>,
     /// The test.
-    test: Option<TExpr>,
+    test: Option<Boxed<TExpr>>,
     /// The third part.
     step: Option<Boxed<TStmt>>,
 }

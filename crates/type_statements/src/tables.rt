@@ -4,7 +4,7 @@ use check_sorts::Constants;
 use type_expressions::TreeTables;
 
 /// What the trees of a program's statements are made by.
-#[derive(Clone, Copy, Debug)]
+#[derive(Clone, Copy)]
 pub struct StatementTables<'t> {
     /// What expressions are made by.
     pub trees: TreeTables<'t>,

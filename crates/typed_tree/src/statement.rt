@@ -39,7 +39,7 @@ pub enum TStmt {
         /// The first part.
         init: Option<Boxed<TStmt>>,
         /// The test. Where there is none the loop goes on.
-        test: Option<TExpr>,
+        test: Option<Boxed<TExpr>>,
         /// The third part, to which a `continue` in the body leads.
         step: Option<Boxed<TStmt>>,
         /// The body.
@@ -60,7 +60,7 @@ pub enum TStmt {
     /// Ends the procedure.
     Return {
         /// What it gives, if its function gives a number.
-        value: Option<TExpr>,
+        value: Option<Boxed<TExpr>>,
     },
     /// Evaluates an expression and drops its value. A call of a function that gives nothing may stand
     /// here.

@@ -10,7 +10,7 @@ use texts::NoMemory;
 
 /// What may come next in a part that has begun (the CAPL manual's grammar). A goal that may be nothing ends
 /// before each token that it does not take.
-#[derive(Clone, Copy, Debug)]
+#[derive(Clone, Copy)]
 pub(crate) enum Goal {
     /// Parts of a file, up to its end.
     File,

@@ -251,9 +251,9 @@ fn show_declared(out: &mut String, declared: &Declr) -> Result<(), Fail> {
     out.push_str(" (")?;
     show_text(out, &declared.name)?;
     write!(out, "@{}", declared.at)?;
-    show_maybe(out, &declared.size)?;
+    show_boxed(out, &declared.size)?;
     if let Some(init) = &declared.init {
-        show_init(out, init)?;
+        show_init(out, init.get())?;
     }
     out.push_str(")")?;
     Ok(())
