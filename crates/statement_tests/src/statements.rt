@@ -14,8 +14,8 @@ use type_expressions::{Layout, TreeTables};
 use type_statements::{StatementTables, make_alone, make_body, make_statement};
 use typed_tree::TStmt;
 
-/// What is made of a `break`, and of two statements, outside of procedures.
-fn check_body(
+/// What is made of a `break`, outside of procedures.
+fn check_break(
     rt: &impl Abort,
     alloc: Global,
     names: &Names,
@@ -27,6 +27,20 @@ fn check_body(
     let mut formats = Vec::new(alloc);
     let made = make_statement(alloc, scope, tables, &mut formats, &Stmt::Break { at: 0 })?;
     assert!(rt; matches!(&made, TStmt::Break));
+    Ok(())
+}
+
+/// What is made of two statements, outside of procedures.
+fn check_body(
+    rt: &impl Abort,
+    alloc: Global,
+    names: &Names,
+    tables: &StatementTables,
+) -> Result<(), Fail>
+    requires { AreTables names.now tables.now }
+{
+    let scope = Scope::outside(names, 0);
+    let mut formats = Vec::new(alloc);
     let body = [Stmt::Empty, Stmt::Continue { at: 1 }];
     let made = make_body(alloc, scope, tables, &mut formats, body.as_slice())?;
     assert_eq!(rt; made.len(), 2);
@@ -68,6 +82,7 @@ fn statements_have_trees(rt: HostRuntime) -> Result<(), Fail> {
         },
         constants: &constants,
     };
+    check_break(&rt, alloc, names, &tables)?;
     check_body(&rt, alloc, names, &tables)?;
     check_write(&rt, alloc, names, &tables)
 }
