@@ -14,7 +14,7 @@ use std::alloc::Global;
 use texts::NoMemory;
 
 /// Where a declaration stands.
-#[derive(Clone, Copy, Debug, PartialEq, Eq)]
+#[derive(Clone, Copy, PartialEq, Eq)]
 pub struct Place {
     /// The number of the procedure, 0 being outside of procedures.
     pub owner: u32,

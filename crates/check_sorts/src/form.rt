@@ -7,7 +7,7 @@ ghost use Rattle.capl_meaning.specs.Variable.{Misfit, form_of, identifier};
 ghost use Rattle.check_names.specs.Variable.{variable_in};
 ghost use Rattle.check_sorts.specs.Form.{form_in};
 
-use capl_tree::{DeclType, Declr, Expr};
+use capl_tree::{DeclType, Expr};
 use check_names::{Declared, Names, Source};
 use dbc_reader::DbcMessage;
 use int_kinds::Kind;

@@ -4,7 +4,7 @@ ghost use Rattle.std.specs.Prelude.{◌≡◌, ◌+◌, ◌-◌, ◌^◌, false,
 ghost use Rattle.code_size.specs.Notes.{going_on};
 
 /// The size of a statement or of statements, at most 2^64 - 1, and whether control may come to their end.
-#[derive(Clone, Copy, Debug)]
+#[derive(Clone, Copy)]
 pub struct Extent {
     /// How many instructions their code has.
     pub size: u64,

@@ -108,7 +108,7 @@ fn note_inside(s: &TStmt, typed: &Typed, notes: &mut Vec<Extent>) -> Result<Exte
         }
         TStmt::While { test, body } => {
             let body = note_stmt(body.get(), typed, notes)?;
-            let test = test_size(test, typed, true, true);
+            let test = test_size(test.get(), typed, true, true);
             Ok(going_on(loop_size(body.size, test)))
         }
         TStmt::Do { body, test } => {
@@ -131,7 +131,7 @@ fn note_inside(s: &TStmt, typed: &Typed, notes: &mut Vec<Extent>) -> Result<Exte
         }
         TStmt::Switch { on, groups } => {
             let behind = note_switch(groups.as_slice(), typed, notes)?;
-            Ok(going_on(value_size(on, typed).saturating_add(behind)))
+            Ok(going_on(value_size(on.get(), typed).saturating_add(behind)))
         }
         TStmt::Return { value } => Ok(ending(returned_size(value, typed).saturating_add(1))),
         TStmt::Eval(e) => {

@@ -7,7 +7,7 @@ ghost use Rattle.gen_expr.specs.Exit.{exit_of};
 use bytecode::Instr;
 
 /// Where a test goes for one of the two truths, while it goes on to its end for the other.
-#[derive(Clone, Copy, Debug, PartialEq, Eq)]
+#[derive(Clone, Copy, PartialEq, Eq)]
 pub enum Exit {
     /// Forward to a place, by `Zero`, which goes there where a number is 0.
     Forward(u32),

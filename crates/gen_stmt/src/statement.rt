@@ -147,7 +147,7 @@ fn emit_stmt(
         TStmt::While { test, body } => {
             let body_size = take_size(notes);
             add_jump(body_size, into)?;
-            emit_loop(body.get(), test, body_size, end, typed, notes, into)?;
+            emit_loop(body.get(), test.get(), body_size, end, typed, notes, into)?;
             Ok(())
         }
         TStmt::Do { body, test } => {
@@ -179,7 +179,7 @@ fn emit_stmt(
             Ok(())
         }
         TStmt::Switch { on, groups } => {
-            emit_switch(groups.as_slice(), on, end, typed, exits, notes, into)?;
+            emit_switch(groups.as_slice(), on.get(), end, typed, exits, notes, into)?;
             Ok(())
         }
         TStmt::Break => {

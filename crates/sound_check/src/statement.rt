@@ -149,7 +149,7 @@ fn are_few(groups: &[TGroup]) -> bool
 /// their labels are few.
 fn keeps_switch(
     alloc: Global,
-    on: &TExpr,
+    on: &Boxed<TExpr>,
     groups: &[TGroup],
     typed: &Typed,
     number: usize,
@@ -158,7 +158,7 @@ fn keeps_switch(
         ↔ (KeepsLabels groups.now × AreFew groups.now × IsSoundExpr typed.now number on.now)) }
 {
     let labels_kept = keeps_labels(alloc, groups)?;
-    Ok(labels_kept && are_few(groups) && is_sound_expr(on, typed, number))
+    Ok(labels_kept && are_few(groups) && is_sound_expr(on.get(), typed, number))
 }
 
 /// Whether a statement is sound where it stands, with all in it. Takes time linear in the statement, but
@@ -188,7 +188,7 @@ pub(crate) fn is_sound_stmt(
         }
         TStmt::While { test, body } => {
             let sound = is_sound_stmt(alloc, body.get(), typed, around.in_loop())?;
-            Ok(is_sound_expr(test, typed, number) && sound)
+            Ok(is_sound_expr(test.get(), typed, number) && sound)
         }
         TStmt::Do { body, test } => {
             let sound = is_sound_stmt(alloc, body.get(), typed, around.in_loop())?;

@@ -195,53 +195,55 @@ prefix_of s order prefix.Plus inner at = refl
 prefix_of s order prefix.Not inner at = refl
 prefix_of s order prefix.Inv inner at = refl
 
+-- what a step or a prefix operator makes of what stands before or behind it
+pub inner_walked : {E : Type 0} (s : Scope) (order : List ℕ) (e : Expr) (is_place : Bool) (i : Walked) (by : Sort → Bool → Option Place → TExpr → Walked)
+    (made : Result Walked E) → is_place ≡ is_number_place s e → IsWalked s order e i →
+    IfOk made (λ w. w ≡ by i.sort is_place (place_in i.shape) (value_in i.shape)) →
+    IfOk made (λ w. w ≡ by (sort_of s e) (is_number_place s e) (place_of s order e) (expression_of s order e))
+inner_walked s order e is_place i by made place_known known there =
+    subst (λ x. IfOk made (λ w. w ≡ x))
+    (ap (λ k. by k is_place (place_in i.shape) (value_in i.shape)) known.sort
+    ∙ ap (λ b. by (sort_of s e) b (place_in i.shape) (value_in i.shape)) place_known
+    ∙ ap (λ p. by (sort_of s e) (is_number_place s e) p (value_in i.shape)) known.place
+    ∙ ap (by (sort_of s e) (is_number_place s e) (place_of s order e)) known.value)
+    there
+
 -- a prefix operator
-pub prefix_walked : {E : Type 0} (s : Scope) (order : List ℕ) (e : Expr) (op : UnOp) (inner one two : Expr) (at : ℕ) (is_place : Bool) (i : Walked) (made : Result Walked E) →
-    e ≡ expr.Unary op inner at → one ≡ inner → two ≡ inner → is_place ≡ is_number_place s one → IsWalked s order two i →
+pub prefix_walked : {E : Type 0} (s : Scope) (order : List ℕ) (e : Expr) (op : UnOp) (inner one : Expr) (at : ℕ) (made : Result Walked E) →
+    e ≡ expr.Unary op inner at → one ≡ inner →
     IfOk made (λ w. w ≡ record {
-      shape = shape.Value (prefix_tree op i.sort (assigned is_place (place_in i.shape)) (value_in i.shape));
-      sort = sort_of_prefix op is_place i.sort;
+      shape = shape.Value (prefix_tree op (sort_of s one) (assigned (is_number_place s one) (place_of s order one)) (expression_of s order one));
+      sort = sort_of_prefix op (is_number_place s one) (sort_of s one);
     }) → WasWalked s order e made
-prefix_walked s order e op inner one two at is_place i made is one_is two_is place_known known there =
+prefix_walked s order e op inner one at made is one_is there =
     let whole = is ∙ unary_form op inner at in
-    let sort_is : i.sort ≡ sort_of s inner = known.sort ∙ ap (sort_of s) two_is in
-    let place_is : is_place ≡ is_number_place s inner = place_known ∙ ap (is_number_place s) one_is in
     was_walked s order e made _ there (λ w same. record {
       value = ap (λ (w : Walked). value_in w.shape) same
-          ∙ ap (λ v. prefix_tree op i.sort (assigned is_place (place_in i.shape)) v) (known.value ∙ ap (expression_of s order) two_is)
-          ∙ ap (λ p. prefix_tree op i.sort (assigned is_place p) (expression_of s order inner)) (known.place ∙ ap (place_of s order) two_is)
-          ∙ ap (λ b. prefix_tree op i.sort (assigned b (place_of s order inner)) (expression_of s order inner)) place_is
-          ∙ ap (λ k. prefix_tree op k (assigned (is_number_place s inner) (place_of s order inner)) (expression_of s order inner)) sort_is
+          ∙ ap (λ x. prefix_tree op (sort_of s x) (assigned (is_number_place s x) (place_of s order x)) (expression_of s order x)) one_is
           ∙ prefix_of s order op inner at
           ∙ sym (ap (expression_of s order) whole);
       place = ap (λ (w : Walked). place_in w.shape) same ∙ sym (ap (place_of s order) whole);
       sort = ap (λ (w : Walked). w.sort) same
-          ∙ ap (λ b. sort_of_prefix op b i.sort) place_is
-          ∙ ap (sort_of_prefix op (is_number_place s inner)) sort_is
+          ∙ ap (λ x. sort_of_prefix op (is_number_place s x) (sort_of s x)) one_is
           ∙ sym (ap (sort_of s) whole);
     })
 
 -- `++` or `--` behind a place
-pub step_walked : {E : Type 0} (s : Scope) (order : List ℕ) (e : Expr) (up : Bool) (inner one two : Expr) (at : ℕ) (is_place : Bool) (i : Walked) (made : Result Walked E) →
-    e ≡ expr.Post up inner at → one ≡ inner → two ≡ inner → is_place ≡ is_number_place s one → IsWalked s order two i →
+pub step_walked : {E : Type 0} (s : Scope) (order : List ℕ) (e : Expr) (up : Bool) (inner one : Expr) (at : ℕ) (made : Result Walked E) →
+    e ≡ expr.Post up inner at → one ≡ inner →
     IfOk made (λ w. w ≡ record {
-      shape = shape.Value (stepping (kind_in i.sort) up true (assigned is_place (place_in i.shape)));
-      sort = sort_of_step is_place i.sort;
+      shape = shape.Value (stepping (kind_in (sort_of s one)) up true (assigned (is_number_place s one) (place_of s order one)));
+      sort = sort_of_step (is_number_place s one) (sort_of s one);
     }) → WasWalked s order e made
-step_walked s order e up inner one two at is_place i made is one_is two_is place_known known there =
+step_walked s order e up inner one at made is one_is there =
     let whole = is ∙ post_form up inner at in
-    let sort_is : i.sort ≡ sort_of s inner = known.sort ∙ ap (sort_of s) two_is in
-    let place_is : is_place ≡ is_number_place s inner = place_known ∙ ap (is_number_place s) one_is in
     was_walked s order e made _ there (λ w same. record {
       value = ap (λ (w : Walked). value_in w.shape) same
-          ∙ ap (λ p. stepping (kind_in i.sort) up true (assigned is_place p)) (known.place ∙ ap (place_of s order) two_is)
-          ∙ ap (λ b. stepping (kind_in i.sort) up true (assigned b (place_of s order inner))) place_is
-          ∙ ap (λ k. stepping (kind_in k) up true (assigned (is_number_place s inner) (place_of s order inner))) sort_is
+          ∙ ap (λ x. stepping (kind_in (sort_of s x)) up true (assigned (is_number_place s x) (place_of s order x))) one_is
           ∙ sym (ap (expression_of s order) whole);
       place = ap (λ (w : Walked). place_in w.shape) same ∙ sym (ap (place_of s order) whole);
       sort = ap (λ (w : Walked). w.sort) same
-          ∙ ap (λ b. sort_of_step b i.sort) place_is
-          ∙ ap (sort_of_step (is_number_place s inner)) sort_is
+          ∙ ap (λ x. sort_of_step (is_number_place s x) (sort_of s x)) one_is
           ∙ sym (ap (sort_of s) whole);
     })
 

@@ -14,7 +14,7 @@ ghost use Rattle.check_sorts.specs.Scope.{scope_in};
 ghost use Rattle.type_expressions.specs.declared.made.Shape.TheVariants as shape;
 ghost use Rattle.type_expressions.specs.Made.{assigning, place_in, prefix_tree, value_in};
 
-use crate::made::{Part, Shape, Walked, make_part, place_in, value_in};
+use crate::made::{Part, Shape, Walked, make_part, place_in};
 use crate::tree::{converted, operation, prefixed, stepping, storing, updating};
 use capl_meaning::Sort;
 use check_sorts::{
@@ -196,20 +196,11 @@ pub(crate) struct Branches {
     no_sort: Sort,
 }
 
-/// A branch of a `?:`, converted to a kind.
-fn branch(alloc: Global, kind: Kind, shape: Shape) -> Result<Boxed<TExpr>, NoMemory>
-    ensures { IfOk result (λ made. made ≡ Convert kind (value_in shape)) }
-{
-    let inner = Boxed::new(alloc, value_in(shape))?;
-    let made = Boxed::new(alloc, converted(kind, inner))?;
-    Ok(made)
-}
-
 /// The branches of a `?:`, of what each is.
-pub(crate) fn choose(alloc: Global, yes: Walked, no: Walked) -> Result<Branches, NoMemory>
+pub(crate) fn choose(alloc: Global, yes: Part, no: Part) -> Result<Branches, NoMemory>
     ensures { let kind = join (kind_in yes.sort) (kind_in no.sort) in IfOk result (λ made. made ≡ record {
-      yes = Convert kind (value_in yes.shape);
-      no = Convert kind (value_in no.shape);
+      yes = Convert kind yes.tree;
+      no = Convert kind no.tree;
       yes_sort = yes.sort;
       no_sort = no.sort;
     }) }
@@ -217,8 +208,8 @@ pub(crate) fn choose(alloc: Global, yes: Walked, no: Walked) -> Result<Branches,
     let kind = join(kind_in(yes.sort), kind_in(no.sort));
     let yes_sort = yes.sort;
     let no_sort = no.sort;
-    let yes = branch(alloc, kind, yes.shape)?;
-    let no = branch(alloc, kind, no.shape)?;
+    let yes = Boxed::new(alloc, converted(kind, yes.tree))?;
+    let no = Boxed::new(alloc, converted(kind, no.tree))?;
     Ok(Branches {
         yes,
         no,

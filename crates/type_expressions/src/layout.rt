@@ -23,7 +23,7 @@ const MOST_CELLS: u64 = 1_000_000;
 const EVENT_CELLS: u32 = 15;
 
 /// Where a variable lies.
-#[derive(Clone, Copy, Debug, PartialEq, Eq)]
+#[derive(Clone, Copy, PartialEq, Eq)]
 pub struct Laid {
     /// Its first cell.
     pub slot: u32,

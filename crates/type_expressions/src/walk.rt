@@ -1,14 +1,14 @@
 // The walk over an expression.
 
-ghost use Rattle.std.specs.Prelude.{◌≡◌, [], ◌∷◌, ◌++◌, IfOk, OnOk, map};
+ghost use Rattle.std.specs.Prelude.{◌≡◌, [], ◌∷◌, ◌++◌, IfOk, OnOk, map, true};
 ghost use Rattle.int_kinds.specs.Kind.{join};
 ghost use Rattle.typed_tree.specs.Forms.{Cond, Convert};
 ghost use Rattle.capl_meaning.specs.Message.{is_message_place, is_number_place};
-ghost use Rattle.capl_meaning.specs.Sort.{kind_in, sort_of, sort_of_assignment, sort_of_binary, sort_of_choice, working_kind};
-ghost use Rattle.typed_source.specs.Expression.{assigned, expression_of, operation, place_of};
+ghost use Rattle.capl_meaning.specs.Sort.{kind_in, sort_of, sort_of_assignment, sort_of_binary, sort_of_choice, sort_of_prefix, sort_of_step, working_kind};
+ghost use Rattle.typed_source.specs.Expression.{assigned, expression_of, operation, place_of, stepping};
 ghost use Rattle.check_sorts.specs.Scope.{scope_in};
 ghost use Rattle.type_expressions.specs.declared.made.Shape.TheVariants as shape;
-ghost use Rattle.type_expressions.specs.Made.{AreTreeTables, assigning, order_in, place_in, value_in};
+ghost use Rattle.type_expressions.specs.Made.{AreTreeTables, assigning, order_in, place_in, prefix_tree, value_in};
 
 use crate::call::called;
 use crate::form::{
@@ -17,9 +17,10 @@ use crate::form::{
 };
 use crate::made::{Part, Row, TreeTables, Walked, make_part, sort_in, value_in};
 use crate::place::{element, member, name, payload};
+use capl_meaning::Sort;
 use capl_tree::{Expr, Field};
 use check_sorts::Scope;
-use int_kinds::BinOp;
+use int_kinds::{BinOp, UnOp};
 use std::alloc::Global;
 use texts::NoMemory;
 
@@ -50,7 +51,7 @@ pub(crate) fn walk(
             called(alloc, scope, tables, name.bytes(), args.as_slice(), row)
         }
         Expr::Index { base, index, .. } => {
-            let sort = sort_in(walk(alloc, scope, tables, base.get())?);
+            let sort = walk_sort(alloc, scope, tables, base.get())?;
             let index = walk_part(alloc, scope, tables, index.get())?;
             Ok(element(scope, tables, base.get(), sort, index))
         }
@@ -68,16 +69,8 @@ pub(crate) fn walk(
             let inner = walk_part(alloc, scope, tables, inner.get())?;
             Ok(cast(*kind, inner))
         }
-        Expr::Unary { op, inner, .. } => {
-            let is_place = scope.is_number_place(inner.get());
-            let inner = walk(alloc, scope, tables, inner.get())?;
-            prefix(alloc, *op, is_place, inner)
-        }
-        Expr::Post { up, inner, .. } => {
-            let is_place = scope.is_number_place(inner.get());
-            let inner = walk(alloc, scope, tables, inner.get())?;
-            step(alloc, *up, true, is_place, inner)
-        }
+        Expr::Unary { op, inner, .. } => walk_prefix(alloc, scope, tables, *op, inner.get()),
+        Expr::Post { up, inner, .. } => walk_step(alloc, scope, tables, *up, inner.get()),
         Expr::Binary {
             op,
             left,
@@ -88,8 +81,8 @@ pub(crate) fn walk(
             walk_binary(alloc, scope, tables, right.get(), *op, left)
         }
         Expr::Cond { test, yes, no, .. } => {
-            let yes = walk(alloc, scope, tables, yes.get())?;
-            let no = walk(alloc, scope, tables, no.get())?;
+            let yes = walk_part(alloc, scope, tables, yes.get())?;
+            let no = walk_part(alloc, scope, tables, no.get())?;
             walk_choice(alloc, scope, tables, test.get(), yes, no)
         }
         Expr::Assign {
@@ -114,6 +107,59 @@ fn walk_part(alloc: Global, scope: Scope, tables: &TreeTables, e: &Expr) -> Resu
 {
     let walked = walk(alloc, scope, tables, e)?;
     make_part(alloc, walked)
+}
+
+/// Of which sort an expression is.
+#[cycle(walk)]
+fn walk_sort(alloc: Global, scope: Scope, tables: &TreeTables, e: &Expr) -> Result<Sort, NoMemory>
+    requires { AreTreeTables scope.names.now tables.now }
+    ensures { IfOk result (λ sort. sort ≡ sort_of (scope_in scope.entry) e.now) }
+{
+    let walked = walk(alloc, scope, tables, e)?;
+    Ok(sort_in(walked))
+}
+
+/// A prefix operator before an expression.
+#[cycle(walk)]
+fn walk_prefix(
+    alloc: Global,
+    scope: Scope,
+    tables: &TreeTables,
+    op: UnOp,
+    inner: &Expr,
+) -> Result<Walked, NoMemory>
+    requires { AreTreeTables scope.names.now tables.now }
+    ensures { let s = scope_in scope.entry in IfOk result (λ walked. walked ≡ record {
+      shape = shape.Value (prefix_tree op (sort_of s inner.now)
+          (assigned (is_number_place s inner.now) (place_of s (order_in tables.now) inner.now))
+          (expression_of s (order_in tables.now) inner.now));
+      sort = sort_of_prefix op (is_number_place s inner.now) (sort_of s inner.now);
+    }) }
+{
+    let is_place = scope.is_number_place(inner);
+    let inner = walk(alloc, scope, tables, inner)?;
+    prefix(alloc, op, is_place, inner)
+}
+
+/// `++` or `--` behind an expression.
+#[cycle(walk)]
+fn walk_step(
+    alloc: Global,
+    scope: Scope,
+    tables: &TreeTables,
+    up: bool,
+    inner: &Expr,
+) -> Result<Walked, NoMemory>
+    requires { AreTreeTables scope.names.now tables.now }
+    ensures { let s = scope_in scope.entry in IfOk result (λ walked. walked ≡ record {
+      shape = shape.Value (stepping (kind_in (sort_of s inner.now)) up true
+          (assigned (is_number_place s inner.now) (place_of s (order_in tables.now) inner.now)));
+      sort = sort_of_step (is_number_place s inner.now) (sort_of s inner.now);
+    }) }
+{
+    let is_place = scope.is_number_place(inner);
+    let inner = walk(alloc, scope, tables, inner)?;
+    step(alloc, up, true, is_place, inner)
 }
 
 /// A binary operator behind its left side.
@@ -144,14 +190,14 @@ fn walk_choice(
     scope: Scope,
     tables: &TreeTables,
     test: &Expr,
-    yes: Walked,
-    no: Walked,
+    yes: Part,
+    no: Part,
 ) -> Result<Walked, NoMemory>
     requires { AreTreeTables scope.names.now tables.now }
     ensures { let s = scope_in scope.entry in IfOk result (λ walked.
         let k = join (kind_in yes.sort) (kind_in no.sort) in walked ≡ record {
           shape = shape.Value (Cond (expression_of s (order_in tables.now) test.now)
-              (Convert k (value_in yes.shape)) (Convert k (value_in no.shape)));
+              (Convert k yes.tree) (Convert k no.tree));
           sort = sort_of_choice (sort_of s test.now) yes.sort no.sort;
         }) }
 {

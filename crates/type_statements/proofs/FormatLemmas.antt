@@ -1,5 +1,5 @@
 -- A format that shows the sorts of arguments fits the arguments.
-use Rattle.std.proofs.Common.{◌≡◌, ◌∙◌, ℕ, suc, Bool, true, false, List, [], ◌∷◌, Option, Some, None, length, map, refl, ap, sym, subst, arith}
+use Rattle.std.proofs.Common.{◌≡◌, ◌∙◌, ℕ, Bool, true, false, List, [], ◌∷◌, Option, Some, None, length, map, refl, ap, sym, subst, arith}
 use Rattle.std.specs.Prelude.{◌==◌, ◌&&◌, cond, if◌then◌else◌, not, nat_lt, position}
 use Rattle.std.specs.List.{list_all, position_or_len, zip}
 use Rattle.std.specs.Option.{option_and_then, option_map, option_map_or}

@@ -1,8 +1,7 @@
 -- Statements that are made part after part, and turns of loops.
-use Rattle.std.proofs.Common.{◌≡◌, ◌<◌, ◌≤◌, ◌+◌, ◌++◌, ◌∙◌, ℕ, List, [], ◌∷◌, Option, Result, Ok, Err, OnOk, append_assoc, drop, get_or, length, length-append, refl, sym, ap}
+use Rattle.std.proofs.Common.{◌≡◌, ◌<◌, ◌+◌, ◌++◌, ◌∙◌, ℕ, List, [], ◌∷◌, Option, Result, Ok, Err, OnOk, append_assoc, drop, get_or, length, length-append, refl, sym, ap}
 use Rattle.std.specs.Prelude.{filter_map, flat_map, ℤ}
 use Rattle.std.specs.Option.{option_map}
-use Rattle.std.proofs.lemmas.List.{append-nil}
 use Rattle.int_kinds.specs.declared.kinds.Kind.{Kind}
 use Rattle.write_format.specs.Format.{FormatText}
 use Rattle.capl_tree.specs.declared.expr.Expr.{Expr}
@@ -48,6 +47,11 @@ part_formats s old new statement given body given_is is new_is =
 pub there_already : {T E P : Type 0} (made : Result T E) → P → OnOk made P
 there_already (Ok x) p = p
 there_already (Err e) p = tt
+
+-- a `for` whose body is lent
+pub for_of : (statement : Stmt) (init test step : Option Expr) (body lent : Stmt) → statement ≡ stmt.For init test step body → lent ≡ body
+    → statement ≡ stmt.For init test step lent
+for_of statement init test step body lent is same = is ∙ ap (stmt.For init test step) (sym same)
 
 -- ---- forms
 

@@ -5,7 +5,8 @@ ghost use Rattle.std.specs.Option.{option_map};
 ghost use Rattle.capl_meaning.specs.Constant.{prefix_kind};
 ghost use Rattle.capl_meaning.specs.Statement.{label_of};
 ghost use Rattle.typed_tree.specs.declared.expression.TExpr.{TExpr};
-ghost use Rattle.typed_tree.specs.declared.statement.TStmt.TheVariants.{For, If, Return};
+ghost use Rattle.capl_tree.specs.declared.statement.Stmt.TheVariants as stmt;
+ghost use Rattle.typed_tree.specs.declared.statement.TStmt.TheVariants.{For, If, Return, Switch};
 ghost use Rattle.typed_tree.specs.Forms.{Convert, Do, While};
 ghost use Rattle.typed_source.specs.Expression.{expression_of};
 ghost use Rattle.typed_source.specs.Statement.{formats_of, formats_of_part, returned, statement_of};
@@ -87,17 +88,15 @@ fn make_return(
         return Ok(TStmt::Return { value: None });
     };
     let made = make_expression(alloc, scope, &tables.trees, e.get())?;
-    match scope.gives {
-        None => {
-            let given = Boxed::new(alloc, made.tree)?;
-            Ok(TStmt::Return { value: Some(given) })
-        }
+    let tree = match scope.gives {
+        None => made.tree,
         Some(kind) => {
             let inner = Boxed::new(alloc, made.tree)?;
-            let given = Boxed::new(alloc, TExpr::Convert { kind, inner })?;
-            Ok(TStmt::Return { value: Some(given) })
+            TExpr::Convert { kind, inner }
         }
-    }
+    };
+    let value = Boxed::new(alloc, tree)?;
+    Ok(TStmt::Return { value: Some(value) })
 }
 
 /// The test of a `for`, if it is there.
@@ -183,8 +182,8 @@ fn make_head(
     Ok(Head { init, test, step })
 }
 
-/// A `for` of its head and its body.
-fn make_for(alloc: Global, head: Head, body: TStmt) -> Result<TStmt, NoMemory>
+/// A `for` of its head and of a body that is made.
+fn for_with(alloc: Global, head: Head, body: TStmt) -> Result<TStmt, NoMemory>
     ensures { IfOk result (λ tree. tree ≡ For head.init head.test head.step body) }
 {
     let body = Boxed::new(alloc, body)?;
@@ -197,7 +196,7 @@ fn make_for(alloc: Global, head: Head, body: TStmt) -> Result<TStmt, NoMemory>
 }
 
 /// A `while` of its test and of a body that is made.
-fn make_while(
+fn while_with(
     alloc: Global,
     scope: Scope,
     tables: &StatementTables,
@@ -209,15 +208,13 @@ fn make_while(
         tree ≡ While (expression_of (scope_in scope.entry) (order_of tables.now) test.now) body) }
 {
     let body = Boxed::new(alloc, body)?;
-    let test = make_expression(alloc, scope, &tables.trees, test)?;
-    Ok(TStmt::While {
-        test: test.tree,
-        body,
-    })
+    let made = make_expression(alloc, scope, &tables.trees, test)?;
+    let test = Boxed::new(alloc, made.tree)?;
+    Ok(TStmt::While { test, body })
 }
 
 /// A `do` of a body that is made and of its test.
-fn make_do(
+fn do_with(
     alloc: Global,
     scope: Scope,
     tables: &StatementTables,
@@ -229,10 +226,10 @@ fn make_do(
         tree ≡ Do body (expression_of (scope_in scope.entry) (order_of tables.now) test.now)) }
 {
     let body = Boxed::new(alloc, body)?;
-    let test = make_expression(alloc, scope, &tables.trees, test)?;
+    let made = make_expression(alloc, scope, &tables.trees, test)?;
     Ok(TStmt::Do {
         body,
-        test: test.tree,
+        test: made.tree,
     })
 }
 
@@ -245,6 +242,14 @@ fn with_else(alloc: Global, arms: Items<TArm>, other: TStmt) -> Result<TStmt, No
         arms,
         other: Some(boxed),
     })
+}
+
+/// A `switch` of its value and of groups that are made.
+fn switch_with(alloc: Global, on: TExpr, groups: Items<TGroup>) -> Result<TStmt, NoMemory>
+    ensures { IfOk result (λ tree. tree ≡ Switch on groups) }
+{
+    let on = Boxed::new(alloc, on)?;
+    Ok(TStmt::Switch { on, groups })
 }
 
 /// Appends a group of a `switch`, of its labels in a kind and of a body that is made.
@@ -298,32 +303,119 @@ pub fn make_statement(
             make_if(alloc, scope, tables, formats, other, arms)
         }
         Stmt::While { test, body } => {
-            let body = make_statement(alloc, scope, tables, formats, body.get())?;
-            make_while(alloc, scope, tables, test, body)
+            make_while(alloc, scope, tables, formats, body.get(), test)
         }
-        Stmt::Do { body, test } => {
-            let body = make_statement(alloc, scope, tables, formats, body.get())?;
-            make_do(alloc, scope, tables, body, test)
-        }
+        Stmt::Do { body, test } => make_do(alloc, scope, tables, formats, body.get(), test),
         Stmt::For {
             init,
             test,
             step,
             body,
-        } => {
-            let head = make_head(alloc, scope, tables, formats, init, test, step)?;
-            let body = make_statement(alloc, scope, tables, formats, body.get())?;
-            make_for(alloc, head, body)
-        }
-        Stmt::Switch { on, groups } => {
-            let (on, kind) = make_value(alloc, scope, tables, on.get())?;
-            let groups = make_groups(alloc, scope, tables, formats, kind, groups.as_slice())?;
-            Ok(TStmt::Switch { on, groups })
-        }
+        } => make_for(alloc, scope, tables, formats, body.get(), init, test, step),
+        Stmt::Switch { on, groups } => make_switch(
+            alloc,
+            scope,
+            tables,
+            formats,
+            groups.as_slice(),
+            on.get(),
+        ),
         Stmt::Break { .. } => Ok(TStmt::Break),
         Stmt::Continue { .. } => Ok(TStmt::Continue),
         Stmt::Return { value, .. } => make_return(alloc, scope, tables, value),
     }
+}
+
+/// The typed tree of a `while`, and its formats.
+#[cycle(statement)]
+fn make_while(
+    alloc: Global,
+    scope: Scope,
+    tables: &StatementTables,
+    formats: &mut Vec<Format>,
+    body: &Stmt,
+    test: &Expr,
+) -> Result<TStmt, NoMemory>
+    requires tables { AreTables scope.names.now tables.now }
+    requires room { length (formats.old.items ++ formats_of (scope_in scope) body.now) < 2 ^ 32 }
+    ensures tree { let s = scope_in scope.entry in IfOk result (λ tree.
+        tree ≡ While (expression_of s (order_of tables.now) test.now)
+        (statement_of s (order_of tables.now) (length formats.old.items) body.now)) }
+    ensures formats { OnOk result
+        (formats.new.items ≡ formats.old.items ++ formats_of (scope_in scope.entry) body.now) }
+{
+    let made = make_statement(alloc, scope, tables, formats, body)?;
+    while_with(alloc, scope, tables, test, made)
+}
+
+/// The typed tree of a `do`, and its formats.
+#[cycle(statement)]
+fn make_do(
+    alloc: Global,
+    scope: Scope,
+    tables: &StatementTables,
+    formats: &mut Vec<Format>,
+    body: &Stmt,
+    test: &Expr,
+) -> Result<TStmt, NoMemory>
+    requires tables { AreTables scope.names.now tables.now }
+    requires room { length (formats.old.items ++ formats_of (scope_in scope) body.now) < 2 ^ 32 }
+    ensures tree { let s = scope_in scope.entry in IfOk result (λ tree.
+        tree ≡ Do (statement_of s (order_of tables.now) (length formats.old.items) body.now)
+        (expression_of s (order_of tables.now) test.now)) }
+    ensures formats { OnOk result
+        (formats.new.items ≡ formats.old.items ++ formats_of (scope_in scope.entry) body.now) }
+{
+    let made = make_statement(alloc, scope, tables, formats, body)?;
+    do_with(alloc, scope, tables, made, test)
+}
+
+/// The typed tree of a `for`, and its formats.
+#[cycle(statement)]
+fn make_for(
+    alloc: Global,
+    scope: Scope,
+    tables: &StatementTables,
+    formats: &mut Vec<Format>,
+    body: &Stmt,
+    init: &Option<Boxed<Expr>>,
+    test: &Option<Boxed<Expr>>,
+    step: &Option<Boxed<Expr>>,
+) -> Result<TStmt, NoMemory>
+    requires tables { AreTables scope.names.now tables.now }
+    requires room { length (formats.old.items
+        ++ formats_of (scope_in scope) (stmt.For init.now test.now step.now body.now)) < 2 ^ 32 }
+    ensures tree { IfOk result (λ tree. tree ≡ statement_of (scope_in scope.entry) (order_of tables.now)
+        (length formats.old.items) (stmt.For init.now test.now step.now body.now)) }
+    ensures formats { OnOk result (formats.new.items ≡ formats.old.items
+        ++ formats_of (scope_in scope.entry) (stmt.For init.now test.now step.now body.now)) }
+{
+    let head = make_head(alloc, scope, tables, formats, init, test, step)?;
+    let made = make_statement(alloc, scope, tables, formats, body)?;
+    for_with(alloc, head, made)
+}
+
+/// The typed tree of a `switch`, and its formats.
+#[cycle(statement)]
+fn make_switch(
+    alloc: Global,
+    scope: Scope,
+    tables: &StatementTables,
+    formats: &mut Vec<Format>,
+    groups: &[Group],
+    on: &Expr,
+) -> Result<TStmt, NoMemory>
+    requires tables { AreTables scope.names.now tables.now }
+    requires room { length (formats.old.items ++ formats_in_groups (scope_in scope) groups.now) < 2 ^ 32 }
+    ensures tree { let s = scope_in scope.entry in IfOk result (λ tree.
+        tree ≡ Switch (Convert (prefix_kind s on.now) (expression_of s (order_of tables.now) on.now))
+        (groups_in s (order_of tables.now) (prefix_kind s on.now) (length formats.old.items) groups.now)) }
+    ensures formats { OnOk result
+        (formats.new.items ≡ formats.old.items ++ formats_in_groups (scope_in scope.entry) groups.now) }
+{
+    let (on, kind) = make_value(alloc, scope, tables, on)?;
+    let groups = make_groups(alloc, scope, tables, formats, kind, groups)?;
+    switch_with(alloc, on, groups)
 }
 
 /// The typed trees of statements one after another, and their formats.

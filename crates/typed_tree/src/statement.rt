@@ -22,7 +22,7 @@ pub enum TStmt {
     /// Tests, takes a turn and runs the body, again and again until the test is 0.
     While {
         /// The test.
-        test: TExpr,
+        test: Boxed<TExpr>,
         /// The body.
         body: Boxed<TStmt>,
     },
@@ -49,7 +49,7 @@ pub enum TStmt {
     /// one with `default` on, to the end or a `break`.
     Switch {
         /// The value.
-        on: TExpr,
+        on: Boxed<TExpr>,
         /// The groups.
         groups: Items<TGroup>,
     },

@@ -195,7 +195,7 @@ emit_stmt-add_jump-requires t c =
 
 pub emit_stmt-emit_loop-requires : goal.emit_stmt-emit_loop-requires
 emit_stmt-emit_loop-requires t c =
-    let typed = c.args.typed.now in let is = rw (← c.get.ensures) at c.in-While.is in
+    let typed = c.args.typed.now in let is = rw (← c.get.ensures) at rw (← c.get-in-While.ensures) at c.in-While.is in
     let size = while_size typed _ _ _ is in
     let gives = c.take_size-body_size.ensures _ _ (body_noted typed c.args.s.now c.get.result.now _ _ (while_notes typed _ _ _ is) c.requires.noted.1) in
     let sized : c.take_size-body_size.result ≡ stmt_size typed c.get.result.now = omega (arith, gives.0, size, c.requires.room) in
@@ -218,14 +218,14 @@ emit_stmt-emit_loop-requires-in-Do t c =
 
 pub emit_stmt-returns-in_ok-emit_loop-in-While-clause-taken : goal.emit_stmt-returns-in_ok-emit_loop-in-While-clause-taken
 emit_stmt-returns-in_ok-emit_loop-in-While-clause-taken t c =
-    let typed = c.args.typed.now in let is = rw (← c.get.ensures) at c.in-While.is in
+    let typed = c.args.typed.now in let is = rw (← c.get.ensures) at rw (← c.get-in-While.ensures) at c.in-While.is in
     λ rest e.
     let gives = c.take_size-body_size.ensures _ _ (body_noted typed c.args.s.now c.get.result.now _ _ (while_notes typed _ _ _ is) e) in
     c.in_ok-emit_loop-in-While.ensures.taken rest gives.1
 
 pub emit_stmt-returns-in_ok-emit_loop-in-While-clause-code : goal.emit_stmt-returns-in_ok-emit_loop-in-While-clause-code
 emit_stmt-returns-in_ok-emit_loop-in-While-clause-code t c =
-    let typed = c.args.typed.now in let is = rw (← c.get.ensures) at c.in-While.is in
+    let typed = c.args.typed.now in let is = rw (← c.get.ensures) at rw (← c.get-in-While.ensures) at c.in-While.is in
     let size = while_size typed _ _ _ is in
     let gives = c.take_size-body_size.ensures _ _ (body_noted typed c.args.s.now c.get.result.now _ _ (while_notes typed _ _ _ is) c.requires.noted.1) in
     let sized : c.take_size-body_size.result ≡ stmt_size typed c.get.result.now = omega (arith, gives.0, size, c.requires.room) in
@@ -359,7 +359,7 @@ emit_stmt-returns-in_ok-emit_for_test-in-For-clause-code t c =
 
 pub emit_stmt-emit_switch-requires : goal.emit_stmt-emit_switch-requires
 emit_stmt-emit_switch-requires t c =
-    let typed = c.args.typed.now in let is = c.in-Switch.is in let same = c.as_slice-in-Switch.ensures in
+    let typed = c.args.typed.now in let is = rw (← c.get-in-Switch.ensures) at c.in-Switch.is in let same = c.as_slice-in-Switch.ensures in
     let before = c.requires.noted.0 in let size = switch_size typed _ _ _ is in
     let noted = c.requires.noted.1 ∙ ap (λ l. before ++ l) (switch_notes typed _ _ _ is ∙ ap (switch_notes_of typed) (sym same)) in
     let fields = switch_fields _ _ _ is c.requires.fields in
@@ -373,11 +373,11 @@ emit_stmt-returns-in_ok-emit_switch-in-Switch-clause-taken t c =
 
 pub emit_stmt-returns-in_ok-emit_switch-in-Switch-clause-code : goal.emit_stmt-returns-in_ok-emit_switch-in-Switch-clause-code
 emit_stmt-returns-in_ok-emit_switch-in-Switch-clause-code t c =
-    let typed = c.args.typed.now in let on = c.in-Switch.on in let old = c.args.into.now in
-    let exits = exits_of c.args.exits in
+    let typed = c.args.typed.now in let on = c.get-in-Switch.result.now in let old = c.args.into.now in
+    let is = rw (← c.get-in-Switch.ensures) at c.in-Switch.is in let exits = exits_of c.args.exits in
     c.in_ok-emit_switch-in-Switch.ensures.code ∙
     ap (λ l. old ++ (value_code typed on (length old) 0 ++ switch_code_of typed exits l (length old + value_size typed on))) c.as_slice-in-Switch.ensures ∙
-    ap (λ l. old ++ l) (sym (switch_code typed exits _ _ _ (length old) c.in-Switch.is))
+    ap (λ l. old ++ l) (sym (switch_code typed exits _ _ _ (length old) is))
 
 pub emit_stmt-overflow_cast-len : goal.emit_stmt-overflow_cast-len
 emit_stmt-overflow_cast-len t c =

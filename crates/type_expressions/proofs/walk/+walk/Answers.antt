@@ -1,8 +1,11 @@
 -- What the walk makes of calls, members, operators and assignments.
-use Rattle.std.proofs.Common.{refl}
+use Rattle.std.proofs.Common.{refl, true}
+use Rattle.capl_meaning.specs.Sort.{kind_in, sort_of_prefix, sort_of_step}
+use Rattle.typed_source.specs.Expression.{assigned, stepping}
 use Rattle.check_sorts.specs.Scope.{scope_in}
-use Rattle.type_expressions.specs.Made.{order_in}
-use Rattle.type_expressions.proofs.WalkLemmas.{assignment_walked, binary_walked, bytes_made, call_walked, choice_walked, left_walked, named_made, paren_walked, part_of, prefix_walked, step_walked, there}
+use Rattle.type_expressions.specs.declared.made.Shape.TheVariants as shape
+use Rattle.type_expressions.specs.Made.{order_in, prefix_tree}
+use Rattle.type_expressions.proofs.WalkLemmas.{assignment_walked, binary_walked, bytes_made, call_walked, choice_walked, inner_walked, left_walked, named_made, paren_walked, part_of, prefix_walked, step_walked, there}
 use Rattle.type_expressions.proofs.walk.+walk.Goals as goal
 
 pub walk-returns-in-Paren-clause-value : goal.walk-returns-in-Paren-clause-value
@@ -85,47 +88,35 @@ walk-returns-in_ok-index-in-Bytes-clause-sort t c =
     c.in_ok-index-in-Bytes.ensures.tree c.in_ok-index-in-Bytes.ensures.sort c.in-Some.ensures
     (λ message held_is. c.payload.ensures c.args.scope.names.now message c.requires held_is)).sort
 
-pub walk-returns-in_ok-inner-in-Unary-clause-value : goal.walk-returns-in_ok-inner-in-Unary-clause-value
-walk-returns-in_ok-inner-in-Unary-clause-value t c =
-    (prefix_walked (scope_in c.args.scope) (order_in c.args.tables.now) c.args.e.now _ _ _ _ _ _ c.in_ok-inner-in-Unary.inner c.prefix.result
-    c.in-Unary.is c.get-in-Unary.ensures c.get-in-Unary-2.ensures c.is_number_place-is_place.ensures
-    (record { value = c.in_ok-inner-in-Unary.ensures.value; place = c.in_ok-inner-in-Unary.ensures.place; sort = c.in_ok-inner-in-Unary.ensures.sort })
-    c.prefix.ensures).value
+pub walk-returns-in-Unary-clause-value : goal.walk-returns-in-Unary-clause-value
+walk-returns-in-Unary-clause-value t c =
+    (prefix_walked (scope_in c.args.scope) (order_in c.args.tables.now) c.args.e.now _ _ _ _ c.walk_prefix.result c.in-Unary.is c.get-in-Unary.ensures
+    c.walk_prefix.ensures).value
 
-pub walk-returns-in_ok-inner-in-Unary-clause-place : goal.walk-returns-in_ok-inner-in-Unary-clause-place
-walk-returns-in_ok-inner-in-Unary-clause-place t c =
-    (prefix_walked (scope_in c.args.scope) (order_in c.args.tables.now) c.args.e.now _ _ _ _ _ _ c.in_ok-inner-in-Unary.inner c.prefix.result
-    c.in-Unary.is c.get-in-Unary.ensures c.get-in-Unary-2.ensures c.is_number_place-is_place.ensures
-    (record { value = c.in_ok-inner-in-Unary.ensures.value; place = c.in_ok-inner-in-Unary.ensures.place; sort = c.in_ok-inner-in-Unary.ensures.sort })
-    c.prefix.ensures).place
+pub walk-returns-in-Unary-clause-place : goal.walk-returns-in-Unary-clause-place
+walk-returns-in-Unary-clause-place t c =
+    (prefix_walked (scope_in c.args.scope) (order_in c.args.tables.now) c.args.e.now _ _ _ _ c.walk_prefix.result c.in-Unary.is c.get-in-Unary.ensures
+    c.walk_prefix.ensures).place
 
-pub walk-returns-in_ok-inner-in-Unary-clause-sort : goal.walk-returns-in_ok-inner-in-Unary-clause-sort
-walk-returns-in_ok-inner-in-Unary-clause-sort t c =
-    (prefix_walked (scope_in c.args.scope) (order_in c.args.tables.now) c.args.e.now _ _ _ _ _ _ c.in_ok-inner-in-Unary.inner c.prefix.result
-    c.in-Unary.is c.get-in-Unary.ensures c.get-in-Unary-2.ensures c.is_number_place-is_place.ensures
-    (record { value = c.in_ok-inner-in-Unary.ensures.value; place = c.in_ok-inner-in-Unary.ensures.place; sort = c.in_ok-inner-in-Unary.ensures.sort })
-    c.prefix.ensures).sort
+pub walk-returns-in-Unary-clause-sort : goal.walk-returns-in-Unary-clause-sort
+walk-returns-in-Unary-clause-sort t c =
+    (prefix_walked (scope_in c.args.scope) (order_in c.args.tables.now) c.args.e.now _ _ _ _ c.walk_prefix.result c.in-Unary.is c.get-in-Unary.ensures
+    c.walk_prefix.ensures).sort
 
-pub walk-returns-in_ok-inner-in-Post-clause-value : goal.walk-returns-in_ok-inner-in-Post-clause-value
-walk-returns-in_ok-inner-in-Post-clause-value t c =
-    (step_walked (scope_in c.args.scope) (order_in c.args.tables.now) c.args.e.now _ _ _ _ _ _ c.in_ok-inner-in-Post.inner c.step.result
-    c.in-Post.is c.get-in-Post.ensures c.get-in-Post-2.ensures c.is_number_place-is_place-in-Post.ensures
-    (record { value = c.in_ok-inner-in-Post.ensures.value; place = c.in_ok-inner-in-Post.ensures.place; sort = c.in_ok-inner-in-Post.ensures.sort })
-    c.step.ensures).value
+pub walk-returns-in-Post-clause-value : goal.walk-returns-in-Post-clause-value
+walk-returns-in-Post-clause-value t c =
+    (step_walked (scope_in c.args.scope) (order_in c.args.tables.now) c.args.e.now _ _ _ _ c.walk_step.result c.in-Post.is c.get-in-Post.ensures
+    c.walk_step.ensures).value
 
-pub walk-returns-in_ok-inner-in-Post-clause-place : goal.walk-returns-in_ok-inner-in-Post-clause-place
-walk-returns-in_ok-inner-in-Post-clause-place t c =
-    (step_walked (scope_in c.args.scope) (order_in c.args.tables.now) c.args.e.now _ _ _ _ _ _ c.in_ok-inner-in-Post.inner c.step.result
-    c.in-Post.is c.get-in-Post.ensures c.get-in-Post-2.ensures c.is_number_place-is_place-in-Post.ensures
-    (record { value = c.in_ok-inner-in-Post.ensures.value; place = c.in_ok-inner-in-Post.ensures.place; sort = c.in_ok-inner-in-Post.ensures.sort })
-    c.step.ensures).place
+pub walk-returns-in-Post-clause-place : goal.walk-returns-in-Post-clause-place
+walk-returns-in-Post-clause-place t c =
+    (step_walked (scope_in c.args.scope) (order_in c.args.tables.now) c.args.e.now _ _ _ _ c.walk_step.result c.in-Post.is c.get-in-Post.ensures
+    c.walk_step.ensures).place
 
-pub walk-returns-in_ok-inner-in-Post-clause-sort : goal.walk-returns-in_ok-inner-in-Post-clause-sort
-walk-returns-in_ok-inner-in-Post-clause-sort t c =
-    (step_walked (scope_in c.args.scope) (order_in c.args.tables.now) c.args.e.now _ _ _ _ _ _ c.in_ok-inner-in-Post.inner c.step.result
-    c.in-Post.is c.get-in-Post.ensures c.get-in-Post-2.ensures c.is_number_place-is_place-in-Post.ensures
-    (record { value = c.in_ok-inner-in-Post.ensures.value; place = c.in_ok-inner-in-Post.ensures.place; sort = c.in_ok-inner-in-Post.ensures.sort })
-    c.step.ensures).sort
+pub walk-returns-in-Post-clause-sort : goal.walk-returns-in-Post-clause-sort
+walk-returns-in-Post-clause-sort t c =
+    (step_walked (scope_in c.args.scope) (order_in c.args.tables.now) c.args.e.now _ _ _ _ c.walk_step.result c.in-Post.is c.get-in-Post.ensures
+    c.walk_step.ensures).sort
 
 pub walk-returns-in_ok-left-in-Binary-clause-value : goal.walk-returns-in_ok-left-in-Binary-clause-value
 walk-returns-in_ok-left-in-Binary-clause-value t c =
@@ -150,8 +141,8 @@ walk-returns-in_ok-no-in-Cond-clause-value t c =
     (choice_walked (scope_in c.args.scope) (order_in c.args.tables.now) c.args.e.now _ _ _ _ _ _ _ _ _ _ c.walk_choice.result
     c.in-Cond.is
     (part_of _ _ _ _ _ _ c.get-in-Cond-3.ensures refl refl)
-    (part_of _ _ _ _ _ _ c.get-in-Cond.ensures c.in_ok-yes-in-Cond.ensures.value c.in_ok-yes-in-Cond.ensures.sort)
-    (part_of _ _ _ _ _ _ c.get-in-Cond-2.ensures c.in_ok-no-in-Cond.ensures.value c.in_ok-no-in-Cond.ensures.sort)
+    (part_of _ _ _ _ _ _ c.get-in-Cond.ensures c.in_ok-yes-in-Cond.ensures.tree c.in_ok-yes-in-Cond.ensures.sort)
+    (part_of _ _ _ _ _ _ c.get-in-Cond-2.ensures c.in_ok-no-in-Cond.ensures.tree c.in_ok-no-in-Cond.ensures.sort)
     c.walk_choice.ensures).value
 
 pub walk-returns-in_ok-no-in-Cond-clause-place : goal.walk-returns-in_ok-no-in-Cond-clause-place
@@ -159,8 +150,8 @@ walk-returns-in_ok-no-in-Cond-clause-place t c =
     (choice_walked (scope_in c.args.scope) (order_in c.args.tables.now) c.args.e.now _ _ _ _ _ _ _ _ _ _ c.walk_choice.result
     c.in-Cond.is
     (part_of _ _ _ _ _ _ c.get-in-Cond-3.ensures refl refl)
-    (part_of _ _ _ _ _ _ c.get-in-Cond.ensures c.in_ok-yes-in-Cond.ensures.value c.in_ok-yes-in-Cond.ensures.sort)
-    (part_of _ _ _ _ _ _ c.get-in-Cond-2.ensures c.in_ok-no-in-Cond.ensures.value c.in_ok-no-in-Cond.ensures.sort)
+    (part_of _ _ _ _ _ _ c.get-in-Cond.ensures c.in_ok-yes-in-Cond.ensures.tree c.in_ok-yes-in-Cond.ensures.sort)
+    (part_of _ _ _ _ _ _ c.get-in-Cond-2.ensures c.in_ok-no-in-Cond.ensures.tree c.in_ok-no-in-Cond.ensures.sort)
     c.walk_choice.ensures).place
 
 pub walk-returns-in_ok-no-in-Cond-clause-sort : goal.walk-returns-in_ok-no-in-Cond-clause-sort
@@ -168,8 +159,8 @@ walk-returns-in_ok-no-in-Cond-clause-sort t c =
     (choice_walked (scope_in c.args.scope) (order_in c.args.tables.now) c.args.e.now _ _ _ _ _ _ _ _ _ _ c.walk_choice.result
     c.in-Cond.is
     (part_of _ _ _ _ _ _ c.get-in-Cond-3.ensures refl refl)
-    (part_of _ _ _ _ _ _ c.get-in-Cond.ensures c.in_ok-yes-in-Cond.ensures.value c.in_ok-yes-in-Cond.ensures.sort)
-    (part_of _ _ _ _ _ _ c.get-in-Cond-2.ensures c.in_ok-no-in-Cond.ensures.value c.in_ok-no-in-Cond.ensures.sort)
+    (part_of _ _ _ _ _ _ c.get-in-Cond.ensures c.in_ok-yes-in-Cond.ensures.tree c.in_ok-yes-in-Cond.ensures.sort)
+    (part_of _ _ _ _ _ _ c.get-in-Cond-2.ensures c.in_ok-no-in-Cond.ensures.tree c.in_ok-no-in-Cond.ensures.sort)
     c.walk_choice.ensures).sort
 
 pub walk-returns-in_ok-right-in-Assign-clause-value : goal.walk-returns-in_ok-right-in-Assign-clause-value
@@ -189,6 +180,22 @@ walk-returns-in_ok-right-in-Assign-clause-sort t c =
     (assignment_walked (scope_in c.args.scope) (order_in c.args.tables.now) c.args.e.now _ _ _ _ _ _ _ _ c.walk_assignment.result
     c.in-Assign.is c.get-in-Assign-2.ensures c.get-in-Assign.ensures c.in_ok-right-in-Assign.ensures.tree
     c.in_ok-right-in-Assign.ensures.sort c.walk_assignment.ensures).sort
+
+pub walk_prefix-returns : goal.walk_prefix-returns
+walk_prefix-returns t c =
+    inner_walked (scope_in c.args.scope) (order_in c.args.tables.now) c.args.inner.now _ c.in_ok-inner.inner
+    (λ k b p v. record { shape = shape.Value (prefix_tree c.args.op k (assigned b p) v); sort = sort_of_prefix c.args.op b k })
+    c.prefix.result c.is_number_place-is_place.ensures
+    (record { value = c.in_ok-inner.ensures.value; place = c.in_ok-inner.ensures.place; sort = c.in_ok-inner.ensures.sort })
+    c.prefix.ensures
+
+pub walk_step-returns : goal.walk_step-returns
+walk_step-returns t c =
+    inner_walked (scope_in c.args.scope) (order_in c.args.tables.now) c.args.inner.now _ c.in_ok-inner.inner
+    (λ k b p v. record { shape = shape.Value (stepping (kind_in k) c.args.up true (assigned b p)); sort = sort_of_step b k })
+    c.step.result c.is_number_place-is_place.ensures
+    (record { value = c.in_ok-inner.ensures.value; place = c.in_ok-inner.ensures.place; sort = c.in_ok-inner.ensures.sort })
+    c.step.ensures
 
 pub walk_assignment-returns : goal.walk_assignment-returns
 walk_assignment-returns t c =

@@ -1,14 +1,18 @@
 -- Forms with parts, and turns of loops.
-use Rattle.std.proofs.Common.{◌≡◌, ◌++◌, ◌∙◌, IfOk, ap, length, refl, rules, subst, sym}
+use Rattle.std.proofs.Common.{◌≡◌, ◌++◌, ◌∙◌, IfOk, OnOk, ap, length, refl, rules, subst, sym}
 use Rattle.std.proofs.lemmas.Result.{on_ok_weaker}
 use Rattle.capl_tree.specs.declared.statement.Stmt.{the_lemmas}
+use Rattle.capl_tree.specs.declared.statement.Stmt.TheVariants as stmt
+use Rattle.typed_tree.specs.declared.statement.TStmt.TheVariants as typed
+use Rattle.typed_tree.specs.Forms.{Convert}
+use Rattle.capl_meaning.specs.Constant.{prefix_kind}
 use Rattle.typed_source.specs.Expression.{expression_of}
-use Rattle.typed_source.specs.Statement.{formats_of, formats_of_part}
+use Rattle.typed_source.specs.Statement.{formats_of, formats_of_part, statement_of}
 use Rattle.typed_source.specs.Program.{formats_of_body}
 use Rattle.check_sorts.specs.Scope.{scope_in}
-use Rattle.type_statements.specs.Rows.{else_in, formats_in_arms, formats_in_else, formats_in_groups}
+use Rattle.type_statements.specs.Rows.{else_in, formats_in_arms, formats_in_else, formats_in_groups, groups_in}
 use Rattle.type_statements.specs.Tables.{order_of}
-use Rattle.type_statements.proofs.MadeLemmas.{arms_turn, body_turn, do_made, for_formats_made, for_made, formats_turn, groups_turn, if_formats_made, if_made, part_formats, there_already, while_made}
+use Rattle.type_statements.proofs.MadeLemmas.{arms_turn, body_turn, do_made, for_formats_made, for_made, for_of, formats_turn, groups_turn, if_formats_made, if_made, part_formats, switch_formats_made, switch_made, there_already, while_made}
 use Rattle.type_statements.proofs.RoomLemmas.{room_first, room_rest, room_same, room_third, room_two}
 use Rattle.type_statements.proofs.RowLemmas.{block_formats, do_formats, for_formats, if_formats, switch_formats, while_formats}
 use Rattle.type_statements.proofs.statement.+statement.Goals as goal
@@ -57,6 +61,17 @@ make_groups-loop-group-preserved t c =
           ∙ c.loop-group.invariant.formats;
     }
 
+pub make_statement-make_body-requires : goal.make_statement-make_body-requires
+make_statement-make_body-requires t c =
+    let s = scope_in c.args.scope in (
+      search (rules, the_lemmas, c.in-Block.is, c.as_slice.ensures),
+      (
+        c.requires.tables,
+        room_same c.args.formats.now.items (formats_of s c.args.s.now) (formats_of_body s c.as_slice.result.now)
+            (block_formats s c.args.s.now _ c.in-Block.is ∙ ap (formats_of_body s) (sym c.as_slice.ensures)) c.requires.room,
+      ),
+    )
+
 pub make_statement-returns-in_ok-arms-in-If-clause-tree :
     goal.make_statement-returns-in_ok-arms-in-If-clause-tree
 make_statement-returns-in_ok-arms-in-If-clause-tree t c =
@@ -77,72 +92,6 @@ make_statement-returns-in_ok-arms-in-If-clause-formats t c =
     c.make_if.new.formats.items c.args.s.now c.in-If.arms _ c.in-If.other c.in-If.is c.as_slice-in-If.ensures
     c.in_ok-arms-in-If.ensures.formats)
     c.make_if.ensures.formats
-
-pub make_statement-returns-in_ok-body-in-While-clause-tree :
-    goal.make_statement-returns-in_ok-body-in-While-clause-tree
-make_statement-returns-in_ok-body-in-While-clause-tree t c =
-    subst (λ one. IfOk c.make_while.result (λ tree. tree ≡ one))
-    (while_made (scope_in c.args.scope) (order_of c.args.tables.now) (length c.args.formats.now.items) c.args.s.now c.in-While.test
-    c.in-While.body _ c.in_ok-body-in-While.body c.in-While.is c.get.ensures c.in_ok-body-in-While.ensures.tree)
-    c.make_while.ensures
-
-pub make_statement-returns-in_ok-body-in-While-clause-formats :
-    goal.make_statement-returns-in_ok-body-in-While-clause-formats
-make_statement-returns-in_ok-body-in-While-clause-formats t c =
-    let s = scope_in c.args.scope in
-    there_already c.make_while.result
-    (part_formats s c.args.formats.now.items c.make_statement.new.formats.items c.args.s.now _ c.in-While.body c.get.ensures
-    (while_formats s c.args.s.now c.in-While.test c.in-While.body c.in-While.is) c.in_ok-body-in-While.ensures.formats)
-
-pub make_statement-returns-in_ok-body-in-Do-clause-tree :
-    goal.make_statement-returns-in_ok-body-in-Do-clause-tree
-make_statement-returns-in_ok-body-in-Do-clause-tree t c =
-    subst (λ one. IfOk c.make_do.result (λ tree. tree ≡ one))
-    (do_made (scope_in c.args.scope) (order_of c.args.tables.now) (length c.args.formats.now.items) c.args.s.now c.in-Do.body
-    c.in-Do.test _ c.in_ok-body-in-Do.body c.in-Do.is c.get-in-Do.ensures c.in_ok-body-in-Do.ensures.tree)
-    c.make_do.ensures
-
-pub make_statement-returns-in_ok-body-in-Do-clause-formats :
-    goal.make_statement-returns-in_ok-body-in-Do-clause-formats
-make_statement-returns-in_ok-body-in-Do-clause-formats t c =
-    let s = scope_in c.args.scope in
-    there_already c.make_do.result
-    (part_formats s c.args.formats.now.items c.make_statement-in-Do.new.formats.items c.args.s.now _ c.in-Do.body c.get-in-Do.ensures
-    (do_formats s c.args.s.now c.in-Do.body c.in-Do.test c.in-Do.is) c.in_ok-body-in-Do.ensures.formats)
-
-pub make_statement-returns-in_ok-body-in-For-clause-tree :
-    goal.make_statement-returns-in_ok-body-in-For-clause-tree
-make_statement-returns-in_ok-body-in-For-clause-tree t c =
-    let s = scope_in c.args.scope in
-    let old = c.args.formats.now.items in
-    subst (λ one. IfOk c.make_for.result (λ tree. tree ≡ one))
-    (for_made s (order_of c.args.tables.now) old (old ++ formats_of_part s c.in-For.init) c.make_head.new.formats.items c.args.s.now
-    c.in-For.init c.in-For.test c.in-For.step c.in-For.body _ c.in_ok-head-in-For.head.init c.in_ok-head-in-For.head.test
-    c.in_ok-head-in-For.head.step c.in_ok-body-in-For.body c.in_ok-body-in-For.body c.in-For.is c.get-in-For.ensures refl
-    c.in_ok-head-in-For.ensures.formats c.in_ok-head-in-For.ensures.init c.in_ok-head-in-For.ensures.test
-    c.in_ok-head-in-For.ensures.step c.in_ok-body-in-For.ensures.tree refl)
-    c.make_for.ensures
-
-pub make_statement-returns-in_ok-body-in-For-clause-formats :
-    goal.make_statement-returns-in_ok-body-in-For-clause-formats
-make_statement-returns-in_ok-body-in-For-clause-formats t c =
-    let s = scope_in c.args.scope in
-    let old = c.args.formats.now.items in
-    there_already c.make_for.result
-    (for_formats_made s (order_of c.args.tables.now) old (old ++ formats_of_part s c.in-For.init) c.make_head.new.formats.items
-    c.make_statement-in-For.new.formats.items c.args.s.now c.in-For.init c.in-For.test c.in-For.step c.in-For.body _ c.in-For.is
-    c.get-in-For.ensures refl c.in_ok-head-in-For.ensures.formats c.in_ok-body-in-For.ensures.formats)
-
-pub make_statement-make_body-requires : goal.make_statement-make_body-requires
-make_statement-make_body-requires t c =
-    let s = scope_in c.args.scope in (
-      search (rules, the_lemmas, c.in-Block.is, c.as_slice.ensures),
-      (
-        c.requires.tables,
-        room_same c.args.formats.now.items (formats_of s c.args.s.now) (formats_of_body s c.as_slice.result.now)
-            (block_formats s c.args.s.now _ c.in-Block.is ∙ ap (formats_of_body s) (sym c.as_slice.ensures)) c.requires.room,
-      ),
-    )
 
 pub make_statement-make_arms-requires : goal.make_statement-make_arms-requires
 make_statement-make_arms-requires t c =
@@ -176,8 +125,8 @@ make_statement-make_if-requires t c =
       ),
     )
 
-pub make_statement-make_statement-requires : goal.make_statement-make_statement-requires
-make_statement-make_statement-requires t c =
+pub make_statement-make_while-requires : goal.make_statement-make_while-requires
+make_statement-make_while-requires t c =
     let s = scope_in c.args.scope in (
       search (rules, the_lemmas, c.in-While.is, c.get.ensures),
       (
@@ -187,8 +136,23 @@ make_statement-make_statement-requires t c =
       ),
     )
 
-pub make_statement-make_statement-requires-in-Do : goal.make_statement-make_statement-requires-in-Do
-make_statement-make_statement-requires-in-Do t c =
+pub make_statement-returns-in-While-clause-tree : goal.make_statement-returns-in-While-clause-tree
+make_statement-returns-in-While-clause-tree t c =
+    subst (λ one. IfOk c.make_while.result (λ tree. tree ≡ one))
+    (while_made (scope_in c.args.scope) (order_of c.args.tables.now) (length c.args.formats.now.items) c.args.s.now c.in-While.test
+    c.in-While.body c.get.result.now _ c.in-While.is c.get.ensures refl)
+    c.make_while.ensures.tree
+
+pub make_statement-returns-in-While-clause-formats : goal.make_statement-returns-in-While-clause-formats
+make_statement-returns-in-While-clause-formats t c =
+    let s = scope_in c.args.scope in
+    on_ok_weaker c.make_while.result
+    (part_formats s c.args.formats.now.items c.make_while.new.formats.items c.args.s.now _ c.in-While.body c.get.ensures
+    (while_formats s c.args.s.now c.in-While.test c.in-While.body c.in-While.is))
+    c.make_while.ensures.formats
+
+pub make_statement-make_do-requires : goal.make_statement-make_do-requires
+make_statement-make_do-requires t c =
     let s = scope_in c.args.scope in (
       search (rules, the_lemmas, c.in-Do.is, c.get-in-Do.ensures),
       (
@@ -198,34 +162,101 @@ make_statement-make_statement-requires-in-Do t c =
       ),
     )
 
-pub make_statement-make_head-requires-clause-room : goal.make_statement-make_head-requires-clause-room
-make_statement-make_head-requires-clause-room t c =
-    let s = scope_in c.args.scope in
-    let old = c.args.formats.now.items in
-    let init = formats_of_part s c.in-For.init in
-    let step = formats_of_part s c.in-For.step in
-    room_two old init step (formats_of s c.in-For.body)
-    (room_same old (formats_of s c.args.s.now) (init ++ (step ++ formats_of s c.in-For.body))
-    (for_formats s c.args.s.now c.in-For.init c.in-For.test c.in-For.step c.in-For.body c.in-For.is) c.requires.room)
+pub make_statement-returns-in-Do-clause-tree : goal.make_statement-returns-in-Do-clause-tree
+make_statement-returns-in-Do-clause-tree t c =
+    subst (λ one. IfOk c.make_do.result (λ tree. tree ≡ one))
+    (do_made (scope_in c.args.scope) (order_of c.args.tables.now) (length c.args.formats.now.items) c.args.s.now c.in-Do.body
+    c.in-Do.test c.get-in-Do.result.now _ c.in-Do.is c.get-in-Do.ensures refl)
+    c.make_do.ensures.tree
 
-pub make_statement-make_statement-requires-in-For : goal.make_statement-make_statement-requires-in-For
-make_statement-make_statement-requires-in-For t c =
+pub make_statement-returns-in-Do-clause-formats : goal.make_statement-returns-in-Do-clause-formats
+make_statement-returns-in-Do-clause-formats t c =
     let s = scope_in c.args.scope in
-    let old = c.args.formats.now.items in
-    let init = formats_of_part s c.in-For.init in
-    let step = formats_of_part s c.in-For.step in (
+    on_ok_weaker c.make_do.result
+    (part_formats s c.args.formats.now.items c.make_do.new.formats.items c.args.s.now _ c.in-Do.body c.get-in-Do.ensures
+    (do_formats s c.args.s.now c.in-Do.body c.in-Do.test c.in-Do.is))
+    c.make_do.ensures.formats
+
+pub make_statement-make_for-requires : goal.make_statement-make_for-requires
+make_statement-make_for-requires t c =
+    let s = scope_in c.args.scope in (
       search (rules, the_lemmas, c.in-For.is, c.get-in-For.ensures),
       (
         c.requires.tables,
-        room_third old c.make_head.new.formats.items init step (formats_of s c.in-For.body) (formats_of s c.get-in-For.result.now)
-            c.in_ok-head-in-For.ensures.formats (ap (formats_of s) c.get-in-For.ensures)
-            (room_same old (formats_of s c.args.s.now) (init ++ (step ++ formats_of s c.in-For.body))
-            (for_formats s c.args.s.now c.in-For.init c.in-For.test c.in-For.step c.in-For.body c.in-For.is) c.requires.room),
+        room_same c.args.formats.now.items (formats_of s c.args.s.now)
+            (formats_of s (stmt.For c.in-For.init c.in-For.test c.in-For.step c.get-in-For.result.now))
+            (ap (formats_of s) (for_of c.args.s.now c.in-For.init c.in-For.test c.in-For.step c.in-For.body c.get-in-For.result.now
+            c.in-For.is c.get-in-For.ensures))
+            c.requires.room,
       ),
     )
 
-pub make_statement-make_groups-requires : goal.make_statement-make_groups-requires
-make_statement-make_groups-requires t c =
+pub make_statement-returns-in-For-clause-tree : goal.make_statement-returns-in-For-clause-tree
+make_statement-returns-in-For-clause-tree t c =
+    subst (λ x. IfOk c.make_for.result
+    (λ tree. tree ≡ statement_of (scope_in c.args.scope) (order_of c.args.tables.now) (length c.args.formats.now.items) x))
+    (sym (for_of c.args.s.now c.in-For.init c.in-For.test c.in-For.step c.in-For.body c.get-in-For.result.now c.in-For.is c.get-in-For.ensures))
+    c.make_for.ensures.tree
+
+pub make_statement-returns-in-For-clause-formats : goal.make_statement-returns-in-For-clause-formats
+make_statement-returns-in-For-clause-formats t c =
+    subst (λ x. OnOk c.make_for.result
+    (c.make_for.new.formats.items ≡ c.args.formats.now.items ++ formats_of (scope_in c.args.scope) x))
+    (sym (for_of c.args.s.now c.in-For.init c.in-For.test c.in-For.step c.in-For.body c.get-in-For.result.now c.in-For.is c.get-in-For.ensures))
+    c.make_for.ensures.formats
+
+pub make_for-make_head-requires-clause-room : goal.make_for-make_head-requires-clause-room
+make_for-make_head-requires-clause-room t c =
+    let s = scope_in c.args.scope in
+    let old = c.args.formats.now.items in
+    let init = formats_of_part s c.args.init.now in
+    let step = formats_of_part s c.args.step.now in
+    let whole = stmt.For c.args.init.now c.args.test.now c.args.step.now c.args.body.now in
+    room_two old init step (formats_of s c.args.body.now)
+    (room_same old (formats_of s whole) (init ++ (step ++ formats_of s c.args.body.now))
+    (for_formats s whole c.args.init.now c.args.test.now c.args.step.now c.args.body.now refl) c.requires.room)
+
+pub make_for-make_statement-requires : goal.make_for-make_statement-requires
+make_for-make_statement-requires t c =
+    let s = scope_in c.args.scope in
+    let old = c.args.formats.now.items in
+    let init = formats_of_part s c.args.init.now in
+    let step = formats_of_part s c.args.step.now in
+    let whole = stmt.For c.args.init.now c.args.test.now c.args.step.now c.args.body.now in (
+      search (rules, the_lemmas),
+      (
+        c.requires.tables,
+        room_third old c.make_head.new.formats.items init step (formats_of s c.args.body.now) (formats_of s c.args.body.now)
+            c.in_ok-head.ensures.formats refl
+            (room_same old (formats_of s whole) (init ++ (step ++ formats_of s c.args.body.now))
+            (for_formats s whole c.args.init.now c.args.test.now c.args.step.now c.args.body.now refl) c.requires.room),
+      ),
+    )
+
+pub make_for-returns-clause-tree : goal.make_for-returns-clause-tree
+make_for-returns-clause-tree t c =
+    let s = scope_in c.args.scope in
+    let old = c.args.formats.now.items in
+    let whole = stmt.For c.args.init.now c.args.test.now c.args.step.now c.args.body.now in
+    subst (λ one. IfOk c.for_with.result (λ tree. tree ≡ one))
+    (for_made s (order_of c.args.tables.now) old (old ++ formats_of_part s c.args.init.now) c.make_head.new.formats.items whole
+    c.args.init.now c.args.test.now c.args.step.now c.args.body.now c.args.body.now c.in_ok-head.head.init c.in_ok-head.head.test
+    c.in_ok-head.head.step c.in_ok-made.made c.in_ok-made.made refl refl refl c.in_ok-head.ensures.formats c.in_ok-head.ensures.init
+    c.in_ok-head.ensures.test c.in_ok-head.ensures.step c.in_ok-made.ensures.tree refl)
+    c.for_with.ensures
+
+pub make_for-returns-clause-formats : goal.make_for-returns-clause-formats
+make_for-returns-clause-formats t c =
+    let s = scope_in c.args.scope in
+    let old = c.args.formats.now.items in
+    let whole = stmt.For c.args.init.now c.args.test.now c.args.step.now c.args.body.now in
+    there_already c.for_with.result
+    (for_formats_made s (order_of c.args.tables.now) old (old ++ formats_of_part s c.args.init.now) c.make_head.new.formats.items
+    c.make_statement.new.formats.items whole c.args.init.now c.args.test.now c.args.step.now c.args.body.now c.args.body.now refl refl refl
+    c.in_ok-head.ensures.formats c.in_ok-made.ensures.formats)
+
+pub make_statement-make_switch-requires : goal.make_statement-make_switch-requires
+make_statement-make_switch-requires t c =
     let s = scope_in c.args.scope in (
       search (rules, the_lemmas, c.in-Switch.is, c.as_slice-in-Switch.ensures),
       (
@@ -234,3 +265,22 @@ make_statement-make_groups-requires t c =
             (switch_formats s c.args.s.now _ _ c.in-Switch.is ∙ ap (formats_in_groups s) (sym c.as_slice-in-Switch.ensures)) c.requires.room,
       ),
     )
+
+pub make_statement-returns-in-Switch-clause-tree : goal.make_statement-returns-in-Switch-clause-tree
+make_statement-returns-in-Switch-clause-tree t c =
+    let s = scope_in c.args.scope in
+    let order = order_of c.args.tables.now in
+    let before = length c.args.formats.now.items in
+    subst (λ one. IfOk c.make_switch.result (λ tree. tree ≡ one))
+    (ap (λ on. typed.Switch (Convert (prefix_kind s on) (expression_of s order on))
+    (groups_in s order (prefix_kind s on) before c.as_slice-in-Switch.result.now)) c.get-in-Switch.ensures
+    ∙ switch_made s order before c.args.s.now c.in-Switch.on c.in-Switch.groups c.as_slice-in-Switch.result.now _ _ _ c.in-Switch.is
+    c.as_slice-in-Switch.ensures refl refl refl)
+    c.make_switch.ensures.tree
+
+pub make_statement-returns-in-Switch-clause-formats : goal.make_statement-returns-in-Switch-clause-formats
+make_statement-returns-in-Switch-clause-formats t c =
+    on_ok_weaker c.make_switch.result
+    (switch_formats_made (scope_in c.args.scope) (order_of c.args.tables.now) c.args.formats.now.items c.make_switch.new.formats.items
+    c.args.s.now c.in-Switch.on c.in-Switch.groups c.as_slice-in-Switch.result.now c.in-Switch.is c.as_slice-in-Switch.ensures)
+    c.make_switch.ensures.formats

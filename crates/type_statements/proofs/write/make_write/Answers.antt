@@ -1,5 +1,5 @@
 -- What is written with a format, and without one.
-use Rattle.std.proofs.Common.{◌≡◌, ◌∙◌, ◌++◌, [], ◌∷◌, IfOk, OnOk, ap, length, length-append, subst, sym, arith}
+use Rattle.std.proofs.Common.{◌≡◌, ◌∙◌, ◌++◌, IfOk, OnOk, ap, length, length-append, subst, sym, arith}
 use Rattle.std.proofs.lemmas.List.{append-nil}
 use Rattle.typed_tree.specs.declared.statement.TStmt.TheVariants.{Write}
 use Rattle.check_sorts.specs.Scope.{scope_in}
