@@ -1,5 +1,5 @@
--- Short sources at the edges of rules, and what their definitions come to. The numbers are those of the
--- sources' tokens.
+-- Short sources and signals at the edges of rules, and what their definitions come to. The numbers of sources
+-- are those of their tokens.
 use Rattle.std.specs.Prelude.{ℕ, Bool, true, false, List, [], ◌∷◌, map, codes, Some, None}
 use Rattle.int_kinds.specs.declared.kinds.Kind.TheVariants.{Byte, Dword, Long}
 use Rattle.int_kinds.specs.declared.operators.BinOp.TheVariants as op

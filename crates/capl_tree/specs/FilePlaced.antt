@@ -1,10 +1,10 @@
--- Where each part of a file stands: its `at` is the number of its first token. Those of a parameter, of a
--- function and of a timer's procedure are that of the name, and that of a selector is behind its channel.
+-- Where each part of a file stands: its `at` is the number of its first token. That of a parameter, and of
+-- the head of a function or of a timer's procedure, is that of the name, and a selector's that of the token
+-- behind its channel.
 --
 -- The file has `total` tokens. A part is written out before the rest of the file, so that the number of its
 -- first token and the count of the tokens from there on make the total.
-use Rattle.std.specs.Prelude.{ℕ, Bool, List, [], ◌∷◌, Option, Some, None, ⊤}
-use Rattle.texts.specs.declared.text.Text.{Text}
+use Rattle.std.specs.Prelude.{ℕ, List, [], ◌∷◌, Option, Some, None, ⊤}
 use Rattle.capl_lexer.specs.declared.token.Tok.{Tok}
 use Rattle.capl_lexer.specs.declared.token.Tok.TheVariants as tok
 use Rattle.capl_lexer.specs.declared.token.Word.TheVariants as word
@@ -124,7 +124,7 @@ IsSelectorPlaced total s rest = IsSelectionPlaced total s.what rest
 abbrev pub IsParameterPlaced : ℕ → Param → List Tok → Type 0
 IsParameterPlaced total p rest = IsAt total p.at (tok.Name p.name ∷ rest)
 
--- the head of a procedure; the place of a timer's procedure and of a function is that of the name
+-- the head of a procedure; the place of the head of a timer's procedure and of a function is that of the name
 abbrev pub IsHeadPlaced : ℕ → Voids → Head → List Tok → Type 0
 IsHeadPlaced total voids (head.Message selectors) rest =
     EachBefore selector (IsSelectorPlaced total) selectors rest

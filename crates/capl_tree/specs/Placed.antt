@@ -20,8 +20,8 @@ use Rattle.capl_tree.specs.declared.declaration.Init.TheVariants.{One, Many}
 use Rattle.capl_tree.specs.declared.declaration.Item.{Item}
 use Rattle.capl_tree.specs.declared.declaration.Item.TheVariants.{Plain, Set}
 use Rattle.capl_tree.specs.Forms as form
-use Rattle.capl_tree.specs.Signs.{operator_sign, prefix_sign, postfix_sign, assignment_sign, kind_word}
-use Rattle.capl_tree.specs.Spelling.{expression, field, arguments, further_arguments, further, separated, item, initialiser, size_part, first_part, declarator, declared_type, declaration}
+use Rattle.capl_tree.specs.Signs.{operator_sign, postfix_sign, assignment_sign}
+use Rattle.capl_tree.specs.Spelling.{expression, field, further_arguments, further, separated, item, initialiser, first_part, declarator, declaration}
 
 -- the number of the first of these tokens, the last of a file
 abbrev pub IsAt : ℕ → ℕ → List Tok → Type 0

@@ -34,7 +34,7 @@ fn source(alloc: Global) -> Result<Program, AllocError>
     })
 }
 
-/// The cells of that program, and what is in them at first.
+/// The cells of the program `byte b = 255; on start { .. }`, and what is in them at first.
 fn cells(alloc: Global) -> Result<(Vec<Kind>, Vec<(u32, i128)>), AllocError>
     ensures kinds { IfOk result (λ cells. cells.0.items ≡ (on_start []).cells) }
     ensures starts { IfOk result (λ cells. cells.1.items ≡ (on_start []).starts) }
@@ -81,7 +81,7 @@ fn endless_loop(alloc: Global) -> Result<TStmt, AllocError>
     ensures { IfOk result (λ statement. statement ∷ [] ≡ endless_loop) }
 {
     Ok(TStmt::While {
-        test: TExpr::Const(1),
+        test: Boxed::new(alloc, TExpr::Const(1))?,
         body: Boxed::new(alloc, TStmt::Empty)?,
     })
 }

@@ -30,15 +30,18 @@ fn check_cells(rt: &impl Abort, alloc: Global, names: &Names, layout: &Layout) -
     Ok(())
 }
 
+/// The variables of this program lie one behind the other, with their kinds and units.
+fn check_program(rt: &impl Abort, alloc: Global, names: &Names) -> Result<(), Fail> {
+    let constants = Constants::build(alloc, names)?;
+    let layout = Layout::build(alloc, names, &constants)?.ok_or("it has few cells")?;
+    check_layout(rt, &layout);
+    check_cells(rt, alloc, names, &layout)
+}
+
 #[test]
 fn variables_lie_one_behind_the_other(rt: HostRuntime) -> Result<(), Fail> {
     let alloc = rt.alloc();
     let program = program(alloc, "variables { message * m; msTimer t; byte b; }")?;
     let named = Names::build(alloc, &program, None)?;
-    let names = &named.names;
-    let constants = Constants::build(alloc, names)?;
-    let layout = Layout::build(alloc, names, &constants)?.ok_or("it has few cells")?;
-    check_layout(&rt, &layout);
-    check_cells(&rt, alloc, names, &layout)?;
-    Ok(())
+    check_program(&rt, alloc, &named.names)
 }

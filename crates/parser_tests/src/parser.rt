@@ -310,24 +310,33 @@ fn other_sources_are_refused(rt: HostRuntime) -> Result<(), Fail> {
     Ok(())
 }
 
-/// Whether an operator binds more strongly than another, and groups to the left.
+/// Whether `a FIRST b SECOND c;` is a statement of this expression.
+fn is_grouped(alloc: Global, first: &str, second: &str, tree: &str) -> Result<bool, Fail> {
+    let source = format!(in alloc; "f() {{ a {first} b {second} c; }}")?;
+    let found = shown(alloc, &source)?;
+    let wanted = format!(in alloc; "(Proc@0 (Function@0 f) (Expr {tree}))")?;
+    Ok(found == wanted)
+}
+
+/// Whether an operator takes its operands before another one that stands before it.
+fn is_first_behind(alloc: Global, weak: (&str, &str), strong: (&str, &str)) -> Result<bool, Fail> {
+    let tree = format!(in alloc; "({}@4 a@4 ({}@6 b@6 c@8))", weak.1, strong.1)?;
+    is_grouped(alloc, weak.0, strong.0, &tree)
+}
+
+/// Whether an operator takes its operands before another one that stands behind it.
+fn is_first_before(alloc: Global, strong: (&str, &str), weak: (&str, &str)) -> Result<bool, Fail> {
+    let tree = format!(in alloc; "({}@4 ({}@4 a@4 b@6) c@8)", weak.1, strong.1)?;
+    is_grouped(alloc, strong.0, weak.0, &tree)
+}
+
+/// Whether an operator binds more strongly than another, which groups to the left.
 fn are_neighbours(alloc: Global, weak: (&str, &str), strong: (&str, &str)) -> Result<bool, Fail> {
-    let (sign, form) = weak;
-    let (other, inner) = strong;
-    let behind = shown(
-        alloc,
-        &format!(in alloc; "f() {{ a {sign} b {other} c; }}")?,
-    )?;
-    let before = shown(
-        alloc,
-        &format!(in alloc; "f() {{ a {other} b {sign} c; }}")?,
-    )?;
-    let row = shown(alloc, &format!(in alloc; "f() {{ a {sign} b {sign} c; }}")?)?;
-    let front = "(Proc@0 (Function@0 f) (Expr";
-    let right = format!(in alloc; "{front} ({form}@4 a@4 ({inner}@6 b@6 c@8))))")?;
-    let left = format!(in alloc; "{front} ({form}@4 ({inner}@4 a@4 b@6) c@8)))")?;
-    let same = format!(in alloc; "{front} ({form}@4 ({form}@4 a@4 b@6) c@8)))")?;
-    Ok(behind == right && before == left && row == same)
+    Ok(
+        is_first_behind(alloc, weak, strong)?
+            && is_first_before(alloc, strong, weak)?
+            && is_first_before(alloc, weak, weak)?,
+    )
 }
 
 #[test]

@@ -1,5 +1,9 @@
 // The typed trees of statements.
 
+ghost use Rattle.std.specs.Prelude.{Some};
+ghost use Rattle.check_sorts.specs.Constant.{AreConstantsOf};
+ghost use Rattle.typed_laws.specs.Laid.{AreDistinct};
+ghost use Rattle.type_expressions.specs.Layout.{IsLaidOut};
 ghost use Rattle.type_statements.specs.Tables.{AreTables};
 
 use capl_tree::Stmt;
@@ -66,23 +70,44 @@ fn check_write(
     Ok(())
 }
 
+/// What is made by the tables of a program without names of its own.
+fn check_tables(
+    rt: &impl Abort,
+    alloc: Global,
+    names: &Names,
+    constants: &Constants,
+    layout: &Layout,
+) -> Result<(), Fail>
+    requires constants { AreConstantsOf names.now constants.now }
+    requires layout { IsLaidOut names.now (Some layout.now) }
+    requires distinct { AreDistinct names.now.variables }
+{
+    let calls = Calls::build(alloc, names)?;
+    let tables = StatementTables {
+        trees: TreeTables {
+            layout,
+            calls: &calls,
+        },
+        constants,
+    };
+    check_break(rt, alloc, names, &tables)?;
+    check_body(rt, alloc, names, &tables)?;
+    check_write(rt, alloc, names, &tables)
+}
+
+/// What is made in such a program.
+fn check_program(rt: &impl Abort, alloc: Global, names: &Names) -> Result<(), Fail>
+    requires { AreDistinct names.now.variables }
+{
+    let constants = Constants::build(alloc, names)?;
+    let layout = Layout::build(alloc, names, &constants)?.ok_or("it has few cells")?;
+    check_tables(rt, alloc, names, &constants, &layout)
+}
+
 #[test]
 fn statements_have_trees(rt: HostRuntime) -> Result<(), Fail> {
     let alloc = rt.alloc();
     let program = undeclared(alloc);
     let named = Names::build(alloc, &program, None)?;
-    let names = &named.names;
-    let constants = Constants::build(alloc, names)?;
-    let calls = Calls::build(alloc, names)?;
-    let layout = Layout::build(alloc, names, &constants)?.ok_or("it has few cells")?;
-    let tables = StatementTables {
-        trees: TreeTables {
-            layout: &layout,
-            calls: &calls,
-        },
-        constants: &constants,
-    };
-    check_break(&rt, alloc, names, &tables)?;
-    check_body(&rt, alloc, names, &tables)?;
-    check_write(&rt, alloc, names, &tables)
+    check_program(&rt, alloc, &named.names)
 }

@@ -1,11 +1,9 @@
-//! Tests of the calls that read and write texts beside sources (databases, logs, replays, scenarios, printed
-//! lines) and that make random text: a module for each crate that is tested.
+//! Tests of the calls that read and write texts beside sources and databases (logs, replays, scenarios,
+//! printed lines) and that generate scenarios: a module for each crate that is tested.
 //!
 //! They stand here, above those crates, so that each of those is proved without them.
 #![tactic(auto)]
 
-#[cfg(test)]
-mod databases;
 #[cfg(test)]
 mod generated;
 #[cfg(test)]

@@ -1,5 +1,8 @@
 // The trees of an expression, a place and arguments.
 
+ghost use Rattle.std.specs.Prelude.{Some};
+ghost use Rattle.typed_laws.specs.Laid.{AreDistinct};
+ghost use Rattle.type_expressions.specs.Layout.{IsLaidOut};
 ghost use Rattle.type_expressions.specs.Made.{AreTreeTables};
 
 use capl_meaning::Sort;
@@ -52,19 +55,33 @@ fn check_row(rt: &impl Abort, alloc: Global, names: &Names, tables: &TreeTables)
     Ok(())
 }
 
+/// What is made by the layout of a program without names of its own.
+fn check_layout(rt: &impl Abort, alloc: Global, names: &Names, layout: &Layout) -> Result<(), Fail>
+    requires layout { IsLaidOut names.now (Some layout.now) }
+    requires distinct { AreDistinct names.now.variables }
+{
+    let calls = Calls::build(alloc, names)?;
+    let tables = TreeTables {
+        layout,
+        calls: &calls,
+    };
+    check_sum(rt, alloc, names, &tables)?;
+    check_row(rt, alloc, names, &tables)
+}
+
+/// What is made in such a program.
+fn check_program(rt: &impl Abort, alloc: Global, names: &Names) -> Result<(), Fail>
+    requires { AreDistinct names.now.variables }
+{
+    let constants = Constants::build(alloc, names)?;
+    let layout = Layout::build(alloc, names, &constants)?.ok_or("it has few cells")?;
+    check_layout(rt, alloc, names, &layout)
+}
+
 #[test]
 fn expressions_have_trees(rt: HostRuntime) -> Result<(), Fail> {
     let alloc = rt.alloc();
     let program = undeclared(alloc);
     let named = Names::build(alloc, &program, None)?;
-    let names = &named.names;
-    let constants = Constants::build(alloc, names)?;
-    let calls = Calls::build(alloc, names)?;
-    let layout = Layout::build(alloc, names, &constants)?.ok_or("it has few cells")?;
-    let tables = TreeTables {
-        layout: &layout,
-        calls: &calls,
-    };
-    check_sum(&rt, alloc, names, &tables)?;
-    check_row(&rt, alloc, names, &tables)
+    check_program(&rt, alloc, &named.names)
 }
