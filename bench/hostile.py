@@ -373,16 +373,15 @@ def timed(program, folder, core):
 
 
 def greatest(words, folder, name):
-    """The greatest size of an input up to its own that is not refused for its cells or weight, or none where the
-    program does not take such an input yet."""
+    """The greatest size of an input up to its own that is not refused for its cells or weight."""
     def rule(size):
         """The end of what is written first for a size."""
         write(folder, name, size)
         return timed(words.program, folder, words.core)[1][-4:]
 
     low, high = 0, INPUTS[name][1]
-    if (found := rule(high)) != " E29":
-        return high if found != " N01" else None
+    if rule(high) != " E29":
+        return high
     while high - low > 1000:
         middle = (low + high) // 2
         low, high = (low, middle) if rule(middle) == " E29" else (middle, high)

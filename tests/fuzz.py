@@ -21,8 +21,7 @@ to what can be seen without a second implementation:
                 the same lines
     end         with a shorter run the lines up to its end
     silence     with one more node, whose source is empty, the same lines
-    replay      a recorded log replayed gives itself, also where lines that are passed over were put into it; only
-                where the program takes `replay`
+    replay      a recorded log replayed gives itself, also where lines that are passed over were put into it
     words       words that are no command: status 2, and nothing
     constants   a constant has the number that its expression has when it is evaluated in a run
 
@@ -61,10 +60,10 @@ TURNS = 1000
 
 COMMANDS = ["check", "run", "window", "log", "profile"]
 # Rules of a file as a whole, and the letters of those of a line; all others are told with a line and a column.
-WHOLE = {"E03", "E04", "E07", "E29", "F01", "F02", "N01"}
+WHOLE = {"E03", "E04", "E07", "E29", "F01", "F02"}
 OF_LINES = ("S", "D", "L")
 RULE = re.compile(rb"refused ([^\n]*?)(?::([1-9]\d*)(?::([1-9]\d*))?)? "
-                  rb"(S0[1-9]|S1[0-2]|F0[12]|N01|D0[12]|L01|E0[1-9]|E[12]\d)\n")
+                  rb"(S0[1-9]|S1[0-2]|F0[12]|D0[12]|L01|E0[1-9]|E[12]\d)\n")
 WINDOW = re.compile(rb"w (0|[1-9]\d*)\.(\d{6}) ([A-Za-z_]\w*) [^\n\r]*\n")
 FRAME = re.compile(rb"\((\d{10}|[1-9]\d{10,})\.(\d{6})\) ([\w.-]{1,15}) "
                    rb"([0-7][0-9A-F]{2}|[01][0-9A-F]{7})#((?:[0-9A-F]{2}){0,8}|R[1-8]?)\n")
@@ -421,7 +420,7 @@ def of_silence(trial):
 
 def of_replay(trial):
     """A recorded log, perhaps with lines that are passed over, gives itself when it is replayed."""
-    if not trial.place.takes_replay or not trial.said["log"].out:
+    if not trial.said["log"].out:
         return
     lines, skipped = [], 0
     for line in lines_of(trial.said["log"].out):
@@ -617,30 +616,22 @@ def kept(place, folder, case, number, faults):
 # ---- the program
 
 
-def made(seed, number, takes_replay):
+def made(seed, number):
     """The case with a number of a seed, perhaps broken, and the source of chance for its checks."""
     chance = random.Random(f"{seed} {number}")
-    case = grammar.case(chance, takes_replay)
+    case = grammar.case(chance)
     if chance.random() < 0.6:
         break_case(chance, case)
     return case, chance
 
 
-def takes_replay(place):
-    """Whether the program replays logs: it does not refuse a scenario that has one by N01."""
-    case = grammar.Case({"s.scn": b"scenario 1\nnode N n.can\nreplay r.log\n", "n.can": b"", "r.log": b""}, {})
-    place.lay(case)
-    return place.run(["check", "s.scn"]).status == 0
-
-
 def fuzz(program, words, folder, enough=lambda faults: False):
     """Tries cases on a program until faults are enough, and gives the numbers of cases, runs and faults."""
     place = Place(program, folder)
-    place.takes_replay = takes_replay(place)
     end = time.monotonic() + words.seconds if words.cases is None else float("inf")
     number, faulty = words.first, 0
     while time.monotonic() < end and (words.cases is None or number < words.first + words.cases):
-        case, chance = made(words.seed, number, place.takes_replay)
+        case, chance = made(words.seed, number)
         faults = Trial(place, case, chance).faults()
         faults += [*faults_of_words(place, chance), *faults_of_constants(place, chance)]
         number += 1
@@ -700,8 +691,8 @@ WRONG = {
     "lines by the number of nodes": ("silence", where('grep -q Silent "$2"', "1d")),
     "a constant with another number": ("constants", where("grep -qs 'const int64 c =' n.can", "1s/..$/7/")),
     "status 0 for no command": ("words", 'P "$@"; s=$?; [ $s != 2 ] || exit 0; exit $s'),
+    "a replay that loses a frame": ("replay", where('grep -q ^replay "$2"', "1d")),
 }
-WRONG_REPLAY = {"a replay that loses a frame": ("replay", where('grep -q ^replay "$2"', "1d"))}
 
 
 def found_by(program, folder, script, check, cases):
@@ -724,7 +715,7 @@ def self_test(program, folder):
     _, faulty = found_by(program, folder, RIGHT, "no check", 200)
     missed = 1 if faulty else 0
     print("FAIL faults of the right program" if faulty else "passed 200 cases: the right program", flush=True)
-    for name, (check, script) in {**WRONG, **(WRONG_REPLAY if takes_replay(Place(program, folder)) else {})}.items():
+    for name, (check, script) in WRONG.items():
         case, _ = found_by(program, folder, script, check, 200)
         missed += case is None
         print(f"MISSED {name}" if case is None else f"found by '{check}' in case {case}: {name}", flush=True)

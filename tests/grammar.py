@@ -535,7 +535,7 @@ def log(chance):
     return "".join(line + chance.choice(["\n", "\n", "\r\n"]) for line in lines).encode()
 
 
-def case(chance, takes_replay):
+def case(chance):
     """A scenario with all its files, mostly one that is accepted."""
     made = Case({}, {}, chance.choice(["", "", "", "d/"]))
     messages = []
@@ -547,7 +547,7 @@ def case(chance, takes_replay):
         nodes.append((f"N{number}", file))
         made.tokens.update(tokens)
     lines = scenario_lines(chance, nodes, has_database)
-    if takes_replay and chance.random() < 0.3:
+    if chance.random() < 0.3:
         lines.append("replay " + LOG)
         made.files[LOG] = log(chance)
     made.files[SCENARIO] = "\n".join(lines).encode() + b"\n"

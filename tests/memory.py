@@ -12,7 +12,7 @@ would take more runs than --runs says, 3000 without it, only each second, third 
 
 Each run has to end within 20 seconds, with status 5 and a beginning of the answer, or with the whole answer and its
 status, and with nothing on standard error. The inputs are a hello, five nodes, a database of 1 MiB, a source whose
-`if` nest as deep as a source may, and the replay of a log where the program takes that.
+`if` nest as deep as a source may, and the replay of a log.
 
 A line for each input tells how many runs there were, and over what. The status is 1 where a run ended otherwise.
 
