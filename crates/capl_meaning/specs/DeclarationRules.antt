@@ -9,7 +9,6 @@ use Rattle.capl_tree.specs.declared.declaration.Declr.{Declr}
 use Rattle.capl_tree.specs.declared.declaration.Init.{Init}
 use Rattle.capl_tree.specs.declared.expr.Expr.{Expr}
 use Rattle.capl_meaning.specs.declared.offence.Offence.{Offence}
-use Rattle.capl_meaning.specs.Rule.{E11, E12, E21, E23}
 use Rattle.capl_meaning.specs.Variable.{Form, Timer, Misfit, form_of, message_named}
 use Rattle.capl_meaning.specs.Names.{Scope}
 use Rattle.capl_meaning.specs.Constant.{array_length, constant_at}
@@ -27,34 +26,34 @@ is_in_range id = if nat_le (2 ^ 31) id then nat_le (id - 2 ^ 31) 0x1FFFFFFF else
 
 -- E23: a message of the database is longer than 8 bytes or its identifier is out of range
 abbrev pub database_rule : Scope → ℕ → DbcMessage → List Offence
-database_rule s at m = broken_where (nat_lt 8 m.len || not (is_in_range m.id)) s at E23
+database_rule s at m = broken_where (nat_lt 8 m.len || not (is_in_range m.id)) s at 23
 
 -- E11: a message name is not in the database; else E23
 abbrev pub message_name_rule : Scope → ℕ → List ℕ → List Offence
 message_name_rule s at name =
-    option_map_or (database_rule s at) (message_named s.names.base name) (offence s at E11 ∷ [])
+    option_map_or (database_rule s at) (message_named s.names.base name) (offence s at 11 ∷ [])
 
 -- the rules of the type of a declaration: E21, an identifier; E11 and E23, a message name
 abbrev pub type_rules : Scope → DeclType → List Offence
-type_rules s (decl_type.ById value extended at) = broken_where (not (is_identifier value extended)) s at E21
+type_rules s (decl_type.ById value extended at) = broken_where (not (is_identifier value extended)) s at 21
 type_rules s (decl_type.ByName name at) = message_name_rule s at name
 type_rules s _ = []
 
 -- E12: an array of messages or timers; a timer in a procedure
 abbrev pub form_rule : Scope → ℕ → Form → List Offence
-form_rule s at Misfit = offence s at E12 ∷ []
-form_rule s at (Timer unit) = broken_where (nat_lt 0 s.owner) s at E12
+form_rule s at Misfit = offence s at 12 ∷ []
+form_rule s at (Timer unit) = broken_where (nat_lt 0 s.owner) s at 12
 form_rule s at _ = []
 
 -- E12: a `const` without initialiser
 abbrev pub const_rule : Scope → ℕ → DeclType → Option Init → List Offence
-const_rule s at (decl_type.Number k true) None = offence s at E12 ∷ []
+const_rule s at (decl_type.Number k true) None = offence s at 12 ∷ []
 const_rule s at _ _ = []
 
 -- E12: an array size is not 1 to 1,000,000
 abbrev pub size_rule : Scope → ℕ → Expr → List Offence
 size_rule s at size =
-    broken_where (option_map_or (λ n. not (is_some (array_length n))) (constant_at s at size) false) s at E12
+    broken_where (option_map_or (λ n. not (is_some (array_length n))) (constant_at s at size) false) s at 12
 
 -- what the size of a variable that is declared at a token breaks, if it has one
 abbrev pub size_offences : Scope → ℕ → Option Expr → List Offence

@@ -4,7 +4,7 @@
 use Rattle.std.specs.Prelude.{ℕ, ◌==◌, Bool, true, false, not, ◌&&◌, ◌||◌, if◌then◌else◌, List, [], ◌∷◌, ◌++◌, flat_map, length, Option, Some, None}
 use Rattle.std.specs.List.{zip}
 use Rattle.std.specs.Option.{option_map_or}
-use Rattle.texts.specs.declared.blame.Rule.{Rule}
+use Rattle.texts.specs.Rule.{source_rule}
 use Rattle.int_kinds.specs.declared.operators.BinOp.{BinOp}
 use Rattle.int_kinds.specs.declared.operators.UnOp.{UnOp}
 use Rattle.int_kinds.specs.declared.operators.UnOp.TheVariants as prefix
@@ -20,38 +20,37 @@ use Rattle.capl_meaning.specs.declared.builtin.Builtin.TheVariants as builtin
 use Rattle.capl_meaning.specs.declared.offence.Offence.{Offence}
 use Rattle.capl_meaning.specs.declared.sort.Sort.{Sort}
 use Rattle.capl_meaning.specs.declared.sort.Sort.TheVariants as sort
-use Rattle.capl_meaning.specs.Rule.{E09, E11, E13, E14, E15, E16, E17, E18, E23, E26, E28}
 use Rattle.capl_meaning.specs.Variable.{Variable}
 use Rattle.capl_meaning.specs.Names.{Callee, Function, OfLanguage, OfProgram, Unknown, Scope, ThisForm, NoThis, callee, direction, means}
 use Rattle.capl_meaning.specs.Format.{format_codes, shows, quoted_text}
 use Rattle.capl_meaning.specs.Message.{Held, NamedMember, IsField, IsSignal, IsUnusable, IsUnknown, is_message_place, is_number_place, member_named, message_in, signals_of}
 use Rattle.capl_meaning.specs.Sort.{is_bad, is_number, is_recursive, sort_of, sort_of_number}
 
--- a rule is broken at a token where a part stands
-abbrev pub offence : Scope → ℕ → Rule → Offence
-offence s token rule = record { file = s.file; token = token; rule = rule }
+-- the rule of group E with this number is broken at a token where a part stands
+abbrev pub offence : Scope → ℕ → ℕ → Offence
+offence s token number = record { file = s.file; token = token; rule = source_rule number }
 
--- a rule that is broken at a token where something holds
-abbrev pub broken_where : Bool → Scope → ℕ → Rule → List Offence
-broken_where holds s token rule = if holds then offence s token rule ∷ [] else []
+-- a rule, by its number, that is broken at a token where something holds
+abbrev pub broken_where : Bool → Scope → ℕ → ℕ → List Offence
+broken_where holds s token number = if holds then offence s token number ∷ [] else []
 
 -- E13: an integer is needed and the expression is something else
 abbrev pub integer_needed : Scope → Expr → List Offence
 integer_needed s e =
-    broken_where (not (is_number (sort_of s e)) && not (is_bad (sort_of s e))) s (expression_place e) E13
+    broken_where (not (is_number (sort_of s e)) && not (is_bad (sort_of s e))) s (expression_place e) 13
 
 -- E18: a number is above 2^64 - 1, or with `x` above 0x1FFFFFFF
 abbrev pub number_rule : Scope → ℕ → Option ℕ → Bool → List Offence
-number_rule s at value extended = broken_where (is_bad (sort_of_number value extended)) s at E18
+number_rule s at value extended = broken_where (is_bad (sort_of_number value extended)) s at 18
 
 -- E15: `this` outside message and key procedures
 abbrev pub this_rule : Scope → ℕ → ThisForm → List Offence
-this_rule s at NoThis = offence s at E15 ∷ []
+this_rule s at NoThis = offence s at 15 ∷ []
 this_rule s at _ = []
 
 -- E09: a name is no variable, and not RX or TX
 abbrev pub direction_rule : Scope → ℕ → Option ℕ → List Offence
-direction_rule s at None = offence s at E09 ∷ []
+direction_rule s at None = offence s at 9 ∷ []
 direction_rule s at (Some n) = []
 
 -- the same, by what the name means
@@ -76,16 +75,16 @@ is_timer_sort _ = false
 
 -- E28: an index of what is no array
 abbrev pub index_rule : Scope → ℕ → Sort → List Offence
-index_rule s at base = broken_where (not (is_array base) && not (is_bad base)) s at E28
+index_rule s at base = broken_where (not (is_array base) && not (is_bad base)) s at 28
 
 -- E23, E11 and E28: a signal cannot be used; a member of a message declared by name is neither field nor
 -- signal; an unknown member of another message
 abbrev pub name_of_member_rule : Scope → ℕ → ℕ → NamedMember → List Offence
 name_of_member_rule s at name_at (IsField f) = []
 name_of_member_rule s at name_at (IsSignal layout) = []
-name_of_member_rule s at name_at IsUnusable = offence s name_at E23 ∷ []
-name_of_member_rule s at name_at (IsUnknown true) = offence s name_at E11 ∷ []
-name_of_member_rule s at name_at (IsUnknown false) = offence s at E28 ∷ []
+name_of_member_rule s at name_at IsUnusable = offence s name_at 23 ∷ []
+name_of_member_rule s at name_at (IsUnknown true) = offence s name_at 11 ∷ []
+name_of_member_rule s at name_at (IsUnknown false) = offence s at 28 ∷ []
 
 -- E13: the index of payload bytes is no integer
 abbrev pub index_needed : Scope → Field → List Offence
@@ -102,12 +101,12 @@ part_rules s at (tree.Bytes kind index kind_at) message = []
 abbrev pub member_rules : Scope → ℕ → Expr → Field → List Offence
 member_rules s at base field =
     option_map_or (part_rules s at field) (message_in s base)
-    (broken_where (not (is_bad (sort_of s base))) s at E28)
+    (broken_where (not (is_bad (sort_of s base))) s at 28)
 
 -- E14: the operand of `++` or `--` is no assignable place of a number
 abbrev pub step_rule : Scope → Expr → List Offence
 step_rule s e =
-    broken_where (not (is_bad (sort_of s e)) && not (is_number_place s e)) s (expression_place e) E14
+    broken_where (not (is_bad (sort_of s e)) && not (is_number_place s e)) s (expression_place e) 14
 
 -- the rules of a prefix operator: `++` and `--` need a place, all others an integer
 abbrev pub prefix_rule : Scope → UnOp → Expr → List Offence
@@ -124,12 +123,12 @@ is_place_for (Some operator) s e = is_number_place s e
 abbrev pub left_rule : Scope → Option BinOp → Expr → List Offence
 left_rule s operator left =
     broken_where (not (is_bad (sort_of s left)) && not (is_place_for operator s left))
-    s (expression_place left) E14
+    s (expression_place left) 14
 
 -- E28: an assignment with a message on one side only
 abbrev pub sides_rule : Scope → ℕ → Sort → Sort → List Offence
-sides_rule s at sort.Message right = broken_where (not (is_message_sort right) && not (is_bad right)) s at E28
-sides_rule s at left sort.Message = broken_where (not (is_bad left)) s at E28
+sides_rule s at sort.Message right = broken_where (not (is_message_sort right) && not (is_bad right)) s at 28
+sides_rule s at left sort.Message = broken_where (not (is_bad left)) s at 28
 sides_rule s at _ _ = []
 
 -- E13: the right of an assignment is an operand, where no side is a message
@@ -142,26 +141,26 @@ right_rule s left right =
 -- E16: an argument is not the timer, message or array that is needed
 abbrev pub argument_rule : Scope → ℕ → (Sort → Bool) → Expr → List Offence
 argument_rule s at is_needed e =
-    broken_where (not (is_needed (sort_of s e)) && not (is_bad (sort_of s e))) s at E16
+    broken_where (not (is_needed (sort_of s e)) && not (is_bad (sort_of s e))) s at 16
 
 -- E17: an argument of `write` is not what its code shows
 abbrev pub shown_rule : Scope → Code → Expr → List Offence
 shown_rule s code e =
-    broken_where (not (shows code (sort_of s e)) && not (is_bad (sort_of s e))) s (expression_place e) E17
+    broken_where (not (shows code (sort_of s e)) && not (is_bad (sort_of s e))) s (expression_place e) 17
 
 -- E17: a code of the format is of no form, or the number of arguments differs; else the rules of the
 -- arguments
 abbrev pub codes_rules : Scope → ℕ → Option (List Code) → List Expr → List Offence
-codes_rules s at None arguments = offence s at E17 ∷ []
+codes_rules s at None arguments = offence s at 17 ∷ []
 codes_rules s at (Some found) arguments =
     if length found == length arguments
     then flat_map (λ pair. shown_rule s pair.0 pair.1) (zip found arguments)
-    else offence s at E17 ∷ []
+    else offence s at 17 ∷ []
 
 -- E17: the first argument of `write` is no text; else the rules of the format
 abbrev pub format_rules : Scope → Expr → Option (List ℕ) → List Expr → List Offence
 format_rules s format None arguments =
-    broken_where (not (is_bad (sort_of s format))) s (expression_place format) E17
+    broken_where (not (is_bad (sort_of s format))) s (expression_place format) 17
 format_rules s format (Some text) arguments =
     codes_rules s (expression_place format) (format_codes text) arguments
 
@@ -178,19 +177,19 @@ builtin_rules s at builtin.Stop [] = []
 builtin_rules s at builtin.IsTimerActive (timer ∷ []) = argument_rule s at is_timer_sort timer
 builtin_rules s at builtin.TimeNow [] = []
 builtin_rules s at builtin.ElCount (array ∷ []) = argument_rule s at is_array array
-builtin_rules s at _ _ = offence s at E16 ∷ []
+builtin_rules s at _ _ = offence s at 16 ∷ []
 
 -- the rules of a call of a function of the program: E16, a wrong number of arguments; E13, an argument; E26
 abbrev pub function_rules : Scope → ℕ → Function → List Expr → List Offence
 function_rules s at f arguments =
-    broken_where (not (length arguments == length f.parameters)) s at E16
-    ++ (flat_map (integer_needed s) arguments ++ broken_where (is_recursive s f) s at E26)
+    broken_where (not (length arguments == length f.parameters)) s at 16
+    ++ (flat_map (integer_needed s) arguments ++ broken_where (is_recursive s f) s at 26)
 
 -- the rules of a call: E09, a called name is no function; else those of its function
 abbrev pub call_rules : Scope → ℕ → Callee → List Expr → List Offence
 call_rules s at (OfLanguage b) arguments = builtin_rules s at b arguments
 call_rules s at (OfProgram f) arguments = function_rules s at f arguments
-call_rules s at Unknown arguments = offence s at E09 ∷ []
+call_rules s at Unknown arguments = offence s at 9 ∷ []
 
 abbrev mutual
   -- what an expression and its parts break

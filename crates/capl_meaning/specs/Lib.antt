@@ -1,5 +1,4 @@
 -- The definitions of this crate.
-pub mod Rule
 pub mod Variable
 pub mod Names
 pub mod Message

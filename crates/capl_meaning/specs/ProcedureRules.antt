@@ -3,6 +3,7 @@
 use Rattle.std.specs.Prelude.{ℕ, ◌+◌, ◌-◌, ◌^◌, ◌==◌, Bool, true, false, not, ◌&&◌, ◌||◌, if◌then◌else◌, nat_le, List, [], ◌∷◌, ◌++◌, flat_map, filter, filter_map, map, is_some, Option, Some, None}
 use Rattle.std.specs.Option.{option_and_then, option_map, option_map_or}
 use Rattle.std.specs.Str.{bytes_eq}
+use Rattle.texts.specs.Rule.{source_rule}
 use Rattle.run_effects.specs.declared.event.Selector.{Selector}
 use Rattle.dbc_reader.specs.declared.message.DbcMessage.{DbcMessage}
 use Rattle.capl_tree.specs.declared.declaration.Decl.{Decl}
@@ -14,7 +15,6 @@ use Rattle.capl_tree.specs.declared.procedure.Sel.{Sel}
 use Rattle.capl_tree.specs.declared.procedure.SelWhat.{SelWhat}
 use Rattle.capl_tree.specs.declared.procedure.SelWhat.TheVariants as selected
 use Rattle.capl_meaning.specs.declared.offence.Offence.{Offence}
-use Rattle.capl_meaning.specs.Rule.{E09, E10, E21, E25}
 use Rattle.capl_meaning.specs.Variable.{Form, Timer, Misfit, Part, Globals, Procedure, Variable, is_timer, message_named}
 use Rattle.capl_meaning.specs.Names.{Names, Scope, builtin_named, global}
 use Rattle.capl_meaning.specs.DeclarationRules.{is_identifier, is_in_range, message_name_rule}
@@ -150,9 +150,9 @@ selector_place s = if names_channel s.chan then selection_place s.what - 2 else 
 
 -- E21: an identifier of a selector is none; a range mixes both forms or falls
 abbrev pub numbers_rule : Scope → ℕ → Expr → Option Expr → List Offence
-numbers_rule s at low None = broken_where (not (names_identifier (selector_number low))) s at E21
+numbers_rule s at low None = broken_where (not (names_identifier (selector_number low))) s at 21
 numbers_rule s at low (Some high) =
-    broken_where (not (is_range (selector_number low) (selector_number high))) s at E21
+    broken_where (not (is_range (selector_number low) (selector_number high))) s at 21
 
 -- what is selected, in a selector that begins at a token, breaks by itself: E11 and E23 of a name, at the
 -- name, and E21 of numbers, at the selector
@@ -171,11 +171,11 @@ selector_offences s one = selection_offences s (selector_place one) one.what
 abbrev pub timer_form_rule : Scope → ℕ → Form → List Offence
 timer_form_rule s at (Timer unit) = []
 timer_form_rule s at Misfit = []
-timer_form_rule s at _ = offence s at E09 ∷ []
+timer_form_rule s at _ = offence s at 9 ∷ []
 
 -- E09: the name after `on timer` is no global timer
 abbrev pub timer_rule : Scope → ℕ → Option Variable → List Offence
-timer_rule s at None = offence s at E09 ∷ []
+timer_rule s at None = offence s at 9 ∷ []
 timer_rule s at (Some v) = timer_form_rule s at v.form
 
 -- what the head of a procedure breaks by itself
@@ -245,7 +245,7 @@ told_by_part names (Procedure number file procedure) =
 -- E25: two selectors of one rank overlap and share a channel; two procedures are for one timer or one key
 abbrev pub purpose_offences : Names → List Part → List Offence
 purpose_offences names parts =
-    map (λ told. record { file = told.file; token = told.token; rule = E25 })
+    map (λ told. record { file = told.file; token = told.token; rule = source_rule 25 })
     (repeated (λ a b. collide a.purpose b.purpose) [] (flat_map (told_by_part names) parts))
 
 -- ---- names for the second time
@@ -277,7 +277,7 @@ outer_names (Procedure number file procedure) = names_of_head file procedure.hea
 
 -- E10 at a declared name
 abbrev pub name_offence : Declared → Offence
-name_offence d = record { file = d.file; token = d.token; rule = E10 }
+name_offence d = record { file = d.file; token = d.token; rule = source_rule 10 }
 
 -- E10: a global or function has the name of an earlier global or function, or of a function of the language
 abbrev pub outer_name_offences : List Part → List Offence

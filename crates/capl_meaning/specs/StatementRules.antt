@@ -14,7 +14,6 @@ use Rattle.capl_tree.specs.Forms as tree
 use Rattle.capl_meaning.specs.declared.offence.Offence.{Offence}
 use Rattle.capl_meaning.specs.declared.sort.Sort.{Sort}
 use Rattle.capl_meaning.specs.declared.sort.Sort.TheVariants as sort
-use Rattle.capl_meaning.specs.Rule.{E20, E22, E24}
 use Rattle.capl_meaning.specs.Names.{Scope}
 use Rattle.capl_meaning.specs.Sort.{sort_of}
 use Rattle.capl_meaning.specs.Constant.{constant_at}
@@ -48,8 +47,8 @@ in_switch around = record around { breakable = true }
 
 -- E24: `return` with a value where nothing is given, or without one where a number is
 abbrev pub return_rule : Scope → ℕ → Option Kind → Option Expr → List Offence
-return_rule s at None (Some value) = offence s at E24 ∷ []
-return_rule s at (Some k) None = offence s at E24 ∷ []
+return_rule s at None (Some value) = offence s at 24 ∷ []
+return_rule s at (Some k) None = offence s at 24 ∷ []
 return_rule s at _ _ = []
 
 -- what a label says: `default`, or the number of its constant, wrapped to a kind; it says nothing where its
@@ -98,7 +97,7 @@ labels_said (more_of-Group labels shape body rest) = labels ++ labels_said rest
 -- E20: two labels are equal after wrapping to the kind in which the `switch` compares, or two are `default`
 abbrev pub labels_rule : Scope → Sort → List Label → List Offence
 labels_rule s on labels =
-    map (λ said. offence s said.at E20)
+    map (λ said. offence s said.at 20)
     (repeated (λ a b. same_saying a.saying b.saying) [] (map (said_by s on) labels))
 
 -- what the value of a label breaks: a constant is needed
@@ -132,8 +131,8 @@ abbrev mutual
   statement_offences s around (stmt.Switch' on shape groups) =
       integer_offences s on ++ (labels_rule s (sort_of s on) (labels_said groups)
       ++ offences_of_groups s (in_switch around) groups)
-  statement_offences s around (stmt.Break at) = broken_where (not around.breakable) s at E22
-  statement_offences s around (stmt.Continue at) = broken_where (not around.continuable) s at E22
+  statement_offences s around (stmt.Break at) = broken_where (not around.breakable) s at 22
+  statement_offences s around (stmt.Continue at) = broken_where (not around.continuable) s at 22
   statement_offences s around (stmt.Return value at) =
       return_rule s at s.gives value ++ needed_offences s value
 

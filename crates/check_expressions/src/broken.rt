@@ -24,7 +24,7 @@ pub fn source_rule(number: u8) -> Rule
 /// Notes that the rule of a number is broken at a token where a part stands, if it is.
 pub fn note_broken(scope: Scope, broken: bool, token: u32, number: u8, first: &mut Option<Offence>)
     ensures { first.new ≡
-        noted first.old (broken_where broken (scope_in scope.entry) token (source_rule number)) }
+        noted first.old (broken_where broken (scope_in scope.entry) token number) }
 {
     if broken {
         note(

@@ -3,9 +3,9 @@ use Rattle.std.proofs.Common.{◌≡◌, ◌<◌, ◌+◌, ◌∷◌, ◌∙◌,
 use Rattle.std.specs.Prelude.{if◌then◌else◌, map}
 use Rattle.std.specs.List.{list_any}
 use Rattle.std.proofs.lemmas.List.Folds.{list_any-append}
+use Rattle.texts.specs.Rule.{source_rule}
 use Rattle.dbc_reader.specs.declared.message.DbcMessage.{DbcMessage}
 use Rattle.capl_meaning.specs.declared.offence.Offence.{Offence}
-use Rattle.capl_meaning.specs.Rule.{E10}
 use Rattle.capl_meaning.specs.Variable.{Variable}
 use Rattle.check_names.specs.declared.variable.Declared.{Declared}
 use Rattle.check_names.specs.declared.variable.Place.{Place}
@@ -83,8 +83,8 @@ known_inside base d all vs earlier name i number known named counted are among i
 
 -- what is noted of it
 pub noted_inside : (base : List DbcMessage) (d : Declared) (token : ℕ) (first next : Option Offence) (known : Bool)
-    → token ≡ (variable_in base d).token → next ≡ noted first (broken_at known d.place.file token E10)
+    → token ≡ (variable_in base d).token → next ≡ noted first (broken_at known d.place.file token (source_rule 10))
     → next ≡ noted first (if known then inner_offence (variable_in base d) ∷ [] else [])
 noted_inside base d token first next known at is =
-    is ∙ ap (λ (f : ℕ). noted first (broken_at known f token E10)) (file_by base d.place d.source)
-    ∙ ap (λ (t : ℕ). noted first (broken_at known (variable_in base d).file t E10)) at
+    is ∙ ap (λ (f : ℕ). noted first (broken_at known f token (source_rule 10))) (file_by base d.place d.source)
+    ∙ ap (λ (t : ℕ). noted first (broken_at known (variable_in base d).file t (source_rule 10))) at

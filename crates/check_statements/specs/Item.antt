@@ -8,11 +8,10 @@ use Rattle.capl_meaning.specs.Constant.{constant_at}
 use Rattle.capl_meaning.specs.ExpressionRules.{broken_where}
 use Rattle.capl_meaning.specs.InitialiserRules.{constant_offences, is_payload_index}
 use Rattle.capl_meaning.specs.Names.{Scope}
-use Rattle.capl_meaning.specs.Rule.{E27}
 
 -- their index is a constant, and in range
 abbrev pub payload_offences : Scope → ℕ → ℕ → Kind → Expr → List Offence
 payload_offences s token at k index =
     constant_offences s token index
     ++ broken_where (option_map_or (λ i. not (is_payload_index k i))
-    (constant_at s token index) false) s at E27
+    (constant_at s token index) false) s at 27

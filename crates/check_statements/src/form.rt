@@ -7,7 +7,6 @@ ghost use Rattle.capl_meaning.specs.Constant.{array_length};
 ghost use Rattle.capl_meaning.specs.DeclarationRules.{const_rule, form_rule, size_offences};
 ghost use Rattle.capl_meaning.specs.ExpressionRules.{broken_where};
 ghost use Rattle.capl_meaning.specs.Names.{Scope};
-ghost use Rattle.capl_meaning.specs.Rule.{E12};
 ghost use Rattle.capl_meaning.specs.Variable.{form_of};
 ghost use Rattle.check_names.specs.First.{noted};
 ghost use Rattle.check_statements.specs.Site.{IsReady, place_of};
@@ -28,9 +27,9 @@ const MAX_ELEMENTS: i128 = 1_000_000;
 /// a timer in a procedure.
 fn is_wrong(what: &DeclType, has_size: bool, owner: u32) -> bool
     ensures sized { (s : Scope) (base : List DbcMessage) (at : ℕ) (size : Expr) → has_size ≡ true →
-        form_rule s at (form_of base what.now (Some size)) ≡ broken_where result s at E12 }
+        form_rule s at (form_of base what.now (Some size)) ≡ broken_where result s at 12 }
     ensures plain { (s : Scope) (base : List DbcMessage) (at : ℕ) → has_size ≡ false → s.owner ≡ owner →
-        form_rule s at (form_of base what.now None) ≡ broken_where result s at E12 }
+        form_rule s at (form_of base what.now None) ≡ broken_where result s at 12 }
 {
     match what {
         DeclType::Number { .. } => false,

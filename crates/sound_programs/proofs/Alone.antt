@@ -34,7 +34,6 @@ use Rattle.capl_meaning.specs.declared.builtin.Builtin.{Builtin}
 use Rattle.capl_meaning.specs.declared.builtin.Builtin.TheVariants as builtin
 use Rattle.capl_meaning.specs.declared.sort.Sort.{Sort}
 use Rattle.capl_meaning.specs.declared.sort.Sort.TheVariants as sort
-use Rattle.capl_meaning.specs.Rule.{E16}
 use Rattle.capl_meaning.specs.Variable.{Form, Number, Variable}
 use Rattle.capl_meaning.specs.Names.{Callee, Function, OfLanguage, OfProgram, Unknown, Scope, ThisForm, NoThis, ThisFrame, ThisKey, callee, direction, means}
 use Rattle.capl_meaning.specs.Calls.{calls_in}
@@ -220,7 +219,7 @@ module _ (typed : Typed) (around : Around) where
     called_arguments : (at : ℕ) (f : Function) {m : Count} (row : Row_of-Expr m) → AllByRecursion IsFine (sorts_of s row) → function_rules s at f (items-the_row-Expr m row) ≡ [] →
         CanRowBeMade s order typed around.number row → (length (items-the_row-TExpr m (row_of s order row)) ≡ length f.parameters) × AreSoundArguments typed around.number (row_of s order row)
     called_arguments at f {m} row good none can =
-        let rest = back (if not (length (items-the_row-Expr m row) == length f.parameters) then offence s at E16 ∷ [] else []) _ none in
+        let rest = back (if not (length (items-the_row-Expr m row) == length f.parameters) then offence s at 16 ∷ [] else []) _ none in
         let numbers = all_integers s row good (front (flat_map (integer_needed s) (items-the_row-Expr m row)) _ rest) in
         (row_long row ∙ as_many s at f row none, sound_arguments row numbers can)
 

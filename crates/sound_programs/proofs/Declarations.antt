@@ -19,7 +19,6 @@ use Rattle.capl_tree.specs.declared.statement.Stmt.TheBlock.{Row_of-Arm, end_of-
 use Rattle.capl_tree.specs.declared.statement.Stmt.TheVariants as stmt
 use Rattle.capl_tree.specs.Forms as tree
 use Rattle.capl_meaning.specs.declared.offence.Offence.{Offence}
-use Rattle.capl_meaning.specs.Rule.{E11, E12, E19, E21, E23}
 use Rattle.capl_meaning.specs.Variable.{Form, Array, Message, Part, Globals, Procedure, Variable, ByIdentifier, ByName, declarations_in, declarations_of, declarations_of_arms, declarations_of_else, declarations_of_groups, form_of, identifier, message_named, parameters_of, parts_of, variable_of_parameter, variables_of, variables_of_declaration, variables_of_part}
 use Rattle.capl_meaning.specs.Names.{Names, NoThis, Scope, ThisForm, inside, names_of, outside}
 use Rattle.capl_meaning.specs.Sort.{is_bad, sort_of}
@@ -145,9 +144,9 @@ held_range id is = go (nat_le (2 ^ 31) id) is
     go true e = omega (arith, leb-true (id - 2 ^ 31) 0x1FFFFFFF e)
     go false e = omega (arith, leb-true id 0x7FF e)
 
-held_named : (s : Scope) (at : ℕ) (o : Option DbcMessage) → option_map_or (database_rule s at) o (offence s at E11 ∷ []) ≡ [] → IsHeldType (Message (ByName o))
+held_named : (s : Scope) (at : ℕ) (o : Option DbcMessage) → option_map_or (database_rule s at) o (offence s at 11 ∷ []) ≡ [] → IsHeldType (Message (ByName o))
 held_named s at None none = tt
-held_named s at (Some m) none = go (nat_lt 8 m.len) (is_in_range m.id) refl refl (unbroken (nat_lt 8 m.len || not (is_in_range m.id)) s at E23 none)
+held_named s at (Some m) none = go (nat_lt 8 m.len) (is_in_range m.id) refl refl (unbroken (nat_lt 8 m.len || not (is_in_range m.id)) s at 23 none)
   where
     go : (a b : Bool) → nat_lt 8 m.len ≡ a → is_in_range m.id ≡ b → a || not b ≡ false → (m.id < 2 ^ 32) × (m.len ≤ 8)
     go false true long range e = (held_range m.id range, ltb-false 8 m.len long)
@@ -159,7 +158,7 @@ held_type s (decl_type.Number k fixed) None none = tt
 held_type s (decl_type.Number k fixed) (Some size) none = tt
 held_type s decl_type.Any None none = omega arith
 held_type s decl_type.Any (Some size) none = tt
-held_type s (decl_type.ById value extended at) None none = held_identifier value extended (negated (is_identifier value extended) (unbroken (not (is_identifier value extended)) s at E21 none))
+held_type s (decl_type.ById value extended at) None none = held_identifier value extended (negated (is_identifier value extended) (unbroken (not (is_identifier value extended)) s at 21 none))
   where
     negated : (b : Bool) → not b ≡ false → b ≡ true
     negated true e = refl
@@ -262,8 +261,8 @@ module _ (base : List DbcMessage) (program : Program) where
         let whole : offences s size ++ constant_needed s v.token size ≡ [] = front (constant_offences s v.token size) _ rules in
         let good : IsFine (sort_of s size) = fine s have_forms size (front (offences s size) _ whole) in
         let there : is_some (constant_at s v.token size) ≡ true =
-        needed (is_some (constant_at s v.token size)) (sort_of s size) good (swapped (not (is_bad (sort_of s size))) _ (unbroken _ s (expression_place size) E19 (back (offences s size) _ whole))) in
-        let fits : option_map_or (λ n. not (is_some (array_length n))) (constant_at s v.token size) false ≡ false = unbroken _ s v.token E12 (back (constant_offences s v.token size) _ rules) in
+        needed (is_some (constant_at s v.token size)) (sort_of s size) good (swapped (not (is_bad (sort_of s size))) _ (unbroken _ s (expression_place size) 19 (back (offences s size) _ whole))) in
+        let fits : option_map_or (λ n. not (is_some (array_length n))) (constant_at s v.token size) false ≡ false = unbroken _ s v.token 12 (back (constant_offences s v.token size) _ rules) in
         let least : 1 ≤ unwrap_or (option_and_then array_length (constant_at s v.token size)) 0 = go (constant_at s v.token size) there fits in
         let same : constant_at (scope_of (names_of base program) v) v.token size ≡ constant_at s v.token size = at_same (names_of base program) v.owner v.file NoThis well.this None well.gives v.token size in
         let is : elements_of (names_of base program) v ≡ unwrap_or (option_and_then array_length (constant_at s v.token size)) 0 =

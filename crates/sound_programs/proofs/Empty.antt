@@ -2,7 +2,6 @@
 use Rattle.std.proofs.Common.{◌≡◌, ℕ, Bool, true, false, List, [], ◌∷◌, ◌++◌, refl}
 use Rattle.std.specs.Prelude.{flat_map, map, if◌then◌else◌}
 use Rattle.std.specs.List.{AllByRecursion}
-use Rattle.texts.specs.declared.blame.Rule.{Rule}
 use Rattle.capl_meaning.specs.Names.{Scope}
 use Rattle.capl_meaning.specs.ExpressionRules.{broken_where, offence}
 
@@ -31,6 +30,6 @@ each_empty f [] e = tt
 each_empty f (x ∷ xs) e = (front (f x) (flat_map f xs) e, each_empty f xs (back (f x) (flat_map f xs) e))
 
 -- a rule is not broken
-pub unbroken : (holds : Bool) (s : Scope) (at : ℕ) (rule : Rule) → broken_where holds s at rule ≡ [] → holds ≡ false
-unbroken true s at rule e = absurd (full (offence s at rule) [] e)
-unbroken false s at rule e = refl
+pub unbroken : (holds : Bool) (s : Scope) (at : ℕ) (number : ℕ) → broken_where holds s at number ≡ [] → holds ≡ false
+unbroken true s at number e = absurd (full (offence s at number) [] e)
+unbroken false s at number e = refl

@@ -23,7 +23,6 @@ use Rattle.capl_meaning.specs.declared.builtin.Builtin.{Builtin}
 use Rattle.capl_meaning.specs.declared.builtin.Builtin.TheVariants as builtin
 use Rattle.capl_meaning.specs.declared.sort.Sort.{Sort}
 use Rattle.capl_meaning.specs.declared.sort.Sort.TheVariants as sort
-use Rattle.capl_meaning.specs.Rule.{E09, E11, E13, E14, E15, E16, E17, E18, E23, E26, E28}
 use Rattle.capl_meaning.specs.Variable.{Form, Number, Array, Message, Timer, Misfit, Variable}
 use Rattle.capl_meaning.specs.Names.{Callee, Function, OfLanguage, OfProgram, Unknown, Scope, ThisForm, NoThis, ThisFrame, ThisKey, callee, direction, means}
 use Rattle.capl_meaning.specs.Format.{first_text, format_codes, show_all, shows, quoted_text}
@@ -44,7 +43,7 @@ AreFine sorts = AllByRecursion IsFine sorts
 -- ---- single forms
 
 fine_number : (s : Scope) (at : ℕ) (value : Option ℕ) (extended : Bool) → number_rule s at value extended ≡ [] → IsFine (sort_of_number value extended)
-fine_number s at value extended none = go (sort_of_number value extended) (unbroken (is_bad (sort_of_number value extended)) s at E18 none)
+fine_number s at value extended none = go (sort_of_number value extended) (unbroken (is_bad (sort_of_number value extended)) s at 18 none)
   where
     go : (g : Sort) → is_bad g ≡ false → IsFine g
     go sort.Bad e = absurd (let f : true ≡ false = e in cc)
@@ -84,7 +83,7 @@ pub right_number : (s : Scope) (at : ℕ) (left right : Expr) → IsOfNumber (so
 right_number s at left right number fine sides none = go (sort_of s left) (sort_of s right) number fine sides none
   where
     go : (g h : Sort) → IsOfNumber g → IsFine h → sides_rule s at g h ≡ [] →
-        (if is_message_sort g || is_message_sort h then [] else (if not (is_number h) && not (is_bad h) then offence s (expression_place right) E13 ∷ [] else [])) ≡ [] → IsOfNumber h
+        (if is_message_sort g || is_message_sort h then [] else (if not (is_number h) && not (is_bad h) then offence s (expression_place right) 13 ∷ [] else [])) ≡ [] → IsOfNumber h
     go (sort.Number k) (sort.Number j) number fine sides none = tt
     go (sort.Number k) (sort.Array j) number fine sides none = absurd (full _ _ none)
     go (sort.Number k) sort.Message number fine sides none = absurd (full _ _ sides)
@@ -97,7 +96,7 @@ right_number s at left right number fine sides none = go (sort_of s left) (sort_
 -- the right side of an assignment to a message is one
 pub right_message : (s : Scope) (at : ℕ) (left right : Sort) → left ≡ sort.Message → IsFine right → sides_rule s at left right ≡ [] → right ≡ sort.Message
 right_message s at left right is fine none =
-    of_message right (needed (is_message_sort right) right fine (unbroken (not (is_message_sort right) && not (is_bad right)) s at E28 (subst (λ g. sides_rule s at g right ≡ []) is none)))
+    of_message right (needed (is_message_sort right) right fine (unbroken (not (is_message_sort right) && not (is_bad right)) s at 28 (subst (λ g. sides_rule s at g right ≡ []) is none)))
 
 -- ---- messages and texts
 
@@ -172,7 +171,7 @@ place_number s e is fine = absurd (let f : false ≡ true = is in cc)
 
 -- what is needed as an integer and is fine is a number
 pub integer : (s : Scope) (e : Expr) → IsFine (sort_of s e) → integer_needed s e ≡ [] → IsOfNumber (sort_of s e)
-integer s e fine none = of_number (sort_of s e) (needed (is_number (sort_of s e)) (sort_of s e) fine (unbroken _ s (expression_place e) E13 none))
+integer s e fine none = of_number (sort_of s e) (needed (is_number (sort_of s e)) (sort_of s e) fine (unbroken _ s (expression_place e) 13 none))
 
 -- both ways round
 pub swapped : (a b : Bool) → a && b ≡ false → b && a ≡ false
@@ -183,14 +182,14 @@ swapped false false e = refl
 
 -- what `++` and `--` stand at is a place of a number
 pub stepped : (s : Scope) (e : Expr) → IsFine (sort_of s e) → step_rule s e ≡ [] → is_number_place s e ≡ true
-stepped s e fine none = go (is_number_place s e) (sort_of s e) fine (unbroken _ s (expression_place e) E14 none)
+stepped s e fine none = go (is_number_place s e) (sort_of s e) fine (unbroken _ s (expression_place e) 14 none)
   where
     go : (place : Bool) (g : Sort) → IsFine g → not (is_bad g) && not place ≡ false → place ≡ true
     go place g fine e = needed place g fine (swapped (not (is_bad g)) (not place) e)
 
 -- an argument is the timer, message or array that is needed
 pub argument_so : (s : Scope) (at : ℕ) (is_so : Sort → Bool) (e : Expr) → IsFine (sort_of s e) → argument_rule s at is_so e ≡ [] → is_so (sort_of s e) ≡ true
-argument_so s at is_so e fine none = needed (is_so (sort_of s e)) (sort_of s e) fine (unbroken _ s at E16 none)
+argument_so s at is_so e fine none = needed (is_so (sort_of s e)) (sort_of s e) fine (unbroken _ s at 16 none)
 
 -- ---- calls of functions of the language
 
@@ -206,7 +205,7 @@ all_shown : (s : Scope) (found : List Code) {m : Count} (row : Row_of-Expr m) �
 all_shown s [] row fine none = refl
 all_shown s (code ∷ found) end_of-Expr fine none = refl
 all_shown s (code ∷ found) (more_of-Expr first rest) fine none =
-    both (shows code (sort_of s first)) _ (needed (shows code (sort_of s first)) (sort_of s first) fine.0 (unbroken _ s (expression_place first) E17 (front (shown_rule s code first) _ none)))
+    both (shows code (sort_of s first)) _ (needed (shows code (sort_of s first)) (sort_of s first) fine.0 (unbroken _ s (expression_place first) 17 (front (shown_rule s code first) _ none)))
     (all_shown s found rest fine.1 (back (shown_rule s code first) _ none))
   where
     both : (a b : Bool) → a ≡ true → b ≡ true → a && b ≡ true
@@ -219,7 +218,7 @@ shown_codes s at None row fine none = absurd (full _ _ none)
 shown_codes s at (Some found) {m} row fine none = go (length found == length (items-the_row-Expr m row)) refl none
   where
     go : (b : Bool) → length found == length (items-the_row-Expr m row) ≡ b →
-        (if b then flat_map (λ (pair : Code × Expr). shown_rule s pair.0 pair.1) (zip found (items-the_row-Expr m row)) else offence s at E17 ∷ []) ≡ [] →
+        (if b then flat_map (λ (pair : Code × Expr). shown_rule s pair.0 pair.1) (zip found (items-the_row-Expr m row)) else offence s at 17 ∷ []) ≡ [] →
         show_all found (sorts_of s row) ≡ true
     go false e none = absurd (full _ _ none)
     go true e none =
@@ -236,7 +235,7 @@ fine_write s at format {m} rest fine others none = go (quoted_text format) refl 
     chosen false e = absurd (let f : false ≡ true = e in cc)
 
     go : (o : Option (List ℕ)) → quoted_text format ≡ o → format_rules s format o (items-the_row-Expr m rest) ≡ [] → IsFine (sort_of_builtin builtin.Write o (sort_of s format ∷ sorts_of s rest))
-    go None is none = absurd (fine_good (sort_of s format) fine (unbroken _ s (expression_place format) E17 none))
+    go None is none = absurd (fine_good (sort_of s format) fine (unbroken _ s (expression_place format) 17 none))
     go (Some text) is none = subst (λ g. IsFine (sort_of_builtin builtin.Write (Some text) (g ∷ sorts_of s rest))) (sym (text_sort s format text is))
         (chosen (option_map_or (λ found. show_all found (sorts_of s rest)) (format_codes text) false) (shown_codes s (expression_place format) (format_codes text) rest others none))
 
@@ -276,12 +275,12 @@ fine_builtin s at b row fine none = absurd (full _ _ none)
 pub all_integers : (s : Scope) {m : Count} (row : Row_of-Expr m) → AreFine (sorts_of s row) → flat_map (integer_needed s) (items-the_row-Expr m row) ≡ [] → list_all is_number (sorts_of s row) ≡ true
 all_integers s end_of-Expr fine none = refl
 all_integers s (more_of-Expr first rest) fine none =
-    ap (λ b. b && list_all is_number (sorts_of s rest)) (needed (is_number (sort_of s first)) (sort_of s first) fine.0 (unbroken _ s (expression_place first) E13 (front (integer_needed s first) _ none)))
+    ap (λ b. b && list_all is_number (sorts_of s rest)) (needed (is_number (sort_of s first)) (sort_of s first) fine.0 (unbroken _ s (expression_place first) 13 (front (integer_needed s first) _ none)))
     ∙ all_integers s rest fine.1 (back (integer_needed s first) _ none)
 
 -- a call of a function that breaks no rule has as many arguments as there are parameters
 pub as_many : (s : Scope) (at : ℕ) (f : Function) {m : Count} (row : Row_of-Expr m) → function_rules s at f (items-the_row-Expr m row) ≡ [] → length (items-the_row-Expr m row) ≡ length f.parameters
-as_many s at f {m} row none = eqb-true _ _ (negated (length (items-the_row-Expr m row) == length f.parameters) (unbroken _ s at E16 (front _ _ none)))
+as_many s at f {m} row none = eqb-true _ _ (negated (length (items-the_row-Expr m row) == length f.parameters) (unbroken _ s at 16 (front _ _ none)))
   where
     negated : (b : Bool) → not b ≡ false → b ≡ true
     negated true e = refl
@@ -289,10 +288,10 @@ as_many s at f {m} row none = eqb-true _ _ (negated (length (items-the_row-Expr 
 
 fine_function : (s : Scope) (at : ℕ) (f : Function) {m : Count} (row : Row_of-Expr m) → AreFine (sorts_of s row) → function_rules s at f (items-the_row-Expr m row) ≡ [] → IsFine (sort_of_function s f (sorts_of s row))
 fine_function s at f {m} row fine none =
-    let rest = back (if not (length (items-the_row-Expr m row) == length f.parameters) then offence s at E16 ∷ [] else []) _ none in
+    let rest = back (if not (length (items-the_row-Expr m row) == length f.parameters) then offence s at 16 ∷ [] else []) _ none in
     let long : length (sorts_of s row) ≡ length f.parameters = sorts_long s row ∙ as_many s at f row none in
     let numbers = all_integers s row fine (front (flat_map (integer_needed s) (items-the_row-Expr m row)) _ rest) in
-    let once = unbroken (is_recursive s f) s at E26 (back (flat_map (integer_needed s) (items-the_row-Expr m row)) _ rest) in
+    let once = unbroken (is_recursive s f) s at 26 (back (flat_map (integer_needed s) (items-the_row-Expr m row)) _ rest) in
     let same : length (sorts_of s row) == length f.parameters ≡ true = subst (λ n. length (sorts_of s row) == n ≡ true) long (nat_eq_equiv.refl (length (sorts_of s row))) in
     go (length (sorts_of s row) == length f.parameters) (list_all is_number (sorts_of s row)) (is_recursive s f) same numbers once
   where
@@ -325,7 +324,7 @@ fine_prefix s other e fine none = number_fine _ (from_number (sort_of s e) _ (in
 fine_index : (s : Scope) (at : ℕ) (base index : Expr) → IsFine (sort_of s base) → IsFine (sort_of s index) → index_rule s at (sort_of s base) ≡ [] → integer_needed s index ≡ [] →
     IsOfNumber (sort_of_element (sort_of s base) (sort_of s index))
 fine_index s at base index fine index_fine none needs =
-    let is = of_array (sort_of s base) (needed (is_array (sort_of s base)) (sort_of s base) fine (unbroken _ s at E28 none)) in
+    let is = of_array (sort_of s base) (needed (is_array (sort_of s base)) (sort_of s base) fine (unbroken _ s at 28 none)) in
     element_number (sort_of s base) (sort_of s index) is.0 is.1 (integer s index index_fine needs)
 
 -- the index of a field, if it has one, is a number
@@ -335,15 +334,15 @@ IndexIsNumber s (tree.Bytes k index at) = IsOfNumber (sort_of s index)
 
 -- a member of a message
 fine_part : (s : Scope) (at : ℕ) (base : Expr) (field : Field) (o : Option Held) → IsFine (sort_of s base) → IndexIsNumber s field →
-    option_map_or (part_rules s at field) o (if not (is_bad (sort_of s base)) then offence s at E28 ∷ [] else []) ≡ [] →
+    option_map_or (part_rules s at field) o (if not (is_bad (sort_of s base)) then offence s at 28 ∷ [] else []) ≡ [] →
     IsFine (option_map_or (λ message. sort_of_part s (signals_of message) field) o sort.Bad)
-fine_part s at base field None fine index none = absurd (fine_good (sort_of s base) fine (unbroken _ s at E28 none))
+fine_part s at base field None fine index none = absurd (fine_good (sort_of s base) fine (unbroken _ s at 28 none))
 fine_part s at base (Named name name_at) (Some held) fine index none = number_fine _ (fine_member s at name_at (member_named (signals_of held) name) none)
 fine_part s at base (tree.Bytes k inner kind_at) (Some held) fine index none = number_fine _ (from_number (sort_of s inner) k index)
 
 -- the left of an assignment is a place
 pub left_place : (s : Scope) (operator : Option BinOp) (left : Expr) → IsFine (sort_of s left) → left_rule s operator left ≡ [] → is_place_for operator s left ≡ true
-left_place s operator left fine none = go (is_place_for operator s left) (sort_of s left) fine (unbroken _ s (expression_place left) E14 none)
+left_place s operator left fine none = go (is_place_for operator s left) (sort_of s left) fine (unbroken _ s (expression_place left) 14 none)
   where
     go : (place : Bool) (g : Sort) → IsFine g → not (is_bad g) && not place ≡ false → place ≡ true
     go place g fine e = needed place g fine (swapped (not (is_bad g)) (not place) e)

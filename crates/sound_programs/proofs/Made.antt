@@ -18,7 +18,6 @@ use Rattle.typed_tree.specs.declared.program.Typed.{Typed}
 use Rattle.typed_tree.specs.SoundExpression.{IsOperation}
 use Rattle.capl_meaning.specs.declared.sort.Sort.{Sort}
 use Rattle.capl_meaning.specs.declared.sort.Sort.TheVariants as sort
-use Rattle.capl_meaning.specs.Rule.{E18}
 use Rattle.capl_meaning.specs.Names.{Scope, callee}
 use Rattle.capl_meaning.specs.Calls.{calls_in, calls_in_field, calls_in_row}
 use Rattle.capl_meaning.specs.Sort.{is_bad, sort_of_number}
@@ -52,7 +51,7 @@ compound (Some operator) h = go operator (h operator refl)
 small : (s : Scope) (at : ℕ) (value : Option ℕ) (extended : Bool) → IfSome value (λ n. n < 2 ^ 64) → number_rule s at value extended ≡ [] → IsSmall value extended
 small s at None extended h none = tt
 small s at (Some n) false h none = h
-small s at (Some n) true h none = go (nat_le n 0x1FFFFFFF) refl (unbroken (is_bad (sort_of_number (Some n) true)) s at E18 none)
+small s at (Some n) true h none = go (nat_le n 0x1FFFFFFF) refl (unbroken (is_bad (sort_of_number (Some n) true)) s at 18 none)
   where
     go : (b : Bool) → nat_le n 0x1FFFFFFF ≡ b → is_bad (if b then sort.Number kind.Dword else sort.Bad) ≡ false → n < 2 ^ 32
     go true is e = omega (arith, leb-true n 0x1FFFFFFF is)

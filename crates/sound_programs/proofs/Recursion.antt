@@ -25,7 +25,6 @@ use Rattle.capl_tree.specs.declared.statement.Stmt.{Stmt, Row_of-Stmt, end_of-St
 use Rattle.capl_tree.specs.declared.statement.Stmt.TheBlock.{Row_of-Arm, end_of-Arm, more_of-Arm, Row_of-Group, end_of-Group, more_of-Group, Held-Stmt-If-1}
 use Rattle.capl_tree.specs.declared.statement.Stmt.TheVariants as stmt
 use Rattle.capl_tree.specs.Forms as tree
-use Rattle.capl_meaning.specs.Rule.{E16, E26}
 use Rattle.capl_meaning.specs.Variable.{Form, Number, Array, Message, Timer, Misfit, form_of, parts_of}
 use Rattle.capl_meaning.specs.Names.{Callee, Function, Names, OfLanguage, OfProgram, Unknown, Scope, callee, inside_function, names_of}
 use Rattle.capl_meaning.specs.Calls.{called_by, called_by_number, calls_in, calls_in_declarator, calls_in_field, calls_in_init, calls_in_item, calls_in_labels, calls_in_part, calls_in_row, names_called, calls_of_arms, calls_of_else, calls_of_groups, calls_of_row, function_numbered, number_of_callee, reaches}
@@ -56,7 +55,7 @@ module _ (s : Scope) where
 
   called_forward : (at : ℕ) (f : Function) (arguments : List Expr) → function_rules s at f arguments ≡ [] → is_recursive s f ≡ false
   called_forward at f arguments none =
-      unbroken (is_recursive s f) s at E26 (back (flat_map (integer_needed s) arguments) _ (back (if not (length arguments == length f.parameters) then offence s at E16 ∷ [] else []) _ none))
+      unbroken (is_recursive s f) s at 26 (back (flat_map (integer_needed s) arguments) _ (back (if not (length arguments == length f.parameters) then offence s at 16 ∷ [] else []) _ none))
 
   -- ---- expressions
 

@@ -19,7 +19,6 @@ use Rattle.typed_tree.specs.declared.statement.TStmt.TheVariants.{Return}
 use Rattle.typed_tree.specs.SoundExpression.{IsSoundExpr}
 use Rattle.typed_tree.specs.SoundStatement.{AreSoundArms, AreSoundGroups, AreSoundStmts, Around, IsPlainPart, IsSoundOption, IsSoundPart, IsSoundStmt, all_labels}
 use Rattle.capl_meaning.specs.declared.sort.Sort.TheVariants as sort
-use Rattle.capl_meaning.specs.Rule.{E22}
 use Rattle.capl_meaning.specs.Names.{Scope}
 use Rattle.capl_meaning.specs.Calls.{calls_in, calls_in_labels, calls_in_part, names_called, calls_of_arms, calls_of_else, calls_of_groups, calls_of_row}
 use Rattle.capl_meaning.specs.Sort.{kind_in, sort_of}
@@ -206,9 +205,9 @@ module _ (typed : Typed) (number : ℕ) (s : Scope) (order : List ℕ) (tables :
               (callable_back (calls_in on) (calls_of_groups groups) called) formats,
         )
     statement around before (stmt.Break at) formed few none called formats =
-        assumption (negated around.breakable (unbroken (not around.breakable) s at E22 none))
+        assumption (negated around.breakable (unbroken (not around.breakable) s at 22 none))
     statement around before (stmt.Continue at) formed few none called formats =
-        assumption (negated around.continuable (unbroken (not around.continuable) s at E22 none))
+        assumption (negated around.continuable (unbroken (not around.continuable) s at 22 none))
     statement around before (stmt.Return value at) formed few none called formats =
         returns_right at s.gives value (expression_of s order) (front (return_rule s at s.gives value) _ none)
         (value_sound value formed few (back (return_rule s at s.gives value) _ none) called) (standing around) refl refl

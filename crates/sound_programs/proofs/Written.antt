@@ -23,7 +23,6 @@ use Rattle.capl_tree.specs.declared.expr.Expr.{Expr, Row_of-Expr, end_of-Expr, m
 use Rattle.capl_tree.specs.Place.{expression_place}
 use Rattle.capl_meaning.specs.declared.sort.Sort.{Sort}
 use Rattle.capl_meaning.specs.declared.sort.Sort.TheVariants as sort
-use Rattle.capl_meaning.specs.Rule.{E17}
 use Rattle.capl_meaning.specs.Names.{Scope}
 use Rattle.capl_meaning.specs.Format.{array_argument, argument_of as sort_argument, format_codes, show_all, shows, quoted_text}
 use Rattle.capl_meaning.specs.Sort.{is_number, sort_of, sorts_of}
@@ -141,5 +140,5 @@ fits s format {m} row fine others none = go (quoted_text format) refl none
         }
 
     go : (o : Option (List ℕ)) → quoted_text format ≡ o → format_rules s format o (items-the_row-Expr m row) ≡ [] → Fits s format (items-the_row-Expr m row)
-    go None is none = absurd (fine_good (sort_of s format) fine (unbroken _ s (expression_place format) E17 none))
+    go None is none = absurd (fine_good (sort_of s format) fine (unbroken _ s (expression_place format) 17 none))
     go (Some text) is none = read text is (pieces_of text) refl (shown_codes s (expression_place format) (format_codes text) row others none)

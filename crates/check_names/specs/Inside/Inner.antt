@@ -1,7 +1,7 @@
 -- Parameters and locals that are declared for the second time, of all procedures at once.
 use Rattle.std.specs.Prelude.{Bool, ◌&&◌, nat_lt}
+use Rattle.texts.specs.Rule.{source_rule}
 use Rattle.capl_meaning.specs.declared.offence.Offence.{Offence}
-use Rattle.capl_meaning.specs.Rule.{E10}
 use Rattle.capl_meaning.specs.Variable.{Variable}
 use Rattle.check_names.specs.Inside.Table.{is_named}
 
@@ -11,4 +11,4 @@ same_inside a b = nat_lt 0 a.owner && is_named a.owner a.name b
 
 -- E10 at a variable's name
 abbrev pub inner_offence : Variable → Offence
-inner_offence v = record { file = v.file; token = v.token; rule = E10 }
+inner_offence v = record { file = v.file; token = v.token; rule = source_rule 10 }

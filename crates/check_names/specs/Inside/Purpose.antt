@@ -1,9 +1,9 @@
 -- What procedures are for, as it is listed, and what tables have of it.
 use Rattle.std.specs.Prelude.{◌≡◌, ◌<◌, ℕ, ◌+◌, ◌*◌, Bool, if◌then◌else◌, List, [], ◌∷◌, ◌++◌, flat_map, is_some, map, Option, Some, None, ⊤}
 use Rattle.std.specs.List.{AllByRecursion, list_any}
+use Rattle.texts.specs.Rule.{source_rule}
 use Rattle.run_effects.specs.declared.event.Selector.{Selector}
 use Rattle.capl_meaning.specs.declared.offence.Offence.{Offence}
-use Rattle.capl_meaning.specs.Rule.{E25}
 use Rattle.capl_meaning.specs.ProcedureRules.{Channels, Purpose, ForFrames, ForTimer, ForKey, Told, channels_of, collide, hold_first, hold_second}
 use Rattle.check_names.specs.declared.purposes.Purpose.{Purpose as Listed}
 use Rattle.check_names.specs.declared.purposes.Purpose.TheVariants as listed
@@ -72,7 +72,7 @@ same_purpose a b = collide a.purpose b.purpose
 
 -- E25 where something is told
 abbrev pub purpose_offence : Told → Offence
-purpose_offence told = record { file = told.file; token = told.token; rule = E25 }
+purpose_offence told = record { file = told.file; token = told.token; rule = source_rule 25 }
 
 -- the tables have what was told
 pub record Knows (purposes : Purposes) (earlier : List Told) : Type 0 where

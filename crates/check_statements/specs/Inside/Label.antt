@@ -11,7 +11,6 @@ use Rattle.capl_meaning.specs.declared.offence.Offence.{Offence}
 use Rattle.capl_meaning.specs.declared.sort.Sort.{Sort}
 use Rattle.capl_meaning.specs.ExpressionRules.{offence}
 use Rattle.capl_meaning.specs.Names.{Scope}
-use Rattle.capl_meaning.specs.Rule.{E20}
 use Rattle.check_statements.specs.declared.label.Saying.{Saying}
 use Rattle.check_statements.specs.declared.label.Saying.TheVariants as saying
 use Rattle.check_statements.specs.declared.label.Seen.{Seen}
@@ -34,7 +33,7 @@ same_said a b = same_saying a.saying b.saying
 
 -- E20 at a label
 abbrev pub label_offence : Scope → SaidLabel → Offence
-label_offence s said = offence s said.at E20
+label_offence s said = offence s said.at 20
 
 -- a label that is lent
 abbrev pub said_of : Scope → Sort → Bor Label → SaidLabel

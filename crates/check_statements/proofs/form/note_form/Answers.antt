@@ -7,7 +7,6 @@ use Rattle.capl_tree.specs.declared.expr.Expr.{Expr}
 use Rattle.capl_meaning.specs.DeclarationRules.{form_rule}
 use Rattle.capl_meaning.specs.ExpressionRules.{broken_where}
 use Rattle.capl_meaning.specs.Names.{Scope}
-use Rattle.capl_meaning.specs.Rule.{E12}
 use Rattle.capl_meaning.specs.Variable.{form_of}
 use Rattle.check_names.specs.First.{noted}
 use Rattle.check_statements.specs.Site.{place_of}
@@ -15,9 +14,9 @@ use Rattle.check_statements.proofs.form.note_form.Goals as goal
 
 -- what the rule says of a size that may be missing
 by_size : (s : Scope) (base : List DbcMessage) (at : ℕ) (what : DeclType) (size : Option Expr) (has wrong : Bool) → has ≡ is_some size
-    → ((e : Expr) → has ≡ true → form_rule s at (form_of base what (Some e)) ≡ broken_where wrong s at E12)
-    → (has ≡ false → form_rule s at (form_of base what None) ≡ broken_where wrong s at E12)
-    → broken_where wrong s at E12 ≡ form_rule s at (form_of base what size)
+    → ((e : Expr) → has ≡ true → form_rule s at (form_of base what (Some e)) ≡ broken_where wrong s at 12)
+    → (has ≡ false → form_rule s at (form_of base what None) ≡ broken_where wrong s at 12)
+    → broken_where wrong s at 12 ≡ form_rule s at (form_of base what size)
 by_size s base at what None has wrong is sized plain = sym (plain is)
 by_size s base at what (Some e) has wrong is sized plain = sym (sized e is)
 

@@ -5,7 +5,6 @@ use Rattle.std.specs.Option.{option_map_or}
 use Rattle.capl_meaning.specs.Constant.{constant_at}
 use Rattle.capl_meaning.specs.ExpressionRules.{broken_where}
 use Rattle.capl_meaning.specs.InitialiserRules.{constant_offences, is_payload_index}
-use Rattle.capl_meaning.specs.Rule.{E27}
 use Rattle.check_names.specs.First.{noted}
 use Rattle.check_statements.specs.Item.{payload_offences}
 use Rattle.check_statements.specs.Site.{place_of}
@@ -20,6 +19,6 @@ returns c =
     let kind = c.args.kind in
     let index = c.args.index.now in
     two_noted c.args.first.now c.judge_constant.new.first c.note_broken.new.first (constant_offences s token index)
-    (broken_where (option_map_or (λ i. not (is_payload_index kind i)) (constant_at s token index) false) s at E27)
+    (broken_where (option_map_or (λ i. not (is_payload_index kind i)) (constant_at s token index) false) s at 27)
     (payload_offences s token at kind index) c.in_ok-judge_constant.ensures
-    (c.note_broken.ensures ∙ ap (λ (b : Bool). noted c.judge_constant.new.first (broken_where b s at E27)) c.passes_the_end-broken.ensures) refl
+    (c.note_broken.ensures ∙ ap (λ (b : Bool). noted c.judge_constant.new.first (broken_where b s at 27)) c.passes_the_end-broken.ensures) refl
