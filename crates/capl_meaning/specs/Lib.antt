@@ -1,4 +1,5 @@
 -- The definitions of this crate.
+pub mod Inside
 pub mod Variable
 pub mod Names
 pub mod Message

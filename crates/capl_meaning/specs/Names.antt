@@ -1,6 +1,6 @@
 -- What names mean in a program (CAPL manual, variables, functions, event procedures).
-use Rattle.std.specs.Prelude.{ℕ, ◌==◌, Bool, ◌&&◌, ◌||◌, if◌then◌else◌, nat_lt, List, [], ◌∷◌, filter_map, find, Option, Some, None, codes}
-use Rattle.std.specs.Option.{option_or}
+use Rattle.std.specs.Prelude.{ℕ, ◌==◌, Bool, ◌&&◌, ◌||◌, if◌then◌else◌, nat_lt, List, [], ◌∷◌, filter_map, find, map, Option, Some, None, codes}
+use Rattle.std.specs.Option.{option_map_or, option_or}
 use Rattle.std.specs.Str.{bytes_eq}
 use Rattle.int_kinds.specs.declared.kinds.Kind.{Kind}
 use Rattle.dbc_reader.specs.declared.message.DbcMessage.{DbcMessage}
@@ -9,7 +9,6 @@ use Rattle.capl_tree.specs.declared.statement.Stmt.{Stmt}
 use Rattle.capl_tree.specs.declared.procedure.Head.{Head}
 use Rattle.capl_tree.specs.declared.procedure.Head.TheVariants as head
 use Rattle.capl_tree.specs.declared.procedure.Param.{Param}
-use Rattle.capl_tree.specs.declared.procedure.Sel.{Sel}
 use Rattle.capl_tree.specs.declared.procedure.SelWhat.{SelWhat}
 use Rattle.capl_tree.specs.declared.procedure.SelWhat.TheVariants as selected
 use Rattle.capl_tree.specs.declared.file.Program.{Program}
@@ -70,22 +69,17 @@ pub data ThisForm : Type 0 where
 
 -- the signals of the message of a name; none where the database does not have it
 abbrev pub signals_by : Option DbcMessage → List DbcSignal
-signals_by None = []
-signals_by (Some m) = m.signals
+signals_by message = option_map_or (λ m. m.signals) message []
 
--- the signals that `this` has for one selector, on whichever channel: those of a name
-abbrev pub signals_of_selection : List DbcMessage → SelWhat → Option (List DbcSignal)
-signals_of_selection base (selected.Name name at) = Some (signals_by (message_named base name))
-signals_of_selection base _ = None
-
--- the signals that `this` has for these selectors: those of one name alone
-abbrev pub signals_of_selectors : List DbcMessage → List Sel → Option (List DbcSignal)
-signals_of_selectors base (one ∷ []) = signals_of_selection base one.what
+-- the signals that `this` has for what is selected: those of one name alone, on whichever channel
+abbrev pub signals_of_selectors : List DbcMessage → List SelWhat → Option (List DbcSignal)
+signals_of_selectors base (selected.Name name at ∷ []) = Some (signals_by (message_named base name))
 signals_of_selectors base _ = None
 
 -- what `this` is in a procedure with this head
 abbrev pub this_form : List DbcMessage → Head → ThisForm
-this_form base (head.Message selectors) = ThisFrame (signals_of_selectors base selectors)
+this_form base (head.Message selectors) =
+    ThisFrame (signals_of_selectors base (map (λ one. one.what) selectors))
 this_form base (head.Key value) = ThisKey
 this_form base _ = NoThis
 
@@ -128,13 +122,9 @@ abbrev pub is_local : ℕ → List ℕ → ℕ → Variable → Bool
 is_local owner name token v =
     nat_lt 0 owner && (v.owner == owner && (bytes_eq name v.name && nat_lt v.token token))
 
--- whether a variable is a global of this name
-abbrev pub is_global : List ℕ → Variable → Bool
-is_global name v = v.owner == 0 && bytes_eq name v.name
-
 -- the global of a name
 abbrev pub global : Names → List ℕ → Option Variable
-global names name = find (is_global name) names.variables
+global names name = find (λ v. v.owner == 0 && bytes_eq name v.name) names.variables
 
 -- what a name means at a token: the parameter or local of this name that is declared before it in the
 -- procedure, else the global, else nothing
@@ -168,18 +158,9 @@ pub data Callee : Type 0 where
   OfProgram : Function → Callee
   Unknown : Callee
 
--- what a call of a name is of where it is no function of the language
-abbrev pub callee_by : Option Function → Callee
-callee_by None = Unknown
-callee_by (Some f) = OfProgram f
-
--- a function of the language goes before all others
-abbrev pub callee_before : Option Builtin → Callee → Callee
-callee_before (Some b) other = OfLanguage b
-callee_before None other = other
-
 -- what a call of a name is of: a function of the language, else the first function of the program with the
 -- name; variables have no part in it
 abbrev pub callee : Names → List ℕ → Callee
 callee names name =
-    callee_before (builtin_named name) (callee_by (find (λ f. bytes_eq name f.name) names.functions))
+    option_map_or OfLanguage (builtin_named name)
+    (option_map_or OfProgram (find (λ f. bytes_eq name f.name) names.functions) Unknown)

@@ -2,12 +2,12 @@
 use Rattle.std.proofs.Common.{◌≡◌, ◌++◌, ◌∷◌, ◌∙◌, ℕ, List, [], Option, Some, None, ap, append_assoc, get_or, length, refl, subst, sym, take, ◌+◌, ◌<◌, ◌≤◌, true, false}
 use Rattle.std.specs.Prelude.{find, map, position, slice_get}
 use Rattle.std.specs.Str.{bytes_eq}
-use Rattle.std.specs.Option.{is_some}
+use Rattle.std.specs.Option.{is_some, option_map_or}
 use Rattle.std.specs.List.{cons_option, flat_map}
 use Rattle.std.proofs.lemmas.List.{append-nil, flat_map_more, map-append, take_all, take_more}
 use Rattle.std.proofs.lemmas.Bool.{false≢true}
 use Rattle.std.proofs.lemmas.List.Elements.{filter_map-append}
-use Rattle.capl_meaning.specs.Names.{Function, Names, builtin_named, callee, callee_before, callee_by}
+use Rattle.capl_meaning.specs.Names.{Function, Names, builtin_named, callee, OfLanguage, OfProgram, Unknown}
 use Rattle.capl_meaning.specs.declared.builtin.Builtin.{Builtin}
 use Rattle.check_calls.proofs.PlaceLemmas.{at_first, no_first}
 use Rattle.check_calls.specs.Callees.{called, callees, function_called, functions_at}
@@ -89,7 +89,7 @@ added_builtin names places name is = by (builtin_named name) refl is
     by None same wrong = absurd (false≢true wrong)
     by (Some b) same right =
         let empty : called names (name ∷ []) ≡ [] =
-        ap (λ o. cons_option (function_called (callee_before o (callee_by (find (λ f. bytes_eq name f.name) names.functions)))) []) same in
+        ap (λ o. cons_option (function_called (option_map_or OfLanguage o (option_map_or OfProgram (find (λ f. bytes_eq name f.name) names.functions) Unknown))) []) same in
         sym (append-nil (functions_at names places))
         ∙ ap (λ (l : List Function). functions_at names places ++ map (λ (f : Function). Some f) l) (sym empty)
 
@@ -103,8 +103,8 @@ added_unknown names places name is unknown = by (builtin_named name) refl is
     by (Some b) same wrong = absurd (false≢true (sym wrong))
     by None same right =
         let empty : called names (name ∷ []) ≡ [] =
-        ap (λ o. cons_option (function_called (callee_before o (callee_by (find (λ f. bytes_eq name f.name) names.functions)))) []) same
-        ∙ ap (λ o. cons_option (function_called (callee_by o)) []) (no_first (λ f. bytes_eq name f.name) names.functions unknown) in
+        ap (λ o. cons_option (function_called (option_map_or OfLanguage o (option_map_or OfProgram (find (λ f. bytes_eq name f.name) names.functions) Unknown))) []) same
+        ∙ ap (λ o. cons_option (function_called (option_map_or OfProgram o Unknown)) []) (no_first (λ f. bytes_eq name f.name) names.functions unknown) in
         sym (append-nil (functions_at names places))
         ∙ ap (λ (l : List Function). functions_at names places ++ map (λ (f : Function). Some f) l) (sym empty)
 
@@ -119,8 +119,8 @@ added_function names places place name is found = by (builtin_named name) refl i
     by None same right =
         let first = at_first (λ f. bytes_eq name f.name) place names.functions found in
         let one : called names (name ∷ []) ≡ first.0 ∷ [] =
-        ap (λ o. cons_option (function_called (callee_before o (callee_by (find (λ f. bytes_eq name f.name) names.functions)))) []) same
-        ∙ ap (λ o. cons_option (function_called (callee_by o)) []) first.2 in
+        ap (λ o. cons_option (function_called (option_map_or OfLanguage o (option_map_or OfProgram (find (λ f. bytes_eq name f.name) names.functions) Unknown))) []) same
+        ∙ ap (λ o. cons_option (function_called (option_map_or OfProgram o Unknown)) []) first.2 in
         map-append (slice_get names.functions) places (place ∷ [])
         ∙ ap (λ (o : Option Function). map (slice_get names.functions) places ++ o ∷ []) first.1
         ∙ ap (λ (l : List Function). map (slice_get names.functions) places ++ map (λ (f : Function). Some f) l) (sym one)

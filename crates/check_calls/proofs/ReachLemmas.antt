@@ -7,7 +7,7 @@ use Rattle.std.specs.Str.{bytes_eq}
 use Rattle.std.proofs.lemmas.Bool.{false≢true}
 use Rattle.std.proofs.lemmas.Bool.Decides.{nat_tests}
 use Rattle.capl_meaning.specs.declared.builtin.Builtin.{Builtin}
-use Rattle.capl_meaning.specs.Names.{Function, Names, builtin_named, callee, callee_before, callee_by}
+use Rattle.capl_meaning.specs.Names.{Function, Names, builtin_named, callee, OfLanguage, OfProgram, Unknown}
 use Rattle.capl_meaning.specs.Calls.{called_by, called_by_number, names_called, function_numbered, number_of_callee, reaches, reaches_within}
 use Rattle.check_calls.specs.Graph.{Has}
 use Rattle.check_calls.proofs.CountLemmas.{AllPass, counted, counted_length, settles}
@@ -131,7 +131,7 @@ of_program : (names : Names) (name : List ℕ) (number : ℕ) → number_of_call
 of_program names name number is = by (builtin_named name) (find (λ f. bytes_eq name f.name) names.functions) refl is
   where
     by : (b : Option Builtin) (o : Option Function) → find (λ f. bytes_eq name f.name) names.functions ≡ o
-        → number_of_callee (callee_before b (callee_by o)) ≡ Some number → (f : Function) × Has names.functions f × (f.number ≡ number)
+        → number_of_callee (option_map_or OfLanguage b (option_map_or OfProgram o Unknown)) ≡ Some number → (f : Function) × Has names.functions f × (f.number ≡ number)
     by (Some b) o same h = let no : None ≡ Some number = h in cc
     by None None same h = let no : None ≡ Some number = h in cc
     by None (Some f) same h =

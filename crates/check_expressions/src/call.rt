@@ -3,9 +3,9 @@
 ghost use Rattle.std.specs.Prelude.{◌≡◌, ℕ, List, Option, IfOk, OnOk, flat_map, slice_get};
 ghost use Rattle.capl_meaning.specs.ExpressionRules.{builtin_rules, call_rules, function_rules, integer_needed};
 ghost use Rattle.std.specs.List.{list_all};
-ghost use Rattle.std.specs.Option.{option_copied, option_map};
+ghost use Rattle.std.specs.Option.{option_copied, option_map, option_map_or};
 ghost use Rattle.capl_meaning.specs.Names as meant;
-ghost use Rattle.capl_meaning.specs.Names.{callee, callee_by};
+ghost use Rattle.capl_meaning.specs.Names.{callee};
 ghost use Rattle.capl_meaning.specs.Sort.{is_number, is_recursive, sort_of_builtin, sort_of_call, sort_of_function};
 ghost use Rattle.check_calls.specs.Calls.{AreCallsOf};
 ghost use Rattle.check_names.specs.First.{noted};
@@ -152,9 +152,11 @@ fn judge_function(
 ) -> Result<Sort, NoMemory>
     requires calls { AreCallsOf scope.names.now calls.now }
     requires sorts { sorts.now ≡ sorts_in (scope_in scope) args.now }
-    ensures sort { let s = scope_in scope.entry in let f = callee_by (slice_get s.names.functions number) in
+    ensures sort { let s = scope_in scope.entry in
+        let f = option_map_or meant.OfProgram (slice_get s.names.functions number) meant.Unknown in
         (text : Option (List ℕ)) → IfOk result (λ sort. sort ≡ sort_of_call s f text sorts.now) }
-    ensures noted { let s = scope_in scope.entry in let f = callee_by (slice_get s.names.functions number) in
+    ensures noted { let s = scope_in scope.entry in
+        let f = option_map_or meant.OfProgram (slice_get s.names.functions number) meant.Unknown in
         OnOk result (first.new ≡ noted first.old (call_rules s at f args.now)) }
 {
     let Some(function) = function_at(scope.names, number) else {

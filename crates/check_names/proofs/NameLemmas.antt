@@ -8,8 +8,9 @@ use Rattle.std.proofs.lemmas.Bool.Decides.{nat_tests}
 use Rattle.std.proofs.lemmas.Option.{slice_get-get_or}
 use Rattle.std.proofs.lemmas.Iterator.Adapters.{position_from-zero}
 use Rattle.dbc_reader.specs.declared.message.DbcMessage.{DbcMessage}
-use Rattle.capl_meaning.specs.Names.{Names, Scope, global, is_global, is_local, means}
+use Rattle.capl_meaning.specs.Names.{Names, Scope, global, is_local, means}
 use Rattle.capl_meaning.specs.Variable.{Variable}
+use Rattle.capl_meaning.specs.Inside.Names.{is_global}
 use Rattle.check_names.specs.declared.table.NameTable.{NameTable}
 use Rattle.check_names.specs.declared.variable.Declared.{Declared}
 use Rattle.check_names.specs.Inside.Table.{AreInOrder, AreTables, is_named, is_named_before, number_at}

@@ -5,7 +5,7 @@ ghost use Rattle.std.specs.Option.{option_and_then, option_copied, option_map};
 ghost use Rattle.std.specs.List.Sorted.{IsStrictlyIncreasing};
 ghost use Rattle.std.specs.Str.{bytes_eq};
 ghost use Rattle.dbc_reader.specs.declared.message.DbcMessage.{DbcMessage};
-ghost use Rattle.capl_meaning.specs.Names.{Scope, is_global, is_local, means, names_of};
+ghost use Rattle.capl_meaning.specs.Names.{Scope, is_local, means, names_of};
 ghost use Rattle.capl_meaning.specs.Variable.{message_named, parts_of};
 ghost use Rattle.capl_tree.specs.declared.file.Program.{Program};
 ghost use Rattle.check_names.specs.Few.{IsFew};
@@ -131,7 +131,7 @@ impl<'p> Names<'p> {
 
     /// The number of the first global of this name, or None where there is none.
     pub fn global(&self, name: &[u8]) -> Option<u32>
-        ensures { result ≡ position (is_global name.now) self.now.variables }
+        ensures { result ≡ position (λ v. v.owner == 0 && bytes_eq name.now v.name) self.now.variables }
     {
         number_at(self.tables.as_slice(), 0, name)
     }

@@ -1,5 +1,6 @@
 -- Where parts of a program stand, and what calls are of, as the code has it.
 use Rattle.std.specs.Prelude.{◌≡◌, Option, Some, slice_get}
+use Rattle.std.specs.Option.{option_map_or}
 use Rattle.capl_meaning.specs.Names as meant
 use Rattle.capl_meaning.specs.Variable.{Variable}
 use Rattle.check_sorts.specs.declared.scope.Callee.{Callee}
@@ -29,7 +30,8 @@ scope_in s = record {
 -- what a call is of; a function of the program by its number among these
 abbrev pub callee_in : meant.Names → Callee → meant.Callee
 callee_in names (callee.Language b) = meant.OfLanguage b
-callee_in names (callee.Program number) = meant.callee_by (slice_get names.functions number)
+callee_in names (callee.Program number) =
+    option_map_or meant.OfProgram (slice_get names.functions number) meant.Unknown
 callee_in names callee.Unknown = meant.Unknown
 
 -- a variable of these names, which something means: it has this number, and is this

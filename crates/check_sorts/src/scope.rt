@@ -1,9 +1,9 @@
 // Where a part of a program stands, and what names and calls are there.
 
-ghost use Rattle.std.specs.Prelude.{◌≡◌, MatchOption, None, slice_get};
+ghost use Rattle.std.specs.Prelude.{◌≡◌, MatchOption, None, slice_get, [], ◌∷◌, map};
 ghost use Rattle.std.specs.Option.{option_and_then};
 ghost use Rattle.capl_meaning.specs.Constant.{scope_of};
-ghost use Rattle.capl_meaning.specs.Names.{callee, inside, kind_given, means, outside, signals_of_selection, signals_of_selectors, this_form};
+ghost use Rattle.capl_meaning.specs.Names.{callee, inside, kind_given, means, outside, signals_of_selectors, this_form};
 ghost use Rattle.check_names.specs.Variable.{variable_in};
 ghost use Rattle.check_sorts.specs.Form.{signals_in};
 ghost use Rattle.check_sorts.specs.Scope.{IsMeaning, callee_in, scope_in, this_in};
@@ -63,7 +63,7 @@ pub enum Callee {
 
 /// The signals that `this` has for one selector, on whichever channel: those of a name.
 fn signals_of_selection<'p>(names: &Names<'p>, what: &SelWhat) -> DeclaredSignals<'p>
-    ensures { signals_in result ≡ signals_of_selection names.now.base what.now }
+    ensures { signals_in result ≡ signals_of_selectors names.now.base (what.now ∷ []) }
 {
     match what {
         SelWhat::Name { name, .. } => DeclaredSignals::Named(names.message(name.bytes())),
@@ -73,7 +73,8 @@ fn signals_of_selection<'p>(names: &Names<'p>, what: &SelWhat) -> DeclaredSignal
 
 /// The signals that `this` has for these selectors: those of one name alone.
 fn signals_of_selectors<'p>(names: &Names<'p>, selectors: &[Sel]) -> DeclaredSignals<'p>
-    ensures { signals_in result ≡ signals_of_selectors names.now.base selectors.now }
+    ensures { signals_in result ≡
+        signals_of_selectors names.now.base (map (λ one. one.what) selectors.now) }
 {
     match selectors {
         [one] => signals_of_selection(names, &one.what),

@@ -9,10 +9,11 @@ use Rattle.std.proofs.lemmas.List.{length-map}
 use Rattle.std.proofs.lemmas.Option.{get_or_from_slice_get, none-some, same_Some, slice_get-get_or, slice_get-map, slice_get_read, slice_get_within}
 use Rattle.std.proofs.lemmas.Slice.Eq.{bytes_eq-Decides}
 use Rattle.capl_meaning.specs.Calls.{function_numbered}
-use Rattle.capl_meaning.specs.Names.{Function, Names, is_global}
+use Rattle.capl_meaning.specs.Names.{Function, Names}
 use Rattle.capl_meaning.specs.Procedure.{timer_named}
 use Rattle.capl_meaning.specs.Store.{variable_key, timer_number}
 use Rattle.capl_meaning.specs.Variable.{Variable}
+use Rattle.capl_meaning.specs.Inside.Names.{is_global}
 use Rattle.typed_laws.specs.Laid.{IsAmong}
 use Rattle.check_names.specs.declared.function.DeclaredFunction.{DeclaredFunction}
 use Rattle.check_names.specs.Function.{function_in, functions_in}

@@ -1,6 +1,7 @@
 -- What the tasks of a source ask for.
 use Rattle.std.proofs.Common.{◌≡◌, ◌≢◌, ℕ, Bool, true, false, List, [], ◌∷◌, Option, Some, None, All, IsSomeAnd, MatchOption, refl, sym, ap, subst, ◌∙◌, slice_get}
 use Rattle.std.specs.Prelude.{codes, find, if◌then◌else◌, ⊤}
+use Rattle.std.specs.Option.{option_map_or}
 use Rattle.std.specs.Str.{bytes_eq}
 use Rattle.std.proofs.lemmas.List.Elements.{All-cons, All-from_recursion, All-head, All-nil, All-tail}
 use Rattle.std.proofs.lemmas.Slice.Eq.{bytes_eq-Decides}
@@ -16,7 +17,7 @@ use Rattle.node_rounds.specs.Round.{task_of}
 use Rattle.node_run.proofs.SentFrames.{IsFrame-frame_of}
 use Rattle.capl_meaning.specs.declared.builtin.Builtin.{Builtin}
 use Rattle.capl_meaning.specs.declared.builtin.Builtin.TheVariants as builtin
-use Rattle.capl_meaning.specs.Names.{Function, Names, OfLanguage, builtin_named, callee_before, callee_by, names_of}
+use Rattle.capl_meaning.specs.Names.{Function, Names, OfLanguage, builtin_named, names_of, OfProgram, Unknown}
 use Rattle.capl_meaning.specs.Procedure.{Handler, handlers_in, setting_of}
 use Rattle.capl_meaning.specs.Store.{MessageRecord, Store, message_cells}
 use Rattle.capl_meaning.specs.Variable.{parts_of}
@@ -31,7 +32,7 @@ use Rattle.source_logs.proofs.Programs.{at_place, functions_called, handlers_cal
 -- ---- functions of the language
 
 -- what is called as a function of the language has its name
-by_builtin : (o : Option Builtin) (f : Option Function) (b : Builtin) → callee_before o (callee_by f) ≡ OfLanguage b → o ≡ Some b
+by_builtin : (o : Option Builtin) (f : Option Function) (b : Builtin) → option_map_or OfLanguage o (option_map_or OfProgram f Unknown) ≡ OfLanguage b → o ≡ Some b
 by_builtin (Some c) f b is = let same : c ≡ b = cc in ap Some same
 by_builtin None None b is = absurd (cc)
 by_builtin None (Some f) b is = absurd (cc)

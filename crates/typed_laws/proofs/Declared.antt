@@ -18,7 +18,7 @@ use Rattle.capl_tree.specs.declared.procedure.Param.{Param}
 use Rattle.capl_tree.specs.declared.statement.Stmt.{Stmt}
 use Rattle.capl_meaning.specs.declared.builtin.Builtin.{Builtin}
 use Rattle.capl_meaning.specs.Variable.{Part, Globals, Procedure, parameters_of, parts_of, parts_of_files, parts_of_items, variable_of_parameter, variables_of, variables_of_part}
-use Rattle.capl_meaning.specs.Names.{Function, Names, OfLanguage, OfProgram, Unknown, builtin_named, callee, callee_before, callee_by, function_by, function_of_part, inside, names_of}
+use Rattle.capl_meaning.specs.Names.{Function, Names, OfLanguage, OfProgram, Unknown, builtin_named, callee, function_by, function_of_part, inside, names_of}
 use Rattle.capl_meaning.specs.Procedure.{Handler, event_of, handlers_of_part}
 use Rattle.typed_laws.specs.Laid.{AreDistinct, IsAmong}
 use Rattle.typed_laws.specs.Agreement.{ArePlain}
@@ -78,11 +78,11 @@ found_by_number n (g ∷ fs) f h (inr s) = go (among_least (suc g.number) fs f h
 called_among : (names : Names) (name : List ℕ) (f : Function) → callee names name ≡ OfProgram f → IsAmong f names.functions
 called_among names name f e = go (builtin_named name) e
   where
-    found : (o : Option Function) → find (λ f. bytes_eq name f.name) names.functions ≡ o → callee_by o ≡ OfProgram f → IsAmong f names.functions
+    found : (o : Option Function) → find (λ f. bytes_eq name f.name) names.functions ≡ o → option_map_or OfProgram o Unknown ≡ OfProgram f → IsAmong f names.functions
     found None is h = absurd (let e : Unknown ≡ OfProgram f = h in cc)
     found (Some g) is h = let e : OfProgram g ≡ OfProgram f = h in let same : g ≡ f = cc in found_among (λ f. bytes_eq name f.name) names.functions f (is ∙ ap (λ x. Some x) same)
 
-    go : (o : Option Builtin) → callee_before o (callee_by (find (λ f. bytes_eq name f.name) names.functions)) ≡ OfProgram f → IsAmong f names.functions
+    go : (o : Option Builtin) → option_map_or OfLanguage o (option_map_or OfProgram (find (λ f. bytes_eq name f.name) names.functions) Unknown) ≡ OfProgram f → IsAmong f names.functions
     go (Some b) h = absurd (let e : OfLanguage b ≡ OfProgram f = h in cc)
     go None h = found (find (λ f. bytes_eq name f.name) names.functions) refl h
 

@@ -2,8 +2,8 @@
 use Rattle.std.proofs.Common.{◌∙◌, Option, ℕ, ap, sym, false}
 use Rattle.std.specs.Prelude.{slice_get}
 use Rattle.std.specs.Option.{option_and_then, option_map_or}
-use Rattle.capl_meaning.specs.Names.{is_global}
 use Rattle.capl_meaning.specs.Variable.{Variable, is_timer}
+use Rattle.capl_meaning.specs.Inside.Names.{is_global}
 use Rattle.check_names.proofs.PositionLemmas.{find_position}
 use Rattle.check_names.proofs.global.names_timer.Goals as goal
 

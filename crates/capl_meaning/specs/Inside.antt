@@ -1,0 +1,2 @@
+-- Words of proofs for parts of the definitions.
+pub mod Names
