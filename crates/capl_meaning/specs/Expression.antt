@@ -1,6 +1,7 @@
 -- What the expressions of a program mean (CAPL manual, operators and expressions, message, functions):
 -- operands from left to right. What is said of an expression that breaks a rule is of no use, and harmless.
 use Rattle.std.specs.Prelude.{ℕ, ◌-◌, ◌/◌, Bool, true, false, if◌then◌else◌, nat_lt, List, [], ◌∷◌, slice_index_or, Option, Some, None, ℤ, pos, negsuc}
+use Rattle.std.specs.Bool.{then_some}
 use Rattle.std.specs.Option.{option_and_then, option_map_or}
 use Rattle.int_kinds.specs.declared.kinds.Kind.{Kind}
 use Rattle.int_kinds.specs.declared.kinds.Kind.TheVariants.{Dword, Long}
@@ -24,7 +25,7 @@ use Rattle.capl_tree.specs.Forms as tree
 use Rattle.capl_meaning.specs.declared.builtin.Builtin.{Builtin}
 use Rattle.capl_meaning.specs.declared.builtin.Builtin.TheVariants as builtin
 use Rattle.capl_meaning.specs.declared.field.MessageField.{MessageField}
-use Rattle.capl_meaning.specs.Variable.{Form, Number, Array, Timer, Variable}
+use Rattle.capl_meaning.specs.Variable.{Form, Number, Array, Variable, is_timer}
 use Rattle.capl_meaning.specs.Names.{Callee, Function, OfLanguage, OfProgram, Unknown, Scope, ThisForm, ThisKey, callee, direction, means}
 use Rattle.capl_meaning.specs.Message.{Held, HeldFrame, HeldVariable, NamedMember, IsField, IsSignal, array_in, is_number_place, member_named, message_in, signals_of}
 use Rattle.capl_meaning.specs.Sort.{kind_in, sort_of}
@@ -111,11 +112,6 @@ abbrev pub spot_of_form : Variable → Form → Spot
 spot_of_form v (Number k fixed) = InNumber k v
 spot_of_form v _ = Nowhere
 
--- the spot of a name, by what it means
-abbrev pub spot_of_name : Option Variable → Spot
-spot_of_name None = Nowhere
-spot_of_name (Some v) = spot_of_form v v.form
-
 -- the kind of an array's elements
 abbrev pub kind_of_elements : Form → Kind
 kind_of_elements (Array k fixed size) = k
@@ -147,29 +143,16 @@ place_spot s e spot w = if is_number_place s.scope e then spot w else Gives Nowh
 
 -- ---- operators
 
--- gives a number, or traps where there is none since a divisor was zero
-abbrev pub gives_or_traps : Option ℤ → Computes Memory
-gives_or_traps None w = Fails (Trapped ZeroDivisor) w
-gives_or_traps (Some n) w = Gives n w
-
 -- the value of a binary operator in a kind, with the trap of a zero divisor
 abbrev pub operates : BinOp → Kind → ℤ → ℤ → Computes Memory
-operates operator k a b w = gives_or_traps (value operator k a b) w
+operates operator k a b w =
+    option_map_or (λ n. Gives n w) (value operator k a b) (Fails (Trapped ZeroDivisor) w)
 
 -- `++x` is `x += 1`, and `--x` is `x -= 1`; behind the operand they give the old value
 abbrev pub step_by_one : Setting → BinOp → Bool → Kind → Spot → World Memory → Run Memory ℤ
 step_by_one s operator is_behind k spot w =
     and_then (reads s spot w) (λ old w. and_then (operates operator (join k Long) old (pos 1) w) (λ new w.
     run_map (λ now. if is_behind then old else now) (stores s spot new w)))
-
--- the operator of `++` or `--`
-abbrev pub step_operator : Bool → BinOp
-step_operator up = if up then op.Add else op.Sub
-
--- the value of a name, by what it means: RX and TX are 0 and 1 where no variable has the name
-abbrev pub value_of_name : Setting → List ℕ → Option Variable → World Memory → Run Memory ℤ
-value_of_name s name None w = Gives (option_map_or pos (direction name) (pos 0)) w
-value_of_name s name (Some v) w = reads s (spot_of_form v v.form) w
 
 -- the value of `this`: the key of a key procedure
 abbrev pub value_of_this : This → ThisForm → ℤ
@@ -178,26 +161,18 @@ value_of_this this _ = pos 0
 
 -- ---- calls
 
--- the timer that a variable is
-abbrev pub timer_by : Form → Variable → Option Variable
-timer_by (Timer unit) v = Some v
-timer_by _ v = None
-
 -- the timer variable that an expression names, if it names one
 abbrev pub timer_in : Scope → Expr → Option Variable
 timer_in s (tree.Paren inner at) = timer_in s inner
-timer_in s (expr.Name name at) = option_and_then (λ v. timer_by v.form v) (means s name at)
+timer_in s (expr.Name name at) = option_and_then (λ v. then_some (is_timer v.form) v) (means s name at)
 timer_in s _ = None
-
--- 1 where a timer is active, and else 0
-abbrev pub activity : Setting → List Bool → Variable → ℤ
-activity s active v = truth (slice_index_or active (timer_number s.scope.names v) false)
 
 -- the number that a function of the language gives: `isTimerActive` 1 or 0; `timeNow` the moment in units of
 -- ten microseconds, as a dword; `elCount` the number of elements; all others none
 abbrev pub builtin_value : Setting → World Memory → Builtin → List Expr → ℤ
 builtin_value s w builtin.IsTimerActive (timer ∷ []) =
-    option_map_or (activity s w.memory.active) (timer_in s.scope timer) (pos 0)
+    truth (option_map_or (λ v. slice_index_or w.memory.active (timer_number s.scope.names v) false)
+    (timer_in s.scope timer) false)
 builtin_value s w builtin.TimeNow arguments = wrap Dword (pos (s.moment / 10))
 builtin_value s w builtin.ElCount (array ∷ []) =
     option_map_or (λ v. pos (elements_of s.scope.names v)) (array_in s.scope array) (pos 0)
@@ -230,7 +205,9 @@ abbrev mutual
   value_of s call (expr.Char value at) w = Gives (pos value) w
   value_of s call (expr.Str text at) w = Gives (pos 0) w
   value_of s call (expr.This at) w = Gives (value_of_this s.this s.scope.this) w
-  value_of s call (expr.Name name at) w = value_of_name s name (means s.scope name at) w
+  value_of s call (expr.Name name at) w =
+      option_map_or (λ v. reads s (spot_of_form v v.form) w) (means s.scope name at)
+      (Gives (option_map_or pos (direction name) (pos 0)) w)
   value_of s call (tree.Paren inner at) w = value_of s call inner w
   value_of s call (expr.Call' name shape args at) w =
       call_value s call (callee s.scope.names name) (items-the_row-Expr _ args) (values_of s call args) w
@@ -249,7 +226,7 @@ abbrev mutual
       run_map (prefix_value operator (prefix_kind s.scope inner)) (value_of s call inner w)
   value_of s call (tree.Post up inner at) w =
       and_then (place_spot s inner (spot_of s call inner) w)
-      (step_by_one s (step_operator up) true (kind_in (sort_of s.scope inner)))
+      (step_by_one s (if up then op.Add else op.Sub) true (kind_in (sort_of s.scope inner)))
   value_of s call (tree.Binary op.AndAlso left right at) w =
       deciding (value_of s call left w) (λ w. run_map truth_of (value_of s call right w)) (Gives (pos 0))
   value_of s call (tree.Binary op.OrElse left right at) w =
@@ -272,7 +249,8 @@ abbrev mutual
   -- the spot of an expression that is a place, with the check of its index
   pub spot_of : Setting → Calls Memory → Expr → World Memory → Run Memory Spot
   spot_of s call (tree.Paren inner at) w = spot_of s call inner w
-  spot_of s call (expr.Name name at) w = Gives (spot_of_name (means s.scope name at)) w
+  spot_of s call (expr.Name name at) w =
+      Gives (option_map_or (λ v. spot_of_form v v.form) (means s.scope name at) Nowhere) w
   spot_of s call (tree.Index base index at) w =
       element_spot s (array_in s.scope base) (value_of s call index) w
   spot_of s call (tree.Member base field at) w =

@@ -1,2 +1,3 @@
 -- Words of proofs for parts of the definitions.
 pub mod Names
+pub mod Expression

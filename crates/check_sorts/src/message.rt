@@ -2,12 +2,13 @@
 
 ghost use Rattle.std.specs.Prelude.{◌≡◌, Option, Some, false, slice_get};
 ghost use Rattle.std.specs.Option.{option_and_then, option_copied, option_map, option_map_or};
-ghost use Rattle.capl_meaning.specs.Expression.{timer_by, timer_in};
+ghost use Rattle.std.specs.Bool.{then_some};
+ghost use Rattle.capl_meaning.specs.Expression.{timer_in};
 ghost use Rattle.capl_meaning.specs.Format.{quoted_text};
 ghost use Rattle.capl_meaning.specs.Message.{array_by, array_in, can_be_used, field_named, held_by, held_this, is_assignable_field, is_message_place, is_number_place, is_open_array, is_open_field, is_open_member, is_open_number, is_open_part, is_usable, member_named, member_of_signal, member_of_signals, message_in, signal_named, signals_of_type};
 ghost use Rattle.capl_meaning.specs.Message as meant;
 ghost use Rattle.capl_meaning.specs.Names.{Names, means, signals_by};
-ghost use Rattle.capl_meaning.specs.Variable.{Variable};
+ghost use Rattle.capl_meaning.specs.Variable.{Variable, is_timer};
 ghost use Rattle.check_sorts.specs.Form.{form_in, signals_in, type_in};
 ghost use Rattle.check_sorts.specs.Message.{held_in, member_in};
 ghost use Rattle.check_sorts.specs.Scope.{scope_in, this_in};
@@ -297,7 +298,8 @@ impl<'a, 'p> Scope<'a, 'p> {
     /// The number of the timer variable that a name means, or None where it means none.
     fn timer_named(&self, name: &[u8], token: u32) -> Option<u32>
         ensures { option_map (slice_get self.now.names.now.variables) result ≡ option_map Some
-            (option_and_then (λ v. timer_by v.form v) (means (scope_in self.now) name.now token)) }
+            (option_and_then (λ v. then_some (is_timer v.form) v)
+            (means (scope_in self.now) name.now token)) }
     {
         match self.meaning(name, token) {
             Some(

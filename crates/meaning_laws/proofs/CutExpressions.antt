@@ -2,6 +2,7 @@
 use mathlib.Core.Former.{Count}
 use Rattle.std.specs.Prelude.{ℕ, ◌≤◌, Bool, true, false, if◌then◌else◌, nat_lt, List, ◌∷◌, Option, Some, None, ℤ, pos, negsuc}
 use Rattle.std.proofs.Common.{arith}
+use Rattle.std.specs.Option.{option_map_or}
 use Rattle.int_kinds.specs.declared.kinds.Kind.{Kind}
 use Rattle.int_kinds.specs.declared.kinds.Kind.TheVariants.{Long}
 use Rattle.int_kinds.specs.declared.operators.BinOp.{BinOp}
@@ -10,7 +11,7 @@ use Rattle.int_kinds.specs.declared.operators.UnOp.TheVariants as prefix
 use Rattle.int_kinds.specs.Kind.{join, wrap}
 use Rattle.int_kinds.specs.Arithmetic.{value}
 use Rattle.run_effects.specs.declared.outcome.Outcome.TheVariants.{Trapped}
-use Rattle.run_effects.specs.declared.outcome.TrapKind.TheVariants.{Index}
+use Rattle.run_effects.specs.declared.outcome.TrapKind.TheVariants.{Index, ZeroDivisor}
 use Rattle.control_flow.specs.World.{World, Run, Gives, Fails}
 use Rattle.control_flow.specs.Control.{Calls, Computes}
 use Rattle.capl_tree.specs.declared.expr.Expr.{Expr, Row_of-Expr, end_of-Expr, more_of-Expr}
@@ -24,7 +25,8 @@ use Rattle.capl_meaning.specs.Message.{Held, array_in, is_number_place, message_
 use Rattle.capl_meaning.specs.Sort.{kind_in, sort_of}
 use Rattle.capl_meaning.specs.Operator.{prefix_value, truth_of}
 use Rattle.capl_meaning.specs.Constant.{branches_kind, elements_of, operands_kind, prefix_kind}
-use Rattle.capl_meaning.specs.Expression.{Memory, Setting, Spot, Nowhere, InBytes, call_value, calling, element_spot, field_spot, gives_or_traps, indexing, operates, part_spot, place_spot, reads, spot_of, step_operator, step_by_one, stores, value_of, value_of_name, values_of}
+use Rattle.capl_meaning.specs.Expression.{Memory, Setting, Spot, Nowhere, InBytes, call_value, calling, element_spot, field_spot, indexing, operates, part_spot, place_spot, reads, spot_of, step_by_one, stores, value_of, values_of}
+use Rattle.capl_meaning.specs.Inside.Expression.{step_operator, value_of_name}
 use Rattle.meaning_laws.proofs.Cuts.{EndsWithin, IsCutLast, either_cut, map_cut, test_cut, then_cut}
 
 module _ (n : ℕ) where
@@ -39,7 +41,7 @@ module _ (n : ℕ) where
   operates_cut : (operator : BinOp) (k : Kind) (a b : ℤ) → IsCutLast n (operates operator k a b)
   operates_cut operator k a b = record { cut = value_given (value operator k a b) }
     where
-      value_given : (v : Option ℤ) (w : World Memory) → w.turns ≤ n → EndsWithin w.turns (gives_or_traps v w)
+      value_given : (v : Option ℤ) (w : World Memory) → w.turns ≤ n → EndsWithin w.turns (option_map_or (λ n. Gives n w) v (Fails (Trapped ZeroDivisor) w))
       value_given None w le = omega arith
       value_given (Some v) w le = omega arith
 

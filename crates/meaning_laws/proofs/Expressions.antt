@@ -2,6 +2,7 @@
 use mathlib.Core.Former.{Count}
 use Rattle.std.specs.Prelude.{ℕ, Bool, true, false, if◌then◌else◌, nat_lt, List, ◌∷◌, Option, Some, None, ℤ, pos, negsuc}
 use Rattle.std.proofs.Common.{arith}
+use Rattle.std.specs.Option.{option_map_or}
 use Rattle.int_kinds.specs.declared.kinds.Kind.{Kind}
 use Rattle.int_kinds.specs.declared.kinds.Kind.TheVariants.{Long}
 use Rattle.int_kinds.specs.declared.operators.BinOp.{BinOp}
@@ -10,7 +11,7 @@ use Rattle.int_kinds.specs.declared.operators.UnOp.TheVariants as prefix
 use Rattle.int_kinds.specs.Kind.{join, wrap}
 use Rattle.int_kinds.specs.Arithmetic.{value}
 use Rattle.run_effects.specs.declared.outcome.Outcome.TheVariants.{Trapped}
-use Rattle.run_effects.specs.declared.outcome.TrapKind.TheVariants.{Index}
+use Rattle.run_effects.specs.declared.outcome.TrapKind.TheVariants.{Index, ZeroDivisor}
 use Rattle.control_flow.specs.World.{World, Run, Gives, Fails}
 use Rattle.control_flow.specs.Control.{Calls, Computes}
 use Rattle.control_flow.specs.Turns.{AddsNoTurns, LeavesAtMost}
@@ -25,7 +26,8 @@ use Rattle.capl_meaning.specs.Message.{Held, array_in, is_number_place, message_
 use Rattle.capl_meaning.specs.Sort.{kind_in, sort_of}
 use Rattle.capl_meaning.specs.Operator.{prefix_value, truth_of}
 use Rattle.capl_meaning.specs.Constant.{branches_kind, elements_of, operands_kind, prefix_kind}
-use Rattle.capl_meaning.specs.Expression.{Memory, Setting, Spot, Nowhere, InBytes, call_value, calling, element_spot, field_spot, gives_or_traps, indexing, operates, part_spot, place_spot, reads, spot_of, step_operator, step_by_one, stores, value_of, value_of_name, values_of}
+use Rattle.capl_meaning.specs.Expression.{Memory, Setting, Spot, Nowhere, InBytes, call_value, calling, element_spot, field_spot, indexing, operates, part_spot, place_spot, reads, spot_of, step_by_one, stores, value_of, values_of}
+use Rattle.capl_meaning.specs.Inside.Expression.{step_operator, value_of_name}
 use Rattle.meaning_laws.proofs.Parts.{either_adds_none, map_adds_none, test_adds_none, then_adds_none}
 
 -- an index that is checked
@@ -39,7 +41,7 @@ indexing_adds_none len (negsuc i) spot = record { turns = λ w. omega arith }
 operates_adds_none : (operator : BinOp) (k : Kind) (a b : ℤ) → AddsNoTurns (operates operator k a b)
 operates_adds_none operator k a b = record { turns = at_most_value (value operator k a b) }
   where
-    at_most_value : (n : Option ℤ) (w : World Memory) → LeavesAtMost w.turns (gives_or_traps n w)
+    at_most_value : (n : Option ℤ) (w : World Memory) → LeavesAtMost w.turns (option_map_or (λ v. Gives v w) n (Fails (Trapped ZeroDivisor) w))
     at_most_value None w = omega arith
     at_most_value (Some n) w = omega arith
 

@@ -19,7 +19,8 @@ use Rattle.capl_meaning.specs.Message.{Held, array_in, is_number_place, message_
 use Rattle.capl_meaning.specs.Sort.{kind_in, sort_of}
 use Rattle.capl_meaning.specs.Operator.{prefix_value, truth_of}
 use Rattle.capl_meaning.specs.Constant.{branches_kind, elements_of, operands_kind, prefix_kind}
-use Rattle.capl_meaning.specs.Expression.{Memory, Setting, Spot, Nowhere, InBytes, InElement, call_value, calling, element_spot, field_spot, indexing, kind_of_elements, operates, part_spot, place_spot, reads, spot_of, step_operator, step_by_one, stores, value_of, values_of}
+use Rattle.capl_meaning.specs.Expression.{Memory, Setting, Spot, Nowhere, InBytes, InElement, call_value, calling, element_spot, field_spot, indexing, kind_of_elements, operates, part_spot, place_spot, reads, spot_of, step_by_one, stores, value_of, values_of}
+use Rattle.capl_meaning.specs.Inside.Expression.{step_operator}
 use Rattle.meaning_laws.proofs.Parts.{same_either, same_map, same_next, same_self, same_test}
 use Rattle.meaning_laws.proofs.Expressions.{element_adds_none, field_adds_none, part_adds_none, place_adds_none, spot_adds_none, value_adds_none, values_add_none}
 

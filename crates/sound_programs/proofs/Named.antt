@@ -3,6 +3,7 @@
 use Rattle.std.proofs.Common.{◌≡◌, ℕ, Bool, true, false, List, [], ◌∷◌, Option, Some, None, refl, ap, ◌∙◌}
 use Rattle.std.specs.Prelude.{⊤, if◌then◌else◌, nat_le}
 use Rattle.std.specs.Option.{option_and_then, option_map_or}
+use Rattle.std.specs.Bool.{then_some}
 use Rattle.texts.specs.declared.text.Text.{Text}
 use Rattle.int_kinds.specs.declared.kinds.Kind.{Kind}
 use Rattle.int_kinds.specs.declared.kinds.Kind.TheVariants as kind
@@ -18,12 +19,12 @@ use Rattle.capl_meaning.specs.declared.builtin.Builtin.{Builtin}
 use Rattle.capl_meaning.specs.declared.builtin.Builtin.TheVariants as builtin
 use Rattle.capl_meaning.specs.declared.sort.Sort.{Sort}
 use Rattle.capl_meaning.specs.declared.sort.Sort.TheVariants as sort
-use Rattle.capl_meaning.specs.Variable.{Form, Number, Array, Message, Timer, Misfit, Variable}
+use Rattle.capl_meaning.specs.Variable.{Form, Number, Array, Message, Timer, Misfit, Variable, is_timer}
 use Rattle.capl_meaning.specs.Names.{Callee, OfLanguage, OfProgram, Unknown, Scope, ThisForm, NoThis, ThisFrame, ThisKey, callee, direction, means}
 use Rattle.capl_meaning.specs.Format.{first_text, format_codes, show_all, quoted_text}
 use Rattle.capl_meaning.specs.Message.{Held, NamedMember, IsField, IsSignal, IsUnusable, IsUnknown, array_by, array_in, held_by, held_this, is_number_place, is_open_number, member_named, message_in, signals_of}
 use Rattle.capl_meaning.specs.Sort.{number_from, sort_given, sort_of, sort_of_assignment, sort_of_binary, sort_of_builtin, sort_of_call, sort_of_choice, sort_of_direction, sort_of_element, sort_of_form, sort_of_member, sort_of_name, sort_of_number, sort_of_part, sort_of_prefix, sort_of_step, sort_of_this, sorts_of}
-use Rattle.capl_meaning.specs.Expression.{timer_by, timer_in}
+use Rattle.capl_meaning.specs.Expression.{timer_in}
 use Rattle.typed_laws.specs.Laid.{HasForm}
 use Rattle.typed_laws.proofs.Places.{means_among}
 
@@ -132,7 +133,7 @@ module _ (s : Scope) where
     no_text = refl;
   }
   by_form name at v is (Message type_) e = (_, ap (λ o. option_and_then (λ v. held_by v v.form) o) is ∙ ap (held_by v) e)
-  by_form name at v is (Timer unit) e = (v, ap (λ o. option_and_then (λ v. timer_by v.form v) o) is ∙ ap (λ form. timer_by form v) e)
+  by_form name at v is (Timer unit) e = (v, ap (λ o. option_and_then (λ v. then_some (is_timer v.form) v) o) is ∙ ap (λ form. then_some (is_timer form) v) e)
   by_form name at v is Misfit e = tt
 
   by_name : (name : Text) (at : ℕ) (o : Option Variable) → means s name at ≡ o → Names s (expr.Name name at) (sort_of_name name o)

@@ -5,6 +5,7 @@ use Rattle.std.specs.Prelude.{ℤ, pos, negsuc, unwrap_or, if◌then◌else◌, 
 use Rattle.std.specs.List.{flat_map}
 use Rattle.std.specs.Ordering.{int_eq}
 use Rattle.std.proofs.lemmas.List.Elements.{All-cons, All-head, All-nil, All-push, All-tail}
+use Rattle.std.specs.Option.{option_map_or}
 use Rattle.int_kinds.specs.declared.kinds.Kind.{Kind}
 use Rattle.int_kinds.specs.declared.kinds.Kind.TheVariants.{Long}
 use Rattle.int_kinds.specs.declared.operators.BinOp.{BinOp}
@@ -17,7 +18,7 @@ use Rattle.write_format.specs.declared.piece.Piece.{Piece}
 use Rattle.run_effects.specs.Duration.{micros}
 use Rattle.run_effects.specs.Effect.{Effect, Line, Send, Stop, Set, Cancel}
 use Rattle.run_effects.specs.declared.outcome.Outcome.TheVariants.{Trapped}
-use Rattle.run_effects.specs.declared.outcome.TrapKind.TheVariants.{Index}
+use Rattle.run_effects.specs.declared.outcome.TrapKind.TheVariants.{Index, ZeroDivisor}
 use Rattle.control_flow.specs.World.{World, Run, Gives, Fails, after_effect, and_then, run_map, taking_turn_of}
 use Rattle.control_flow.specs.Control.{Breaks, Calls, Computes, Continues, Does, End, GoesOn, Returns, deciding, followed_by, going_on, leaving_switch, loop, looping, nothing, round}
 use Rattle.capl_tree.specs.declared.expr.Expr.{Expr, Row_of-Expr, end_of-Expr, more_of-Expr, items-the_row-Expr}
@@ -38,9 +39,10 @@ use Rattle.capl_meaning.specs.Sort.{is_number, kind_in, sort_of}
 use Rattle.capl_meaning.specs.Constant.{branches_kind, elements_of, operands_kind, prefix_kind}
 use Rattle.capl_meaning.specs.Calls.{calls_in, calls_in_labels, calls_in_part, calls_in_row, names_called, calls_of_arms, calls_of_else, calls_of_groups, calls_of_row}
 use Rattle.capl_meaning.specs.Store.{MessageRecord, message_cells, timer_number, unit_of}
-use Rattle.capl_meaning.specs.Expression.{InBytes, InElement, InField, InNumber, InSignal, Memory, Nowhere, Setting, Spot, call_value, calling, element_spot, field_spot, gives_or_traps, held_message, indexing, kind_of_elements, operates, part_spot, place_spot, reads, spot_of, step_operator, step_by_one, stores, timer_in, value_of, value_of_name, values_of, with_arguments, with_store}
+use Rattle.capl_meaning.specs.Expression.{InBytes, InElement, InField, InNumber, InSignal, Memory, Nowhere, Setting, Spot, call_value, calling, element_spot, field_spot, held_message, indexing, kind_of_elements, operates, part_spot, place_spot, reads, spot_of, step_by_one, stores, timer_in, value_of, values_of, with_arguments, with_store}
 use Rattle.capl_meaning.specs.Statement.{alone_of, arms_of, assigns, calls_alone, cancels, drops, else_of, fitting_pieces, for_test, group_for, groups_of, group_labels, numbers_of, part_of, returns, sends, sets, sets_timer, stmt_of, stmts_of, unless_closed, with_line, with_timer, wrapped_to, writes_line}
 use Rattle.capl_meaning.specs.Procedure.{runs}
+use Rattle.capl_meaning.specs.Inside.Expression.{step_operator, value_of_name}
 
 -- ---- what holds of the names of two lists
 
@@ -118,7 +120,7 @@ module _ (P : Effect → Type 0) where
   indexing_fine len (pos i) w spot fine = if_fine (nat_lt i len) (Gives (spot i) w) (Fails (Trapped Index) w) fine fine
   indexing_fine len (negsuc i) w spot fine = fine
 
-  traps_fine : (o : Option ℤ) → Keeps (gives_or_traps o)
+  traps_fine : (o : Option ℤ) → Keeps (λ w. option_map_or (λ n. Gives n w) o (Fails (Trapped ZeroDivisor) w))
   traps_fine None w fine = fine
   traps_fine (Some n) w fine = fine
 

@@ -4,7 +4,7 @@ ghost use Rattle.std.specs.Prelude.{◌≡◌, pos, IfOk};
 ghost use Rattle.typed_tree.specs.Forms.{Convert, Unary};
 ghost use Rattle.typed_tree.specs.declared.expression.TExpr.TheVariants.{Const};
 ghost use Rattle.typed_tree.specs.Forms as typed;
-ghost use Rattle.capl_meaning.specs.Expression.{step_operator};
+ghost use Rattle.capl_meaning.specs.Inside.Expression.{step_operator};
 ghost use Rattle.typed_source.specs.Expression.{loaded, operation, stepping, storing, updating};
 
 use int_kinds::{BinOp, Kind, UnOp, join};

@@ -21,7 +21,7 @@ use Rattle.capl_meaning.specs.Names.{Callee, Function, Names, OfLanguage, OfProg
 use Rattle.capl_meaning.specs.Calls.{function_numbered}
 use Rattle.capl_meaning.specs.Constant.{elements_of}
 use Rattle.capl_meaning.specs.Store.{Store, This, timer_number}
-use Rattle.capl_meaning.specs.Expression.{InNumber, activity, builtin_value, call_value, calling, timer_in, value_of, values_of, with_arguments, with_store}
+use Rattle.capl_meaning.specs.Expression.{InNumber, builtin_value, call_value, calling, timer_in, value_of, values_of, with_arguments, with_store}
 use Rattle.capl_meaning.specs.Expression as source
 use Rattle.typed_laws.specs.Laid.{AreDistinct, IsAmong, laid, laid_run, slot}
 use Rattle.typed_laws.specs.Agreement.{ArePlain, Beside, GivesAs, GivesZero, array_given, parameter_slots, source_setting, timer_given, typed_setting}
@@ -110,10 +110,10 @@ module _ (scope : Scope) (order : List ℕ) where
     same = λ b w.
         ap (λ n. Gives (truth (slice_index_or w.memory.active n false)) (laid scope.names b.this w)) (number b.plain.distinct)
         ∙ ap (laid_run scope.names b.this) (sym (call_whole b name args at (OfLanguage builtin.IsTimerActive) w is ∙ ap (λ n. Gives n w) (activity_of (source_setting b scope) w args)
-        ∙ ap (λ o. Gives (option_map_or (activity (source_setting b scope) w.memory.active) o (pos 0)) w) named));
+        ∙ ap (λ o. Gives (truth (option_map_or (λ v. slice_index_or w.memory.active (timer_number scope.names v) false) o false)) w) named));
   }
     where
-      activity_of : (s : source.Setting) (w : World source.Memory) (args : List Expr) → builtin_value s w builtin.IsTimerActive args ≡ option_map_or (activity s w.memory.active) (timer_given s.scope args) (pos 0)
+      activity_of : (s : source.Setting) (w : World source.Memory) (args : List Expr) → builtin_value s w builtin.IsTimerActive args ≡ truth (option_map_or (λ v. slice_index_or w.memory.active (timer_number s.scope.names v) false) (timer_given s.scope args) false)
       activity_of s w [] = refl
       activity_of s w (e ∷ []) = refl
       activity_of s w (e ∷ f ∷ more) = refl
@@ -141,7 +141,7 @@ module _ (scope : Scope) (order : List ℕ) where
     where
       zero_of : (s : source.Setting) (w : World source.Memory) (found : Builtin) (args : List Expr) → GivesZero s.scope found args → builtin_value s w found args ≡ pos 0
       zero_of s w builtin.IsTimerActive [] h = refl
-      zero_of s w builtin.IsTimerActive (e ∷ []) h = ap (λ o. option_map_or (activity s w.memory.active) o (pos 0)) h
+      zero_of s w builtin.IsTimerActive (e ∷ []) h = ap (λ o. truth (option_map_or (λ v. slice_index_or w.memory.active (timer_number s.scope.names v) false) o false)) h
       zero_of s w builtin.IsTimerActive (e ∷ f ∷ more) h = refl
       zero_of s w builtin.ElCount [] h = refl
       zero_of s w builtin.ElCount (e ∷ []) h = ap (λ o. option_map_or (λ v. pos (elements_of s.scope.names v)) o (pos 0)) h

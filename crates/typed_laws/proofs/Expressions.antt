@@ -2,6 +2,8 @@
 use Rattle.std.proofs.Common.{◌≡◌, ℕ, Bool, true, false, List, Option, Some, None, refl, sym, ap, ◌∙◌, subst}
 use Rattle.std.specs.Prelude.{ℤ, pos, bit_and, bit_or, bit_xor, if◌then◌else◌}
 use Rattle.std.specs.Option.{option_map, option_map_or}
+use Rattle.run_effects.specs.declared.outcome.Outcome.TheVariants.{Trapped}
+use Rattle.run_effects.specs.declared.outcome.TrapKind.TheVariants.{ZeroDivisor}
 use Rattle.int_kinds.specs.declared.kinds.Kind.{Kind}
 use Rattle.int_kinds.specs.declared.kinds.Kind.TheVariants as kind
 use Rattle.int_kinds.specs.declared.operators.BinOp.{BinOp}
@@ -31,7 +33,8 @@ use Rattle.capl_meaning.specs.Sort.{kind_in, sort_of}
 use Rattle.capl_meaning.specs.Operator.{prefix_value, truth_of}
 use Rattle.capl_meaning.specs.Constant.{branches_kind, number_value, operands_kind, prefix_kind}
 use Rattle.capl_meaning.specs.Store.{This}
-use Rattle.capl_meaning.specs.Expression.{Nowhere, InNumber, builtin_value, call_value, calling, gives_or_traps, operates, place_spot, reads, spot_of, step_operator, step_by_one, stores, timer_in, value_of, value_of_this, values_of, with_arguments, with_store}
+use Rattle.capl_meaning.specs.Expression.{Nowhere, InNumber, builtin_value, call_value, calling, operates, place_spot, reads, spot_of, step_by_one, stores, timer_in, value_of, value_of_this, values_of, with_arguments, with_store}
+use Rattle.capl_meaning.specs.Inside.Expression.{step_operator, spot_of_name, value_of_name}
 use Rattle.capl_meaning.specs.Expression as source
 use Rattle.typed_laws.specs.Laid.{GivesOnly, IsOpen, IsReal, laid, laid_run, laid_spot}
 use Rattle.typed_laws.specs.Agreement.{AssignsAs, Beside, GivesAs, StandsAs, source_setting, typed_setting}
@@ -119,7 +122,7 @@ pub operates_same : (names : Names) (this : This) (operator : BinOp) (k : Kind) 
     typed.operates operator k m n (laid names this w) ≡ laid_run names this (operates operator k m n w)
 operates_same names this operator k m n w = go (value operator k m n)
   where
-    go : (o : Option ℤ) → typed.gives_or_traps o (laid names this w) ≡ laid_run names this (gives_or_traps o w)
+    go : (o : Option ℤ) → typed.gives_or_traps o (laid names this w) ≡ laid_run names this (option_map_or (λ n. Gives n w) o (Fails (Trapped ZeroDivisor) w))
     go None = refl
     go (Some n) = refl
 
@@ -127,7 +130,7 @@ operates_same names this operator k m n w = go (value operator k m n)
 operates_held : (operator : BinOp) (k : Kind) (m n : ℤ) (w : World source.Memory) → GivesOnly (λ new. wrap k new ≡ new) (operates operator k m n w)
 operates_held operator k m n w = go (value operator k m n) refl
   where
-    go : (o : Option ℤ) → value operator k m n ≡ o → GivesOnly (λ new. wrap k new ≡ new) (gives_or_traps o w)
+    go : (o : Option ℤ) → value operator k m n ≡ o → GivesOnly (λ new. wrap k new ≡ new) (option_map_or (λ n. Gives n w) o (Fails (Trapped ZeroDivisor) w))
     go None e = tt
     go (Some new) e = value_held operator k m n new e
 
@@ -161,7 +164,7 @@ module _ (scope : Scope) (order : List ℕ) where
 
   -- RX, TX, and a name that means nothing
   pub unknown_name_as : (name : Text) (at : ℕ) → means scope name at ≡ None → GivesAs scope order (expr.Name name at) (Const (option_map_or pos (direction name) (pos 0)))
-  unknown_name_as name at is = constant_as _ _ (λ b w. ap (λ o. source.value_of_name (source_setting b scope) name o w) is)
+  unknown_name_as name at is = constant_as _ _ (λ b w. ap (λ o. value_of_name (source_setting b scope) name o w) is)
 
   -- the key of a key procedure
   pub key_as : (at : ℕ) → scope.this ≡ ThisKey → GivesAs scope order (expr.This at) (Load (Cell 14))
@@ -194,15 +197,15 @@ module _ (scope : Scope) (order : List ℕ) where
   pub name_as : (name : Text) (at : ℕ) (place : Place) → StandsAs scope order (expr.Name name at) (Some place) → GivesAs scope order (expr.Name name at) (Load place)
   name_as name at place f = load (expr.Name name at) place (λ b w real. go b w (means scope name at) real) f
     where
-      go : (b : Beside scope.names order) (w : World source.Memory) (o : Option Variable) → IsReal scope.names (source.spot_of_name o) →
-          source.value_of_name (source_setting b scope) name o w ≡ reads (source_setting b scope) (source.spot_of_name o) w
+      go : (b : Beside scope.names order) (w : World source.Memory) (o : Option Variable) → IsReal scope.names (spot_of_name o) →
+          value_of_name (source_setting b scope) name o w ≡ reads (source_setting b scope) (spot_of_name o) w
       go b w None real = elim real [ ]
       go b w (Some v) real = refl
 
   -- a variable that is no number
   pub other_name_as : (name : Text) (at : ℕ) (v : Variable) → means scope name at ≡ Some v → StandsAs scope order (expr.Name name at) None → GivesAs scope order (expr.Name name at) (Const (pos 0))
   other_name_as name at v is f =
-      nowhere (expr.Name name at) (λ b w. ap (λ o. source.value_of_name (source_setting b scope) name o w) is ∙ ap (λ o. reads (source_setting b scope) (source.spot_of_name o) w) (sym is)) f
+      nowhere (expr.Name name at) (λ b w. ap (λ o. value_of_name (source_setting b scope) name o w) is ∙ ap (λ o. reads (source_setting b scope) (spot_of_name o) w) (sym is)) f
 
   pub element_as : (base index : Expr) (at : ℕ) (place : Place) → StandsAs scope order (tree.Index base index at) (Some place) → GivesAs scope order (tree.Index base index at) (Load place)
   element_as base index at place f = load _ place (λ b w real. refl) f

@@ -29,8 +29,9 @@ use Rattle.capl_meaning.specs.Names.{Names, Scope, ThisForm, NoThis, ThisFrame, 
 use Rattle.capl_meaning.specs.Message.{Held, HeldFrame, HeldVariable, NamedMember, IsField, IsSignal, IsUnusable, IsUnknown, array_by, array_in, held_by, held_this, is_number_place, is_open_array, is_open_member, is_open_number, is_open_part, is_variable, member_named, message_in, signals_of, signals_of_type}
 use Rattle.capl_meaning.specs.Constant.{elements_of}
 use Rattle.capl_meaning.specs.Store.{This, variable_key}
-use Rattle.capl_meaning.specs.Expression.{Nowhere, InNumber, InElement, InField, InBytes, InSignal, element_spot, field_spot, indexing, kind_of_elements, part_spot, place_spot, spot_of, spot_of_form, spot_of_member, spot_of_name, value_of}
+use Rattle.capl_meaning.specs.Expression.{Nowhere, InNumber, InElement, InField, InBytes, InSignal, element_spot, field_spot, indexing, kind_of_elements, part_spot, place_spot, spot_of, spot_of_form, spot_of_member, value_of}
 use Rattle.capl_meaning.specs.Inside.Names.{is_global}
+use Rattle.capl_meaning.specs.Inside.Expression.{spot_of_name}
 use Rattle.capl_meaning.specs.Expression as source
 use Rattle.typed_laws.specs.Laid.{AreDistinct, GivesOnly, HasForm, IsAmong, IsHeld, IsOpen, IsReal, laid, laid_field, laid_run, laid_spot, mapped, message_slot, slot}
 use Rattle.typed_laws.specs.Agreement.{AssignsAs, Beside, GivesAs, StandsAs, source_setting, typed_setting}

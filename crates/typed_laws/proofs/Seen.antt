@@ -24,7 +24,8 @@ use Rattle.capl_meaning.specs.Sort.{kind_in, sort_of}
 use Rattle.capl_meaning.specs.Operator.{prefix_value, truth_of}
 use Rattle.capl_meaning.specs.Constant.{branches_kind, elements_of, operands_kind, prefix_kind}
 use Rattle.capl_meaning.specs.Store.{Store, This}
-use Rattle.capl_meaning.specs.Expression.{InBytes, InElement, InField, InNumber, InSignal, Memory, Nowhere, Setting, Spot, call_value, calling, element_spot, field_spot, held_message, indexing, kind_of_elements, operates, part_spot, place_spot, read, reads, spot_of, spot_of_form, spot_of_member, spot_of_name, step_operator, step_by_one, stores, value_of, value_of_name, value_of_this, values_of, with_store, write}
+use Rattle.capl_meaning.specs.Expression.{InBytes, InElement, InField, InNumber, InSignal, Memory, Nowhere, Setting, Spot, call_value, calling, element_spot, field_spot, held_message, indexing, kind_of_elements, operates, part_spot, place_spot, read, reads, spot_of, spot_of_form, spot_of_member, step_by_one, stores, value_of, value_of_this, values_of, with_store, write}
+use Rattle.capl_meaning.specs.Inside.Expression.{spot_of_name, step_operator, value_of_name}
 use Rattle.typed_laws.specs.Laid.{GivesOnly}
 use Rattle.typed_laws.specs.Seen.{SameSeen}
 use Rattle.typed_laws.proofs.Places.{indexed_only}

@@ -3,6 +3,7 @@ use Rattle.std.proofs.Common.{◌≡◌, ℕ, suc, ◌+◌, inl, inr, Bool, true
 use Rattle.std.specs.Prelude.{cond, nat_lt, filter, filter_map, slice_index_or, unwrap_or}
 use Rattle.std.specs.Option.{option_and_then}
 use Rattle.std.specs.List.{position_or_len}
+use Rattle.std.specs.Bool.{then_some}
 use Rattle.std.proofs.lemmas.Bool.{ltb-false}
 use Rattle.capl_tree.specs.declared.expr.Expr.{Expr}
 use Rattle.capl_tree.specs.declared.expr.Expr.TheVariants as expr
@@ -10,7 +11,7 @@ use Rattle.capl_tree.specs.Forms as tree
 use Rattle.capl_meaning.specs.Variable.{Form, Number, Array, Message, Timer, Misfit, Variable, is_timer}
 use Rattle.capl_meaning.specs.Names.{Names, Scope, means}
 use Rattle.capl_meaning.specs.Store.{variable_key, same_key, timer_number, timer_units, unit_of}
-use Rattle.capl_meaning.specs.Expression.{timer_by, timer_in}
+use Rattle.capl_meaning.specs.Expression.{timer_in}
 use Rattle.typed_laws.specs.Laid.{AreDistinct, HasForm, IsAmong}
 use Rattle.typed_laws.proofs.Parts.{fresh, key_self}
 use Rattle.typed_laws.proofs.Places.{means_among}
@@ -84,7 +85,7 @@ unit_found names distinct v unit real =
     by_test k less true e = refl
     by_test k less false e = absurd (omega (arith, less, ltb-false k (length (timers names.variables)) e))
 
-timer_of_form : (names : Names) (u v : Variable) (form : Form) → IsAmong u names.variables → u.form ≡ form → timer_by form u ≡ Some v → (unit : ℕ) × HasForm names v (Timer unit)
+timer_of_form : (names : Names) (u v : Variable) (form : Form) → IsAmong u names.variables → u.form ≡ form → then_some (is_timer form) u ≡ Some v → (unit : ℕ) × HasForm names v (Timer unit)
 timer_of_form names u v (Timer unit) among is e =
     let same : u ≡ v = let f : Some u ≡ Some v = e in cc in (unit, subst (λ x. HasForm names x (Timer unit)) same (record { among = among; form_is = is }))
 timer_of_form names u v (Number k fixed) among is e = absurd (let f : None ≡ Some v = e in cc)
@@ -97,7 +98,7 @@ pub timer_named : (s : Scope) (e : Expr) (v : Variable) → timer_in s e ≡ Som
 timer_named s (tree.Paren inner at) v h = timer_named s inner v h
 timer_named s (expr.Name name at) v h = go (means s name at) refl h
   where
-    go : (o : Option Variable) → means s name at ≡ o → option_and_then (λ v. timer_by v.form v) o ≡ Some v → (unit : ℕ) × HasForm s.names v (Timer unit)
+    go : (o : Option Variable) → means s name at ≡ o → option_and_then (λ v. then_some (is_timer v.form) v) o ≡ Some v → (unit : ℕ) × HasForm s.names v (Timer unit)
     go None is h = absurd (let f : None ≡ Some v = h in cc)
     go (Some u) is h = timer_of_form s.names u v u.form (means_among s name at u is) refl h
 timer_named s e v h = absurd (let f : None ≡ Some v = h in cc)

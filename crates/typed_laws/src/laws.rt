@@ -31,12 +31,13 @@ ghost use Rattle.capl_meaning.specs.Message.{Held, array_in, is_number_place, me
 ghost use Rattle.capl_meaning.specs.Sort.{kind_in, sort_of};
 ghost use Rattle.capl_meaning.specs.Constant.{operands_kind};
 ghost use Rattle.capl_meaning.specs.Store.{Store, This, event_cells, event_kinds, variable_key, laid_kinds, lay, with_message};
-ghost use Rattle.capl_meaning.specs.Expression.{spot_of_name, step_operator, timer_in};
+ghost use Rattle.capl_meaning.specs.Expression.{timer_in};
 ghost use Rattle.capl_meaning.specs.Expression as source;
 ghost use Rattle.capl_meaning.specs.Initial.{first_store};
 ghost use Rattle.capl_meaning.specs.Offences.{offences_of};
 ghost use Rattle.capl_meaning.specs.Procedure.{Handler, ending_of, handlers_of};
 ghost use Rattle.capl_meaning.specs.Statement.{fitting_pieces};
+ghost use Rattle.capl_meaning.specs.Inside.Expression.{spot_of_name};
 ghost use Rattle.typed_laws.specs.Laid.{AreDistinct, HasForm, IsHeld, IsOpen, IsReal, laid_memory, laid_spot, message_slot, slot};
 ghost use Rattle.typed_laws.specs.Agreement.{AloneDoesAs, GivesAs, GivesZero, ProgramDoesAs, laid_ending};
 ghost use Rattle.typed_laws.specs.Seen.{SameSeen};

@@ -33,7 +33,8 @@ use Rattle.capl_meaning.specs.Message.{Held, NamedMember, IsField, IsSignal, IsU
 use Rattle.capl_meaning.specs.Sort.{kind_in, sort_of}
 use Rattle.capl_meaning.specs.Constant.{branches_kind, elements_of, operands_kind}
 use Rattle.capl_meaning.specs.Store.{timer_number}
-use Rattle.capl_meaning.specs.Expression.{step_operator, timer_in}
+use Rattle.capl_meaning.specs.Expression.{timer_in}
+use Rattle.capl_meaning.specs.Inside.Expression.{step_operator}
 use Rattle.typed_laws.specs.Laid.{message_slot}
 use Rattle.typed_source.specs.Expression.{assigned, expression_of, loaded, of_builtin, of_call, of_name, of_this, operation, place_in, place_of, place_of_element, place_of_form, place_of_member, place_of_name, place_of_part, row_of, stepping, storing, updating}
 

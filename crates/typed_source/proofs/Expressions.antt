@@ -1,9 +1,10 @@
 -- The typed tree of each expression gives what the expression gives, and its typed place is its place.
 use mathlib.Core.Former.{Count}
 use Rattle.std.proofs.Common.{◌≡◌, ℕ, Bool, true, false, List, [], ◌∷◌, Option, Some, None, refl, sym, ap, ◌∙◌, subst}
-use Rattle.std.specs.Prelude.{pos, if◌then◌else◌}
+use Rattle.std.specs.Prelude.{pos, if◌then◌else◌, slice_index_or}
 use Rattle.std.specs.List.{AllZip}
 use Rattle.std.specs.Option.{option_and_then, option_map_or}
+use Rattle.int_kinds.specs.Arithmetic.{truth}
 use Rattle.int_kinds.specs.declared.operators.BinOp.{BinOp}
 use Rattle.int_kinds.specs.declared.operators.BinOp.TheVariants as op
 use Rattle.int_kinds.specs.declared.operators.UnOp.TheVariants as prefix
@@ -29,7 +30,8 @@ use Rattle.capl_meaning.specs.Message.{Held, NamedMember, IsField, IsSignal, IsU
 use Rattle.capl_meaning.specs.Sort.{kind_in, sort_of}
 use Rattle.capl_meaning.specs.Constant.{elements_of, operands_kind}
 use Rattle.capl_meaning.specs.Store.{timer_number}
-use Rattle.capl_meaning.specs.Expression.{activity, builtin_value, call_value, calling, spot_of_form, spot_of_member, spot_of_name, timer_in, value_of, value_of_this, values_of}
+use Rattle.capl_meaning.specs.Expression.{builtin_value, call_value, calling, spot_of_form, spot_of_member, timer_in, value_of, value_of_this, values_of}
+use Rattle.capl_meaning.specs.Inside.Expression.{spot_of_name}
 use Rattle.capl_meaning.specs.Expression as source
 use Rattle.typed_laws.specs.Laid.{laid, laid_run, message_slot}
 use Rattle.typed_laws.specs.Agreement.{AssignsAs, Beside, GivesAs, StandsAs, source_setting, typed_setting}
@@ -144,7 +146,7 @@ module _ (scope : Scope) (order : List ℕ) where
   builtin_same b w builtin.IsTimerActive (timer ∷ []) = go (timer_in scope timer)
     where
       go : (o : Option Variable) → typed.value_of (typed_setting b) b.typed_call (option_map_or (λ v. Active (timer_number scope.names v)) o (Const (pos 0))) (laid scope.names b.this w) ≡
-          laid_run scope.names b.this (Gives (option_map_or (activity (source_setting b scope) w.memory.active) o (pos 0)) w)
+          laid_run scope.names b.this (Gives (truth (option_map_or (λ v. slice_index_or w.memory.active (timer_number scope.names v) false) o false)) w)
       go None = refl
       go (Some v) = refl
   builtin_same b w builtin.IsTimerActive (timer ∷ other ∷ rest) = refl

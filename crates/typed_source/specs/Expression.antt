@@ -29,7 +29,8 @@ use Rattle.capl_meaning.specs.Message.{Held, NamedMember, IsField, IsSignal, arr
 use Rattle.capl_meaning.specs.Sort.{kind_in, sort_of}
 use Rattle.capl_meaning.specs.Constant.{branches_kind, elements_of, number_value, operands_kind, prefix_kind}
 use Rattle.capl_meaning.specs.Store.{variable_key, timer_number}
-use Rattle.capl_meaning.specs.Expression.{step_operator, timer_in}
+use Rattle.capl_meaning.specs.Expression.{timer_in}
+use Rattle.capl_meaning.specs.Inside.Expression.{step_operator}
 use Rattle.typed_laws.specs.Laid.{message_slot, slot}
 
 -- ---- places
