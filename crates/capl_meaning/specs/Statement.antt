@@ -63,16 +63,11 @@ abbrev pub argument_by : List ℕ → Sort → ArgKind
 argument_by text (sort.Number k) = argument.Number k
 argument_by text _ = argument.Str text
 
--- the arguments of a line, when it is made
-abbrev pub arguments_of : Setting → Store → List Expr → List ArgKind
-arguments_of s store arguments =
-    map (λ e. argument_by (text_of s store e) (sort_of s.scope e)) arguments
-
 -- the world after the line of a format with these arguments, whose numbers were evaluated
 abbrev pub with_line : Setting → List Piece → List Expr → List ℤ → World Memory → World Memory
 with_line s pieces arguments ns w =
-    after_effect (effect.Line
-    (line_of (format_elements pieces (arguments_of s w.memory.store arguments)) ns [])) w
+    let made : Expr → ArgKind = λ e. argument_by (text_of s w.memory.store e) (sort_of s.scope e) in
+    after_effect (effect.Line (line_of (format_elements pieces (map made arguments)) ns [])) w
 
 -- the pieces of a format that shows expressions of these sorts
 abbrev pub fitting_pieces : List Sort → Option (List ℕ) → Option (List Piece)
@@ -80,16 +75,12 @@ fitting_pieces sorts text =
     option_and_then (λ pieces. if show_all (codes_of pieces) sorts then Some pieces else None)
     (option_and_then pieces_of text)
 
--- writes the line of a format, if there is one: the numbers are evaluated from left to right before
-abbrev pub writes_line : Setting → Calls Memory → Option (List Piece) → List Expr → Does Memory
-writes_line s call None arguments w = nothing w
-writes_line s call (Some pieces) arguments w =
-    and_then (numbers_of s call arguments w) (λ ns w. Gives GoesOn (with_line s pieces arguments ns w))
-
--- `write` of a format and arguments
+-- `write` of a format and arguments writes the line of the format, if there is one: the numbers are evaluated
+-- from left to right before
 abbrev pub writes : Setting → Calls Memory → Expr → List Expr → Does Memory
-writes s call format arguments =
-    writes_line s call (fitting_pieces (map (sort_of s.scope) arguments) (quoted_text format)) arguments
+writes s call format arguments = option_map_or (λ pieces w.
+    and_then (numbers_of s call arguments w) (λ ns w. Gives GoesOn (with_line s pieces arguments ns w)))
+    (fitting_pieces (map (sort_of s.scope) arguments) (quoted_text format)) nothing
 
 -- ---- messages and timers
 
@@ -124,8 +115,8 @@ sets s v cyclic n =
 
 -- `setTimer` and `setTimerCyclic` of a timer, if there is one, which evaluate the duration
 abbrev pub sets_timer : Setting → Option Variable → Bool → Computes Memory → Does Memory
-sets_timer s None cyclic duration = nothing
-sets_timer s (Some v) cyclic duration = λ w. and_then (duration w) (sets s v cyclic)
+sets_timer s timer cyclic duration =
+    option_map_or (λ v w. and_then (duration w) (sets s v cyclic)) timer nothing
 
 -- cancels a timer, if there is one
 abbrev pub cancels : Setting → Option Variable → Does Memory
@@ -167,23 +158,13 @@ alone_of s call e = drops s call e
 
 -- the first or third part of a `for`, if it is there
 abbrev pub part_of : Setting → Calls Memory → Option Expr → Does Memory
-part_of s call None = nothing
-part_of s call (Some e) = alone_of s call e
-
--- the test of a `for`; where there is none it goes on
-abbrev pub for_test : Setting → Calls Memory → Option Expr → Computes Memory
-for_test s call None w = Gives (pos 1) w
-for_test s call (Some e) w = value_of s call e w
-
--- a number wrapped to the kind that is given, if one is
-abbrev pub wrapped_to : Option Kind → ℤ → ℤ
-wrapped_to None n = n
-wrapped_to (Some k) n = wrap k n
+part_of s call part = option_map_or (alone_of s call) part nothing
 
 -- returns a number, wrapped to the function's kind, or 0 where there is none
 abbrev pub returns : Setting → Calls Memory → Option Expr → Does Memory
 returns s call None w = Gives (Returns (pos 0)) w
-returns s call (Some e) w = run_map (λ n. Returns (wrapped_to s.scope.gives n)) (value_of s call e w)
+returns s call (Some e) w =
+    run_map (λ n. Returns (option_map_or (λ k. wrap k n) s.scope.gives n)) (value_of s call e w)
 
 -- ---- switch
 
@@ -231,7 +212,7 @@ abbrev mutual
   stmt_of s call n (tree.While test body) w = while_loop n (value_of s call test) (stmt_of s call n body) w
   stmt_of s call n (tree.Do body test) w = do_loop n (stmt_of s call n body) (value_of s call test) w
   stmt_of s call n (tree.For init test step body) w =
-      for_loop n (part_of s call init) (for_test s call test)
+      for_loop n (part_of s call init) (option_map_or (value_of s call) test (Gives (pos 1)))
       (part_of s call step) (stmt_of s call n body) w
   stmt_of s call n (stmt.Switch' on shape groups) w =
       and_then (value_of s call on w) (λ v w.

@@ -30,7 +30,8 @@ use Rattle.capl_meaning.specs.Sort.{is_number, sort_of}
 use Rattle.capl_meaning.specs.Store.{variable_key, message_cells, timer_number, unit_of}
 use Rattle.capl_meaning.specs.Expression.{held_message, timer_in, with_store}
 use Rattle.capl_meaning.specs.Expression as source
-use Rattle.capl_meaning.specs.Statement.{alone_of, arguments_of, assigns, calls_alone, cancels, copies, drops, fitting_pieces, sends, sets, sets_timer, with_line, writes_line}
+use Rattle.capl_meaning.specs.Statement.{alone_of, assigns, calls_alone, cancels, copies, drops, fitting_pieces, sends, sets, sets_timer, with_line}
+use Rattle.capl_meaning.specs.Inside.Statement.{writes_line}
 use Rattle.capl_meaning.specs.Statement as source_statement
 use Rattle.typed_laws.specs.Laid.{AreDistinct, laid, laid_run, message_slot, slot}
 use Rattle.typed_laws.specs.Agreement.{AloneDoesAs, Beside, GivesAs, IsArgument, SameEnd, is_copy, is_evaluated, is_for_effect, source_setting, typed_setting}

@@ -27,7 +27,7 @@ use Rattle.capl_meaning.specs.Constant.{elements_of}
 use Rattle.capl_meaning.specs.Store.{Store, This, variable_key}
 use Rattle.capl_meaning.specs.Expression as source
 use Rattle.capl_meaning.specs.Statement as source_statement
-use Rattle.capl_meaning.specs.Statement.{argument_by, arguments_of, characters_of, text_of}
+use Rattle.capl_meaning.specs.Statement.{argument_by, characters_of, text_of}
 use Rattle.typed_laws.specs.Laid.{AreDistinct, laid, laid_run, slot}
 use Rattle.typed_laws.specs.Agreement.{Beside, GivesAs, IsArgument, source_setting, typed_setting}
 use Rattle.typed_laws.proofs.Cells.{all_cells, array_laid}
@@ -101,14 +101,14 @@ module _ (s : source.Setting) (distinct : AreDistinct s.scope.names.variables) (
 
   -- the line of a format
   pub line_same : (pieces : List Piece) (es : List Expr) (ks : List ArgKind) → AllZip (IsArgument s.scope) es ks → (ns : List ℤ) →
-      line_of (format_elements pieces ks) ns cells_now ≡ line_of (format_elements pieces (arguments_of s store es)) ns []
+      line_of (format_elements pieces ks) ns cells_now ≡ line_of (format_elements pieces (map when_made es)) ns []
   line_same [] es ks h ns = refl
   line_same (piece.Byte byte ∷ pieces) es ks h ns = ap (λ l. byte ∷ l) (line_same pieces es ks h ns)
   line_same (piece.Argument code ∷ pieces) [] [] h ns = line_same pieces [] [] h ns
   line_same (piece.Argument code ∷ pieces) [] (k ∷ ks) h ns = elim h [ ]
   line_same (piece.Argument code ∷ pieces) (e ∷ es) [] h ns = elim h [ ]
   line_same (piece.Argument code ∷ pieces) (e ∷ es) (k ∷ ks) h ns =
-      shown_same code.field code.conversion e k h.0 (format_elements pieces ks) (format_elements pieces (arguments_of s store es)) (λ ns. line_same pieces es ks h.1 ns) ns
+      shown_same code.field code.conversion e k h.0 (format_elements pieces ks) (format_elements pieces (map when_made es)) (λ ns. line_same pieces es ks h.1 ns) ns
 
 module _ (scope : Scope) (order : List ℕ) (b : Beside scope.names order) where
   -- the numbers of a line, from left to right

@@ -28,6 +28,7 @@ use Rattle.typed_tree.specs.Memory as cells
 use Rattle.typed_tree.specs.Statement as typed_statement
 use Rattle.capl_meaning.specs.Names.{Scope}
 use Rattle.capl_meaning.specs.Constant.{prefix_kind}
+use Rattle.capl_meaning.specs.Inside.Statement.{for_test, wrapped_to}
 use Rattle.capl_meaning.specs.Expression as source
 use Rattle.capl_meaning.specs.Statement as source_statement
 use Rattle.typed_laws.specs.Laid.{laid, laid_run}
@@ -187,7 +188,7 @@ module _ (scope : Scope) (order : List ℕ) (formats : List FormatText) where
         then_same scope.names b.this (λ n. n) (λ end. end) (run_map (wrap k) (source.value_of (source_setting b scope) b.call e w)) _ (λ n w. Gives (Returns n) w) (λ n w. Gives (Returns n) w)
         (map_same scope.names b.this (wrap k) (wrap k) _ _ (f.same b w) (λ n. refl)) (λ n w. refl)
         ∙ ap (laid_run scope.names b.this) (mapped_twice k (source.value_of (source_setting b scope) b.call e w)
-        ∙ ap (λ g. run_map (λ n. Returns (source_statement.wrapped_to g n)) (source.value_of (source_setting b scope) b.call e w)) (sym is));
+        ∙ ap (λ g. run_map (λ n. Returns (wrapped_to g n)) (source.value_of (source_setting b scope) b.call e w)) (sym is));
   }
     where
       mapped_twice : (k : Kind) (r : Run source.Memory ℤ) → and_then (run_map (wrap k) r) (λ n w. Gives (Returns n) w) ≡ run_map (λ n. Returns (wrap k n)) r
@@ -198,8 +199,8 @@ module _ (scope : Scope) (order : List ℕ) (formats : List FormatText) where
   pub return_other_as : (e : Expr) (at : ℕ) (u : TExpr) → scope.gives ≡ None → GivesAs scope order e u → DoesAs scope order formats (stmt.Return (Some e) at) (t.Return (Some u))
   return_other_as e at u is f = record {
     same = λ b stand n w.
-        map_same scope.names b.this (λ n. Returns (source_statement.wrapped_to scope.gives n)) Returns (source.value_of (source_setting b scope) b.call e w) _ (f.same b w)
-        (λ n. ap (λ g. Returns (source_statement.wrapped_to g n)) (sym is));
+        map_same scope.names b.this (λ n. Returns (wrapped_to scope.gives n)) Returns (source.value_of (source_setting b scope) b.call e w) _ (f.same b w)
+        (λ n. ap (λ g. Returns (wrapped_to g n)) (sym is));
   }
 
   pub block_as : (all : List Stmt) (us : List TStmt) → AllZip (DoesAs scope order formats) all us → DoesAs scope order formats (stmt.Block all) (t.Block us)
@@ -237,7 +238,7 @@ module _ (scope : Scope) (order : List ℕ) (formats : List FormatText) where
 
   -- the test of a `for`
   test_same : (b : Beside scope.names order) (test : Option Expr) (u : Option TExpr) → Both (GivesAs scope order) test u →
-      SameNumber scope.names b.this (source_statement.for_test (source_setting b scope) b.call test) (typed_statement.for_test (typed_setting b) b.typed_call u)
+      SameNumber scope.names b.this (for_test (source_setting b scope) b.call test) (typed_statement.for_test (typed_setting b) b.typed_call u)
   test_same b None None h w = refl
   test_same b (Some e) (Some u) h w = h.same b w
   test_same b None (Some u) h w = elim h [ ]

@@ -22,6 +22,7 @@ use Rattle.typed_tree.specs.Memory as cells
 use Rattle.typed_tree.specs.Statement as typed_statement
 use Rattle.capl_meaning.specs.Names.{Scope}
 use Rattle.capl_meaning.specs.Constant.{prefix_kind}
+use Rattle.capl_meaning.specs.Inside.Statement.{for_test}
 use Rattle.capl_meaning.specs.Expression as source
 use Rattle.capl_meaning.specs.Statement as source_statement
 use Rattle.typed_laws.specs.Laid.{laid, mapped}
@@ -57,7 +58,7 @@ module _ (scope : Scope) (order : List ℕ) (each : HasEach scope.names order) (
     typed_does u = typed_statement.stmt_of (typed_setting b) b.typed_call n u
 
     -- the test of a `for`
-    test_same : (test : Option Expr) → SameNumber scope.names b.this (source_statement.for_test (source_setting b scope) b.call test)
+    test_same : (test : Option Expr) → SameNumber scope.names b.this (for_test (source_setting b scope) b.call test)
         (typed_statement.for_test (typed_setting b) b.typed_call (option_map (expression_of scope order) test))
     test_same None w = refl
     test_same (Some e) w = (gives scope order each e).same b w
