@@ -13,7 +13,6 @@ use Rattle.write_format.specs.declared.piece.Piece.{Piece}
 use Rattle.write_format.specs.Reading.{codes_of, pieces_of}
 use Rattle.run_effects.specs.Duration.{micros}
 use Rattle.run_effects.specs.Effect as effect
-use Rattle.message_cells.specs.Message.{frame_of}
 use Rattle.control_flow.specs.World.{World, Run, Gives, and_then, run_map, after_effect}
 use Rattle.control_flow.specs.Control.{Calls, Computes, Does, GoesOn, Breaks, Continues, Returns, deciding, for_loop, do_loop, followed_by, leaving_switch, nothing, while_loop}
 use Rattle.capl_tree.specs.declared.expr.Expr.{Expr, items-the_row-Expr}
@@ -31,7 +30,7 @@ use Rattle.capl_meaning.specs.Format.{show_all, quoted_text}
 use Rattle.capl_meaning.specs.Message.{Held, HeldVariable, array_in, message_in}
 use Rattle.capl_meaning.specs.Sort.{is_number, sort_of}
 use Rattle.capl_meaning.specs.Constant.{constant_at, elements_of, prefix_kind}
-use Rattle.capl_meaning.specs.Store.{Store, variable_key, message_cells, row, timer_number, unit_of, with_message}
+use Rattle.capl_meaning.specs.Store.{Store, variable_key, row, timer_number, unit_of, with_message, frame_sent}
 use Rattle.capl_meaning.specs.Expression.{Memory, Setting, held_message, timer_in, value_of, with_store}
 
 -- what changes in the world, unless the measurement has ended
@@ -88,7 +87,7 @@ writes s call format arguments = option_map_or (λ pieces w.
 abbrev pub sends : Setting → Option Held → Does Memory
 sends s None = nothing
 sends s (Some held) = unless_closed s (λ w. after_effect
-    (effect.Send (frame_of (message_cells (held_message s.this w.memory.store held)))) w)
+    (effect.Send (frame_sent (held_message s.this w.memory.store held))) w)
 
 -- copies a message to a message variable
 abbrev pub copies : Setting → Variable → Held → Does Memory

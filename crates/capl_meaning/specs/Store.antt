@@ -1,11 +1,13 @@
 -- What the variables of a program hold, and how that stands in cells (CAPL manual, variables, message).
-use Rattle.std.specs.Prelude.{ℕ, zero, suc, ◌+◌, ◌-◌, ◌==◌, Bool, ◌&&◌, if◌then◌else◌, nat_le, nat_lt, List, [], ◌∷◌, ◌++◌, filter, filter_map, flat_map, length, position, replicate, slice_index_or, Option, Some, None, unwrap_or, ℤ, pos}
+use Rattle.std.specs.Prelude.{ℕ, zero, suc, ◌+◌, ◌-◌, ◌==◌, Bool, ◌&&◌, if◌then◌else◌, nat_le, nat_lt, List, [], ◌∷◌, ◌++◌, filter, filter_map, flat_map, length, map, not, position, replicate, slice_index_or, Option, Some, None, unwrap_or, ℤ, pos}
 use Rattle.std.specs.Str.{bytes_eq}
 use Rattle.int_kinds.specs.declared.kinds.Kind.{Kind}
-use Rattle.int_kinds.specs.declared.kinds.Kind.TheVariants.{Char}
+use Rattle.int_kinds.specs.declared.kinds.Kind.TheVariants.{Byte, Char}
+use Rattle.int_kinds.specs.Arithmetic.{residue}
+use Rattle.can_frame.specs.Frame.{FrameFields, data_len_of, padded}
 use Rattle.signal_codec.specs.declared.layout.Layout.{Layout}
 use Rattle.signal_codec.specs.Signal.{payload_with, signal_value}
-use Rattle.message_cells.specs.Message.{bytes_of, message_kinds, number_at, payload_of, written_can, written_dlc, written_id, written_rtr}
+use Rattle.message_cells.specs.Message.{bytes_of, message_kinds, number_at, written_can, written_dlc, written_id, written_rtr, ident_of}
 use Rattle.capl_meaning.specs.declared.field.MessageField.{MessageField}
 use Rattle.capl_meaning.specs.declared.field.MessageField.TheVariants.{Id, Dlc, Rtr, Can, Dir, Time}
 use Rattle.capl_meaning.specs.Variable.{Form, Number, Array, Message, Timer, Misfit, Variable, is_timer}
@@ -35,7 +37,19 @@ message_cells m = m.id ∷ m.dlc ∷ m.rtr ∷ m.can ∷ m.dir ∷ m.time ∷ ro
 
 -- the payload of a message
 abbrev pub payload : MessageRecord → List ℕ
-payload m = payload_of (message_cells m)
+payload m = map (residue Byte) (row m.byte 0 8)
+
+-- the frame of a message, with each field brought to its range by its write rule, on channel 1
+abbrev pub frame_sent : MessageRecord → FrameFields
+frame_sent m =
+    let remote : Bool = not (written_rtr m.rtr == 0) in
+    record {
+      ident = ident_of (written_id m.id);
+      remote = remote;
+      dlc = written_dlc m.dlc;
+      payload = padded (data_len_of remote (written_dlc m.dlc)) (payload m);
+      can = 1;
+    }
 
 -- the byte of a number, once bytes are put from one number on
 abbrev pub byte_after : ℕ → List ℕ → (ℕ → ℤ) → ℕ → ℤ

@@ -13,7 +13,7 @@ use Rattle.int_kinds.specs.declared.operators.BinOp.TheVariants as op
 use Rattle.int_kinds.specs.declared.operators.UnOp.TheVariants as prefix
 use Rattle.int_kinds.specs.Kind.{join, wrap}
 use Rattle.int_kinds.specs.Arithmetic.{value}
-use Rattle.message_cells.specs.Message.{frame_of, size}
+use Rattle.message_cells.specs.Message.{size}
 use Rattle.write_format.specs.declared.piece.Piece.{Piece}
 use Rattle.run_effects.specs.Duration.{micros}
 use Rattle.run_effects.specs.Effect.{Effect, Line, Send, Stop, Set, Cancel}
@@ -38,7 +38,7 @@ use Rattle.capl_meaning.specs.Operator.{prefix_value, truth_of}
 use Rattle.capl_meaning.specs.Sort.{is_number, kind_in, sort_of}
 use Rattle.capl_meaning.specs.Constant.{branches_kind, elements_of, operands_kind, prefix_kind}
 use Rattle.capl_meaning.specs.Calls.{calls_in, calls_in_labels, calls_in_part, calls_in_row, names_called, calls_of_arms, calls_of_else, calls_of_groups, calls_of_row}
-use Rattle.capl_meaning.specs.Store.{MessageRecord, message_cells, timer_number, unit_of}
+use Rattle.capl_meaning.specs.Store.{MessageRecord, timer_number, unit_of, frame_sent}
 use Rattle.capl_meaning.specs.Expression.{InBytes, InElement, InField, InNumber, InSignal, Memory, Nowhere, Setting, Spot, call_value, calling, element_spot, field_spot, held_message, indexing, kind_of_elements, operates, part_spot, place_spot, reads, spot_of, step_by_one, stores, timer_in, value_of, values_of, with_arguments, with_store}
 use Rattle.capl_meaning.specs.Statement.{alone_of, arms_of, assigns, calls_alone, cancels, drops, else_of, fitting_pieces, group_for, groups_of, group_labels, numbers_of, part_of, returns, sends, sets, sets_timer, stmt_of, stmts_of, unless_closed, with_line, with_timer}
 use Rattle.capl_meaning.specs.Procedure.{runs}
@@ -249,7 +249,7 @@ module _ (P : Effect → Type 0) (s : Setting) (call : Calls Memory) (calls : (f
   -- ---- expressions that stand alone, where the effects are so that calls of such names have
 
   module _ (Q : List ℕ → Type 0) (lines : (text : List ℕ) → P (Line text))
-      (sent : (name : List ℕ) → Q name → callee s.scope.names name ≡ OfLanguage builtin.Output → (message : MessageRecord) → P (Send (frame_of (message_cells message))))
+      (sent : (name : List ℕ) → Q name → callee s.scope.names name ≡ OfLanguage builtin.Output → (message : MessageRecord) → P (Send (frame_sent message)))
       (stopped : (name : List ℕ) → Q name → callee s.scope.names name ≡ OfLanguage builtin.Stop → P Stop)
       (set : (e : Expr) (v : Variable) → timer_in s.scope e ≡ Some v → (cyclic : Bool) (n : ℤ) → P (Set (timer_number s.scope.names v) (micros (unwrap_or (unit_of v.form) 0) n) cyclic))
       (cancelled : (e : Expr) (v : Variable) → timer_in s.scope e ≡ Some v → P (Cancel (timer_number s.scope.names v))) where
@@ -279,10 +279,10 @@ module _ (P : Effect → Type 0) (s : Setting) (call : Calls Memory) (calls : (f
     line_fine (Some pieces) es w fine =
         then_fine P (numbers_of s call es w) (λ ns w. Gives GoesOn (with_line s pieces es ns w)) (numbers_fine es w fine) (λ ns w fine. effect_fine _ (lines _) w fine)
 
-    sends_fine : ((message : MessageRecord) → P (Send (frame_of (message_cells message)))) → (o : Option Held) → Keeps P (sends s o)
+    sends_fine : ((message : MessageRecord) → P (Send (frame_sent message))) → (o : Option Held) → Keeps P (sends s o)
     sends_fine each None w fine = fine
     sends_fine each (Some held) w fine =
-        unless_fine (λ w. after_effect (Send (frame_of (message_cells (held_message s.this w.memory.store held)))) w) (λ w fine. effect_fine _ (each (held_message s.this w.memory.store held)) w fine) w fine
+        unless_fine (λ w. after_effect (Send (frame_sent (held_message s.this w.memory.store held))) w) (λ w fine. effect_fine _ (each (held_message s.this w.memory.store held)) w fine) w fine
 
     timer_fine : (e : Expr) (o : Option Variable) → timer_in s.scope e ≡ o → (cyclic : Bool) (duration : Computes Memory) → Keeps P duration → Keeps P (sets_timer s o cyclic duration)
     timer_fine e None is cyclic duration keeps w fine = fine

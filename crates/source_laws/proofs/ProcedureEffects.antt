@@ -6,7 +6,6 @@ use Rattle.std.specs.Option.{option_map_or}
 use Rattle.std.proofs.lemmas.List.Elements.{All-head, All-nil, All-tail}
 use Rattle.run_effects.specs.Duration.{micros}
 use Rattle.run_effects.specs.Effect.{Effect, Line, Send, Stop, Set, Cancel}
-use Rattle.message_cells.specs.Message.{frame_of}
 use Rattle.control_flow.specs.World.{Run, Gives, Fails, run_map}
 use Rattle.control_flow.specs.Control.{Calls, End, number_given}
 use Rattle.capl_tree.specs.declared.expr.Expr.{Expr}
@@ -15,7 +14,7 @@ use Rattle.capl_meaning.specs.declared.builtin.Builtin.TheVariants as builtin
 use Rattle.capl_meaning.specs.Variable.{Variable}
 use Rattle.capl_meaning.specs.Names.{Function, OfLanguage, Scope, callee}
 use Rattle.capl_meaning.specs.Calls.{names_called as calls_in_statement, function_numbered}
-use Rattle.capl_meaning.specs.Store.{MessageRecord, message_cells, timer_number, unit_of}
+use Rattle.capl_meaning.specs.Store.{MessageRecord, timer_number, unit_of, frame_sent}
 use Rattle.capl_meaning.specs.Expression.{Memory, Setting, timer_in}
 use Rattle.capl_meaning.specs.Procedure.{calls_of, ending, function_runs, in_function, runs, runs_numbered}
 use Rattle.source_laws.proofs.Effects.{Fine, Keeps, map_fine, runs_fine, turn_fine}
@@ -34,7 +33,7 @@ found_holds H number (g ∷ fs) all f is =
     ] is
 
 module _ (P : Effect → Type 0) (Q : List ℕ → Type 0) (s : Setting) (lines : (text : List ℕ) → P (Line text))
-    (sent : (name : List ℕ) → Q name → callee s.scope.names name ≡ OfLanguage builtin.Output → (message : MessageRecord) → P (Send (frame_of (message_cells message))))
+    (sent : (name : List ℕ) → Q name → callee s.scope.names name ≡ OfLanguage builtin.Output → (message : MessageRecord) → P (Send (frame_sent message)))
     (stopped : (name : List ℕ) → Q name → callee s.scope.names name ≡ OfLanguage builtin.Stop → P Stop)
     (set : (scope : Scope) → scope.names ≡ s.scope.names → (e : Expr) (v : Variable) → timer_in scope e ≡ Some v → (cyclic : Bool) (n : ℤ)
     → P (Set (timer_number scope.names v) (micros (unwrap_or (unit_of v.form) 0) n) cyclic))

@@ -5,7 +5,6 @@ use Rattle.std.specs.Option.{option_map_or}
 use Rattle.std.specs.Str.{bytes_eq}
 use Rattle.std.proofs.lemmas.List.Elements.{All-cons, All-from_recursion, All-head, All-nil, All-tail}
 use Rattle.std.proofs.lemmas.Slice.Eq.{bytes_eq-Decides}
-use Rattle.message_cells.specs.Message.{frame_of}
 use Rattle.run_effects.specs.Effect.{Cancel, Effect, Line, Send, Set, Stop}
 use Rattle.log_line.specs.Written.{IsLoggable}
 use Rattle.timer_queue.specs.Timers.{active_timers}
@@ -19,7 +18,7 @@ use Rattle.capl_meaning.specs.declared.builtin.Builtin.{Builtin}
 use Rattle.capl_meaning.specs.declared.builtin.Builtin.TheVariants as builtin
 use Rattle.capl_meaning.specs.Names.{Function, Names, OfLanguage, builtin_named, names_of, OfProgram, Unknown}
 use Rattle.capl_meaning.specs.Procedure.{Handler, handlers_in, setting_of}
-use Rattle.capl_meaning.specs.Store.{MessageRecord, Store, message_cells}
+use Rattle.capl_meaning.specs.Store.{MessageRecord, Store, message_cells, frame_sent}
 use Rattle.capl_meaning.specs.Variable.{parts_of}
 use Rattle.typed_laws.proofs.Declared.{handlers_named}
 use Rattle.source_laws.specs.Reaction.{handler_end, this_of}
@@ -82,7 +81,7 @@ stop_named name is =
 -- ---- the effects of a task
 
 module _ (P : Effect → Type 0) (Q : List ℕ → Type 0) (lines : (text : List ℕ) → P (Line text))
-    (sent : (name : List ℕ) → Q name → builtin_named name ≡ Some builtin.Output → (message : MessageRecord) → P (Send (frame_of (message_cells message))))
+    (sent : (name : List ℕ) → Q name → builtin_named name ≡ Some builtin.Output → (message : MessageRecord) → P (Send (frame_sent message)))
     (stopped : (name : List ℕ) → Q name → builtin_named name ≡ Some builtin.Stop → P Stop)
     (set : (timer micros : ℕ) (cyclic : Bool) → P (Set timer micros cyclic)) (cancelled : (timer : ℕ) → P (Cancel timer)) where
   -- of a procedure's run
@@ -151,7 +150,7 @@ nothing_asked (Cancel timer ∷ effects) all = nothing_asked effects (All-tail A
 -- ---- tasks
 
 -- the frame of each message can be logged
-sent_loggable : (message : MessageRecord) → IsLoggable (frame_of (message_cells message))
+sent_loggable : (message : MessageRecord) → IsLoggable (frame_sent message)
 sent_loggable message = record { valid = IsFrame-frame_of (message_cells message) refl; channel = refl }
 
 logged_by : (s : NodeState SourceMemory) (occurrence : Occurrence) (now : ℕ) (done : Done (NodeState SourceMemory)) (procedure : Option ℕ)

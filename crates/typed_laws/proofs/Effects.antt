@@ -27,7 +27,7 @@ use Rattle.capl_meaning.specs.Names.{Callee, OfLanguage, Scope, callee}
 use Rattle.capl_meaning.specs.Format.{quoted_text}
 use Rattle.capl_meaning.specs.Message.{Held, HeldVariable, message_in}
 use Rattle.capl_meaning.specs.Sort.{is_number, sort_of}
-use Rattle.capl_meaning.specs.Store.{variable_key, message_cells, timer_number, unit_of}
+use Rattle.capl_meaning.specs.Store.{variable_key, timer_number, unit_of, frame_sent}
 use Rattle.capl_meaning.specs.Expression.{held_message, timer_in, with_store}
 use Rattle.capl_meaning.specs.Expression as source
 use Rattle.capl_meaning.specs.Statement.{alone_of, assigns, calls_alone, cancels, copies, drops, fitting_pieces, sends, sets, sets_timer, with_line}
@@ -109,7 +109,7 @@ module _ (scope : Scope) (order : List ℕ) (formats : List FormatText) where
   send_as name message at held cell is named where_ = record {
     same = λ b stand n w.
         let names = scope.names in
-        unless_same b (λ w. after_effect (effect.Send (frame_of (message_cells (held_message b.this w.memory.store held)))) w) (λ w. after_effect (effect.Send (frame_of (message_of cell w.memory.cells))) w) w
+        unless_same b (λ w. after_effect (effect.Send (frame_sent (held_message b.this w.memory.store held))) w) (λ w. after_effect (effect.Send (frame_of (message_of cell w.memory.cells))) w) w
         (ap (λ m. after_effect (effect.Send (frame_of m)) (laid names b.this w))
         (ap (λ c. message_of c (all_cells names b.this w.memory.store)) (where_ b.plain.distinct) ∙ message_laid names b.plain.distinct b.this w.memory.store held (message_named scope message held named)))
         ∙ ap (laid_run names b.this) (sym (call_alone b name (message ∷ []) at (OfLanguage builtin.Output) w is ∙ ap (λ o. sends (source_setting b scope) o w) named));

@@ -6,7 +6,6 @@ use Rattle.std.specs.Option.{option_map_or}
 use Rattle.int_kinds.specs.Kind.{wrap}
 use Rattle.write_format.specs.declared.piece.Piece.{Piece}
 use Rattle.run_effects.specs.Effect as effect
-use Rattle.message_cells.specs.Message.{frame_of}
 use Rattle.control_flow.specs.World.{World, Gives, after_effect, and_then, run_map, taking_turn}
 use Rattle.control_flow.specs.Control.{Calls, Computes, Does, GoesOn, Returns, deciding, do_loop, followed_by, for_loop, leaving_switch, number_given, while_loop}
 use Rattle.capl_tree.specs.declared.expr.Expr.{Expr, items-the_row-Expr}
@@ -23,7 +22,7 @@ use Rattle.capl_meaning.specs.Format.{quoted_text}
 use Rattle.capl_meaning.specs.Message.{Held, HeldVariable, message_in}
 use Rattle.capl_meaning.specs.Sort.{is_number, sort_of}
 use Rattle.capl_meaning.specs.Constant.{prefix_kind}
-use Rattle.capl_meaning.specs.Store.{This, variable_key, message_cells, with_message}
+use Rattle.capl_meaning.specs.Store.{This, variable_key, with_message, frame_sent}
 use Rattle.capl_meaning.specs.Expression.{Memory, Setting, held_message, timer_in, value_of, with_store}
 use Rattle.capl_meaning.specs.Procedure.{Handler, calls_of, ending, ending_of, function_runs, runs, runs_numbered}
 use Rattle.capl_meaning.specs.Statement.{alone_of, arms_of, assigns, calls_alone, drops, else_of, fitting_pieces, group_for, groups_of, group_labels, numbers_of, part_of, returns, sends, sets, sets_timer, stmt_of, stmts_of, with_line}
@@ -56,7 +55,7 @@ module _ (scope : Scope) (a b : This) (h : SameSeen scope.this a b) (closed : Bo
 
   sends_seen : (o : Option Held) → ((held : Held) → o ≡ Some held → (w : World Memory) → held_message a w.memory.store held ≡ held_message b w.memory.store held) → (w : World Memory) → sends one o w ≡ sends other o w
   sends_seen None same w = refl
-  sends_seen (Some held) same w = λ i. Gives GoesOn (if closed then w else after_effect (effect.Send (frame_of (message_cells (same held refl w i)))) w)
+  sends_seen (Some held) same w = λ i. Gives GoesOn (if closed then w else after_effect (effect.Send (frame_sent (same held refl w i))) w)
 
   timer_seen : (o : Option Variable) (cyclic : Bool) (duration duration' : Computes Memory) → ((w : World Memory) → duration w ≡ duration' w) → (w : World Memory) → sets_timer one o cyclic duration w ≡ sets_timer other o cyclic duration' w
   timer_seen None cyclic duration duration' e w = refl
