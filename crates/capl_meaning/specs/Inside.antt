@@ -2,3 +2,4 @@
 pub mod Names
 pub mod Expression
 pub mod Statement
+pub mod Procedure

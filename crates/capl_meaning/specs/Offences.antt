@@ -1,27 +1,22 @@
 -- All offences of a program against the rules E09 to E28, and which of them is the first.
 use Rattle.std.specs.Prelude.{◌≡◌, ◌<◌, ◌≤◌, ◌⊎◌, ℕ, List, ◌++◌, flat_map, All, Contains}
 use Rattle.dbc_reader.specs.declared.message.DbcMessage.{DbcMessage}
-use Rattle.capl_tree.specs.declared.procedure.Proc.{Proc}
 use Rattle.capl_tree.specs.declared.file.Program.{Program}
 use Rattle.capl_meaning.specs.declared.offence.Offence.{Offence}
 use Rattle.capl_meaning.specs.Variable.{Part, Globals, Procedure, parts_of}
-use Rattle.capl_meaning.specs.Names.{Names, inside, names_of, outside}
+use Rattle.capl_meaning.specs.Names.{Names, Scope, inside, names_of, outside}
 use Rattle.capl_meaning.specs.DeclarationRules.{declaration_offences}
 use Rattle.capl_meaning.specs.StatementRules.{in_body, statement_offences}
 use Rattle.capl_meaning.specs.ProcedureRules.{head_offences, inner_name_offences, outer_name_offences, purpose_offences}
-
--- what a procedure of a number breaks
-abbrev pub procedure_offences : Names → ℕ → ℕ → Proc → List Offence
-procedure_offences names number file procedure =
-    head_offences (inside names number file procedure.head) procedure.head
-    ++ (inner_name_offences names number
-    ++ flat_map (statement_offences (inside names number file procedure.head) in_body) procedure.body)
 
 -- what a part of a program breaks
 abbrev pub part_offences : Names → Part → List Offence
 part_offences names (Globals file declarations) =
     flat_map (declaration_offences (outside names file)) declarations
-part_offences names (Procedure number file procedure) = procedure_offences names number file procedure
+part_offences names (Procedure number file procedure) =
+    let s : Scope = inside names number file procedure.head in
+    head_offences s procedure.head
+    ++ (inner_name_offences names number ++ flat_map (statement_offences s in_body) procedure.body)
 
 -- all offences of a program with a database
 abbrev pub offences_of : List DbcMessage → Program → List Offence

@@ -26,22 +26,15 @@ use Rattle.capl_meaning.specs.Statement.{stmt_of}
 abbrev pub runs : Setting → Calls Memory → ℕ → List Stmt → Does Memory
 runs s call n body = in_order (stmt_of s call n) body
 
--- the same setting in a function
-abbrev pub in_function : Setting → Function → Setting
-in_function s f = record s { scope = inside_function s.scope.names f }
-
--- what the body of a function does
+-- what the body of a function does, in the same setting but for where it stands
 abbrev pub function_runs : Setting → Calls Memory → ℕ → Function → Does Memory
-function_runs s call n f = runs (in_function s f) call n f.body
+function_runs s call n f = runs (record s { scope = inside_function s.scope.names f }) call n f.body
 
--- what the body of the function of a number does; of a number that no function has nothing is done
-abbrev pub runs_numbered : Setting → Calls Memory → ℕ → ℕ → Does Memory
-runs_numbered s call n f =
-    option_map_or (function_runs s call n) (function_numbered s.scope.names f) (runs s call n [])
-
--- what the calls of the functions do, where at most n turns are left
+-- what the calls of the functions do, by their numbers, where at most n turns are left; of a number that no
+-- function has nothing is done
 abbrev pub calls_of : Setting → ℕ → Calls Memory
-calls_of s n = calls_by (runs_numbered s) n
+calls_of s n = calls_by (λ call n f.
+    option_map_or (function_runs s call n) (function_numbered s.scope.names f) (runs s call n [])) n
 
 -- how the run of an event procedure ends: what the memory is then, how many turns it took, its effects in
 -- order, and the outcome
@@ -93,22 +86,14 @@ handlers_of_part names (Procedure number file procedure) = option_map_or (λ e. 
   token = procedure.at;
 } ∷ []) (event_of names procedure.head) []
 
--- the event procedures of a program, in program order
-abbrev pub handlers_of : Names → Program → List Handler
-handlers_of names program = flat_map (handlers_of_part names) (parts_of program)
-
 -- the event procedures of a program with a database, in program order
 abbrev pub handlers_in : List DbcMessage → Program → List Handler
-handlers_in base program = handlers_of (names_of base program) program
+handlers_in base program = flat_map (handlers_of_part (names_of base program)) (parts_of program)
 
--- where and when an event procedure runs: with `this`, after the measurement has ended or not, at a moment
-abbrev pub setting_of : Handler → This → Bool → ℕ → Setting
-setting_of handler this closed moment =
-    record { scope = handler.scope; this = this; closed = closed; moment = moment }
-
--- how an event procedure ends from a memory with so many turns
+-- how an event procedure ends from a memory with so many turns: with `this`, after the measurement has ended
+-- or not, at a moment
 abbrev pub ending_of : Handler → This → Bool → ℕ → ℕ → Memory → Ending
 ending_of handler this closed moment turns memory =
-    let s : Setting = setting_of handler this closed moment in
+    let s : Setting = record { scope = handler.scope; this = this; closed = closed; moment = moment } in
     ending turns (runs s (calls_of s turns) turns handler.body
     (record { memory = memory; turns = turns; effects = [] }))

@@ -4,7 +4,7 @@ ghost use Rattle.std.specs.Prelude.{◌≡◌, ◌<◌, ◌^◌, ◌++◌, [], I
 ghost use Rattle.capl_meaning.specs.Names.{names_of};
 ghost use Rattle.check_names.specs.Few.{IsFew};
 ghost use Rattle.capl_meaning.specs.Offences.{offences_of};
-ghost use Rattle.capl_meaning.specs.Procedure.{handlers_of};
+ghost use Rattle.capl_meaning.specs.Inside.Procedure.{handlers_of};
 ghost use Rattle.check_types.specs.Lines.{line_in};
 ghost use Rattle.check_types.specs.Handlers.{lines_of};
 ghost use Rattle.type_statements.specs.Tables.{AreTables, order_of};

@@ -9,7 +9,7 @@ ghost use Rattle.capl_tree.specs.declared.statement.Stmt.{Stmt};
 ghost use Rattle.capl_meaning.specs.Store.{This};
 ghost use Rattle.capl_meaning.specs.Expression.{Memory, Setting, spot_of, value_of};
 ghost use Rattle.capl_meaning.specs.Statement.{alone_of, stmt_of};
-ghost use Rattle.capl_meaning.specs.Procedure.{Handler, calls_of, ending, ending_of, runs, setting_of};
+ghost use Rattle.capl_meaning.specs.Procedure.{Handler, calls_of, ending, ending_of, runs};
 
 /// No expression, as a number, as a place or alone, no statement, no body of a procedure and no call has
 /// more turns left at its end than at its beginning. `s` is the setting in which it stands, perhaps a
@@ -46,7 +46,7 @@ pub fn turns_left_are_enough()
         calls_of run n f w ≡ calls_of run w.turns f w }
     ensures event_procedures { (handler : Handler) (this : This) (closed : Bool) (moment turns n : ℕ)
         (memory : Memory) → turns ≤ n →
-        let s : Setting = setting_of handler this closed moment in
+        let s : Setting = record { scope = handler.scope; this = this; closed = closed; moment = moment } in
         ending turns (runs s (calls_of s n) n handler.body
         (record { memory = memory; turns = turns; effects = [] })) ≡
         ending_of handler this closed moment turns memory }

@@ -19,9 +19,10 @@ use Rattle.typed_tree.specs.Sound.{all_keys, all_selectors, all_timers}
 use Rattle.capl_meaning.specs.Variable.{Form, Timer, Misfit, Part, Globals, Procedure, Variable, is_timer, parts_of}
 use Rattle.capl_meaning.specs.Names.{Names, Scope, global, inside, names_of}
 use Rattle.capl_meaning.specs.Offences.{offences_of, part_offences}
-use Rattle.capl_meaning.specs.Procedure.{Handler, event_of, handlers_of, handlers_of_part, timer_named}
+use Rattle.capl_meaning.specs.Procedure.{Handler, event_of, handlers_of_part, timer_named}
 use Rattle.capl_meaning.specs.ProcedureRules.{ForFrames, ForKey, ForTimer, Purpose, Told, collide, head_offences, names_timer, outer_name_offences, purpose_offences, ranges_of, timer_rule, told_by_head, told_by_part}
 use Rattle.capl_meaning.specs.Inside.Names.{is_global}
+use Rattle.capl_meaning.specs.Inside.Procedure.{handlers_of}
 use Rattle.typed_laws.proofs.Declared.{all_append}
 use Rattle.typed_laws.proofs.Places.{found_among}
 use Rattle.typed_source.specs.Program.{typed_handlers, typed_program}

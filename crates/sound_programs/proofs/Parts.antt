@@ -22,7 +22,7 @@ use Rattle.capl_meaning.specs.Variable.{Part, Globals, Procedure, parts_of, part
 use Rattle.capl_meaning.specs.Names.{Function, Names, Scope, function_by, function_of_part, inside, inside_function, names_of}
 use Rattle.capl_meaning.specs.Calls.{function_numbered}
 use Rattle.capl_meaning.specs.Offences.{part_offences}
-use Rattle.capl_meaning.specs.Procedure.{Handler, event_of, handlers_of, handlers_of_part}
+use Rattle.capl_meaning.specs.Procedure.{Handler, event_of, handlers_of_part, handlers_in}
 use Rattle.capl_meaning.specs.ProcedureRules.{Both, Channels, First, Second, all_on, channels_of, head_offences, identifiers_on, inner_name_offences, keys_on, ranges_of, selector_of}
 use Rattle.capl_meaning.specs.StatementRules.{in_body, statement_offences}
 use Rattle.typed_laws.specs.Laid.{IsAmong}
@@ -166,5 +166,5 @@ module _ (base : List DbcMessage) (program : Program) (readable : IsReadable pro
   numbered_good number f is = function_good f (found_among (λ f. f.number == number) (names_of base program).functions f is)
 
   -- each event procedure
-  pub handlers_good : AllByRecursion (IsGoodHandler (names_of base program)) (handlers_of (names_of base program) program)
+  pub handlers_good : AllByRecursion (IsGoodHandler (names_of base program)) (handlers_in base program)
   handlers_good = good_handlers (names_of base program) (parts_of program) (readable_parts program readable) clean

@@ -20,7 +20,7 @@ use Rattle.typed_tree.specs.declared.program.Typed.{Typed}
 use Rattle.capl_meaning.specs.Variable.{Part, Globals, Procedure, parts_of, parts_of_files, parts_of_items}
 use Rattle.capl_meaning.specs.Names.{Function, Names, function_by, function_of_part, inside, inside_function, names_of}
 use Rattle.capl_meaning.specs.Calls.{function_numbered}
-use Rattle.capl_meaning.specs.Procedure.{Handler, event_of, handlers_of, handlers_of_part}
+use Rattle.capl_meaning.specs.Procedure.{Handler, event_of, handlers_of_part, handlers_in}
 use Rattle.typed_source.specs.Program.{HasNoOther, formats_of_body, formats_of_function, formats_of_functions, formats_of_handlers, functions_of, typed_handlers, typed_program}
 use Rattle.sound_programs.specs.Given.{HasShortLists}
 use Rattle.sound_programs.proofs.FormatCounts.{body_light}
@@ -217,16 +217,16 @@ pub short_lists : (base : List DbcMessage) (program : Program) (order : List ℕ
 short_lists base program order line other once light =
     let names : Names = names_of base program in
     let a : sum_by part_weight (parts_of program) ≤ weight program = files_light 0 program.files 1 in
-    let b : sum_by (function_count (names_of base program)) (names_of base program).functions + sum_by handler_count (handlers_of (names_of base program) program) ≤ sum_by part_weight (parts_of program) = parts_light (names_of base program) (parts_of program) in
-    let c : 8 * length (handlers_of (names_of base program) program) + 8 * length (formats_of_handlers (handlers_of (names_of base program) program)) ≤ sum_by handler_count (handlers_of (names_of base program) program) =
-    handlers_counted (names_of base program) (handlers_of (names_of base program) program) in
+    let b : sum_by (function_count (names_of base program)) (names_of base program).functions + sum_by handler_count (handlers_in base program) ≤ sum_by part_weight (parts_of program) = parts_light (names_of base program) (parts_of program) in
+    let c : 8 * length (handlers_in base program) + 8 * length (formats_of_handlers (handlers_in base program)) ≤ sum_by handler_count (handlers_in base program) =
+    handlers_counted (names_of base program) (handlers_in base program) in
     let d : sum_by (count_at (names_of base program) (names_of base program).functions) order ≤ sum_by (function_count (names_of base program)) (names_of base program).functions =
     all_counted (names_of base program) (names_of base program).functions order (unpairs (λ a b. a ≢ b) order once) in
     let e : 8 * length order + 8 * length (formats_of_functions (names_of base program) order) ≤ sum_by (count_at (names_of base program) (names_of base program).functions) order = order_counted (names_of base program) order other in
     let f : length (functions_of (names_of base program) order 0 order) ≡ length order = functions_long (names_of base program) order 0 order in
-    let g : length (typed_program base program order line).handlers ≡ length (handlers_of (names_of base program) program) = handlers_long order line _ (handlers_of (names_of base program) program) in
-    let h : length (formats_of_functions (names_of base program) order ++ formats_of_handlers (handlers_of (names_of base program) program)) ≡
-    length (formats_of_functions (names_of base program) order) + length (formats_of_handlers (handlers_of (names_of base program) program)) = length-append (formats_of_functions (names_of base program) order) _ in
+    let g : length (typed_program base program order line).handlers ≡ length (handlers_in base program) = handlers_long order line _ (handlers_in base program) in
+    let h : length (formats_of_functions (names_of base program) order ++ formats_of_handlers (handlers_in base program)) ≡
+    length (formats_of_functions (names_of base program) order) + length (formats_of_handlers (handlers_in base program)) = length-append (formats_of_functions (names_of base program) order) _ in
     record {
       functions = omega (arith, a, b, c, d, e, f, light);
       handlers = omega (arith, a, b, c, d, e, g, light);

@@ -21,8 +21,9 @@ use Rattle.capl_meaning.specs.Variable.{parts_of, variables_of}
 use Rattle.capl_meaning.specs.Names.{Callee, Function, Names, OfProgram, Scope, callee, function_of_part, inside_function, names_of}
 use Rattle.capl_meaning.specs.Calls.{called_by, called_by_number, names_called, function_numbered, number_of_callee}
 use Rattle.capl_meaning.specs.Offences.{offences_of}
-use Rattle.capl_meaning.specs.Procedure.{Handler, handlers_of}
+use Rattle.capl_meaning.specs.Procedure.{Handler}
 use Rattle.capl_meaning.specs.StatementRules.{in_body, statement_offences}
+use Rattle.capl_meaning.specs.Inside.Procedure.{handlers_of}
 use Rattle.typed_laws.specs.Agreement.{ArePlain, parameter_slots}
 use Rattle.typed_laws.specs.Laid.{AreDistinct, IsAmong}
 use Rattle.typed_laws.proofs.Declared.{plain_names}

@@ -14,8 +14,9 @@ use Rattle.capl_meaning.specs.Variable.{Form, Timer, Variable}
 use Rattle.capl_meaning.specs.Names.{Function, Names, Scope, inside_function, names_of}
 use Rattle.capl_meaning.specs.Calls.{function_numbered}
 use Rattle.capl_meaning.specs.Offences.{offences_of}
-use Rattle.capl_meaning.specs.Procedure.{Handler, handlers_of}
+use Rattle.capl_meaning.specs.Procedure.{Handler}
 use Rattle.capl_meaning.specs.Store.{unit_of}
+use Rattle.capl_meaning.specs.Inside.Procedure.{handlers_of}
 use Rattle.typed_laws.specs.Laid.{IsAmong}
 use Rattle.typed_laws.proofs.Declared.{all_append}
 use Rattle.typed_source.specs.Program.{formats_of_body, formats_of_function, formats_of_functions, formats_of_handlers, typed_program}

@@ -16,7 +16,8 @@ use Rattle.capl_meaning.specs.Names.{Function, OfLanguage, Scope, callee}
 use Rattle.capl_meaning.specs.Calls.{names_called as calls_in_statement, function_numbered}
 use Rattle.capl_meaning.specs.Store.{MessageRecord, timer_number, unit_of, frame_sent}
 use Rattle.capl_meaning.specs.Expression.{Memory, Setting, timer_in}
-use Rattle.capl_meaning.specs.Procedure.{calls_of, ending, function_runs, in_function, runs, runs_numbered}
+use Rattle.capl_meaning.specs.Procedure.{calls_of, ending, function_runs, runs}
+use Rattle.capl_meaning.specs.Inside.Procedure.{in_function, runs_numbered}
 use Rattle.source_laws.proofs.Effects.{Fine, Keeps, map_fine, runs_fine, turn_fine}
 
 -- something holds of each name that statements call

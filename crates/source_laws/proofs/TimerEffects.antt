@@ -20,7 +20,8 @@ use Rattle.capl_meaning.specs.Variable.{Timer, Variable, parts_of}
 use Rattle.capl_meaning.specs.Names.{Names, Scope, names_of}
 use Rattle.capl_meaning.specs.Store.{This, timer_number, timer_units, unit_of}
 use Rattle.capl_meaning.specs.Expression.{Memory, Setting, timer_in}
-use Rattle.capl_meaning.specs.Procedure.{Handler, calls_of, ending, ending_of, handlers_in, runs, setting_of}
+use Rattle.capl_meaning.specs.Procedure.{Handler, calls_of, ending, ending_of, handlers_in, runs}
+use Rattle.capl_meaning.specs.Inside.Procedure.{setting_of}
 use Rattle.typed_laws.specs.Laid.{AreDistinct, HasForm}
 use Rattle.typed_laws.proofs.Declared.{handlers_named}
 use Rattle.typed_laws.proofs.Timers.{timer_named, unit_found}

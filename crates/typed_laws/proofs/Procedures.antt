@@ -14,6 +14,7 @@ use Rattle.typed_tree.specs.Program.{body_of}
 use Rattle.typed_tree.specs.Program as typed_procedure
 use Rattle.capl_meaning.specs.Names.{Names, Scope, ThisForm, inside_function}
 use Rattle.capl_meaning.specs.Store.{This}
+use Rattle.capl_meaning.specs.Inside.Procedure.{runs_numbered}
 use Rattle.capl_meaning.specs.Expression as source
 use Rattle.capl_meaning.specs.Procedure as source_procedure
 use Rattle.typed_laws.specs.Laid.{laid, laid_memory, laid_run}
@@ -51,7 +52,7 @@ module _ (names : Names) (order : List ℕ) (plain : ArePlain names) (program : 
     -- the body of a function
     function_same : (n k number : ℕ) → SameCalls names order this (source_procedure.calls_of source_now n) (typed_procedure.calls_of typed_now n) → slice_get order k ≡ Some number → (w : World source.Memory) →
         typed_procedure.runs typed_now (typed_procedure.calls_of typed_now n) n (body_of program k) (laid names this w) ≡
-        laid_run names this (source_procedure.runs_numbered source_now (source_procedure.calls_of source_now n) n number w)
+        laid_run names this (runs_numbered source_now (source_procedure.calls_of source_now n) n number w)
     function_same n k number same at w =
         let found = fits.functions k number at in
         let f = found.0 in

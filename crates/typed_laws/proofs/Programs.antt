@@ -11,7 +11,8 @@ use Rattle.capl_meaning.specs.Variable.{parts_of, variables_of}
 use Rattle.capl_meaning.specs.Names.{Names, names_of}
 use Rattle.capl_meaning.specs.Store.{This}
 use Rattle.capl_meaning.specs.Expression as source
-use Rattle.capl_meaning.specs.Procedure.{Handler, handlers_of}
+use Rattle.capl_meaning.specs.Procedure.{Handler, handlers_in}
+use Rattle.capl_meaning.specs.Inside.Procedure.{handlers_of}
 use Rattle.capl_meaning.specs.Procedure as source_procedure
 use Rattle.typed_laws.specs.Laid.{AreDistinct, laid_memory}
 use Rattle.typed_laws.specs.Agreement.{ArePlain, Fits, FunctionsDoAs, HandlerDoesAs, ProgramDoesAs, laid_ending}
@@ -41,7 +42,7 @@ handler_ends order program h u does this closed moment turns memory names is =
 
 -- an event procedure of a typed program ends as that of the source
 pub program_ends : (base : List DbcMessage) (program : Program) (typed_program : Typed) → ProgramDoesAs base program typed_program → AreDistinct (variables_of base program) →
-    (i : ℕ) (h : Handler) (u : THandler) → slice_get (handlers_of (names_of base program) program) i ≡ Some h → slice_get typed_program.handlers i ≡ Some u →
+    (i : ℕ) (h : Handler) (u : THandler) → slice_get (handlers_in base program) i ≡ Some h → slice_get typed_program.handlers i ≡ Some u →
     (this : This) (closed : Bool) (moment turns : ℕ) (memory : source.Memory) →
     typed_procedure.ending_of (record { typed = typed_program; closed = closed; moment = moment }) u turns (laid_memory (names_of base program) this memory) ≡
     laid_ending (names_of base program) this (source_procedure.ending_of h this closed moment turns memory)

@@ -42,7 +42,7 @@ use Rattle.capl_meaning.specs.Sort.{is_number, sort_of}
 use Rattle.capl_meaning.specs.Constant.{elements_of}
 use Rattle.capl_meaning.specs.Store.{This, event_kinds, variable_key, laid_kinds, timer_units}
 use Rattle.capl_meaning.specs.Expression as source
-use Rattle.capl_meaning.specs.Procedure.{Handler, handlers_of}
+use Rattle.capl_meaning.specs.Procedure.{Handler, handlers_in}
 use Rattle.capl_meaning.specs.Procedure as source_procedure
 use Rattle.capl_meaning.specs.Statement as source_statement
 use Rattle.typed_laws.specs.Laid.{AreDistinct, GivesOnly, IsAmong, IsOpen, IsReal, laid, laid_memory, laid_run, laid_spot, mapped, slot}
@@ -255,7 +255,7 @@ pub record ProgramDoesAs (base : List DbcMessage) (program : Program) (typed_pro
   pub starts : StartsAs (names_of base program) typed_program
   pub functions : FunctionsDoAs (names_of base program) order typed_program
   pub handlers : AllZip (HandlerDoesAs order typed_program.formats)
-      (handlers_of (names_of base program) program) typed_program.handlers
+      (handlers_in base program) typed_program.handlers
 
 -- how an event procedure ends, with its memory laid out
 abbrev pub laid_ending : Names → This → source_procedure.Ending → typed_procedure.Ending

@@ -35,7 +35,7 @@ ghost use Rattle.capl_meaning.specs.Expression.{timer_in};
 ghost use Rattle.capl_meaning.specs.Expression as source;
 ghost use Rattle.capl_meaning.specs.Initial.{first_store};
 ghost use Rattle.capl_meaning.specs.Offences.{offences_of};
-ghost use Rattle.capl_meaning.specs.Procedure.{Handler, ending_of, handlers_of};
+ghost use Rattle.capl_meaning.specs.Procedure.{Handler, ending_of, handlers_in};
 ghost use Rattle.capl_meaning.specs.Statement.{fitting_pieces};
 ghost use Rattle.capl_meaning.specs.Inside.Expression.{spot_of_name};
 ghost use Rattle.typed_laws.specs.Laid.{AreDistinct, HasForm, IsHeld, IsOpen, IsReal, laid_memory, laid_spot, message_slot, slot};
@@ -51,7 +51,7 @@ pub fn event_procedures_end_as_in_the_source()
     ensures { (base : List DbcMessage) (program : Program) (typed_program : Typed) →
         ProgramDoesAs base program typed_program → AreDistinct (variables_of base program) →
         (i : ℕ) (handler : Handler) (typed_handler : THandler) →
-        slice_get (handlers_of (names_of base program) program) i ≡ Some handler →
+        slice_get (handlers_in base program) i ≡ Some handler →
         slice_get typed_program.handlers i ≡ Some typed_handler →
         (this : This) (closed : Bool) (moment turns : ℕ) (memory : source.Memory) →
         typed_procedure.ending_of (record { typed = typed_program; closed = closed; moment = moment })

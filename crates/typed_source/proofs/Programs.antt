@@ -15,7 +15,8 @@ use Rattle.capl_meaning.specs.Variable.{parts_of}
 use Rattle.capl_meaning.specs.Names.{Function, Names, Scope, inside_function, names_of}
 use Rattle.capl_meaning.specs.Calls.{function_numbered}
 use Rattle.capl_meaning.specs.Initial.{first_store}
-use Rattle.capl_meaning.specs.Procedure.{Handler, handlers_of}
+use Rattle.capl_meaning.specs.Procedure.{Handler}
+use Rattle.capl_meaning.specs.Inside.Procedure.{handlers_of}
 use Rattle.typed_laws.specs.Agreement.{DoesAs, HandlerDoesAs, ProgramDoesAs, parameter_slots}
 use Rattle.typed_laws.proofs.Declared.{handlers_named}
 use Rattle.typed_source.specs.Statement.{StandFrom, formats_of}

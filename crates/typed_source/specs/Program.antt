@@ -13,7 +13,7 @@ use Rattle.capl_meaning.specs.Names.{Function, Names, Scope, inside_function, na
 use Rattle.capl_meaning.specs.Calls.{called_by_number, function_numbered}
 use Rattle.capl_meaning.specs.Store.{event_kinds, laid_kinds, lay, timer_units}
 use Rattle.capl_meaning.specs.Initial.{first_store}
-use Rattle.capl_meaning.specs.Procedure.{Handler, handlers_of}
+use Rattle.capl_meaning.specs.Procedure.{Handler, handlers_in}
 use Rattle.typed_laws.specs.Agreement.{parameter_slots}
 use Rattle.typed_source.specs.Statement.{formats_of, statement_of}
 
@@ -115,7 +115,7 @@ starts_from cell (n ∷ ns) =
 abbrev pub typed_program : List DbcMessage → Program → List ℕ → (ℕ → ℕ → ℕ) → Typed
 typed_program base program order line =
     let names : Names = names_of base program in
-    let handlers : List Handler = handlers_of names program in
+    let handlers : List Handler = handlers_in base program in
     let formats : List FormatText = formats_of_functions names order in
     record {
       functions = functions_of names order 0 order;
