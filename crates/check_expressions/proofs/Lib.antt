@@ -1,4 +1,3 @@
 -- Lemmas of this crate.
 pub mod FormLemmas
 pub mod NotedLemmas
-pub mod PlaceLemmas

@@ -7,10 +7,8 @@ use Rattle.capl_tree.specs.Forms as tree
 use Rattle.capl_meaning.specs.declared.sort.Sort.{Sort}
 use Rattle.capl_meaning.specs.Names.{Scope}
 use Rattle.capl_meaning.specs.Format.{quoted_text}
-use Rattle.capl_meaning.specs.Message.{is_message_place, is_number_place}
 use Rattle.capl_meaning.specs.Sort.{sort_of}
 use Rattle.check_expressions.specs.declared.judged.Judged.{Judged}
-use Rattle.check_expressions.specs.declared.judged.Places.{Places}
 
 -- an expression with its sort where it stands
 abbrev pub IsJudged : Scope → Judged → Type 0
@@ -29,7 +27,3 @@ text_in_first (e ∷ es) = quoted_text e
 abbrev pub index_sort : Scope → Field → Option Sort
 index_sort s (Named name at) = None
 index_sort s (tree.Bytes kind index at) = Some (sort_of s index)
-
--- an expression is an assignable place of a number, or is a message variable
-abbrev pub ArePlaces : Scope → Expr → Places → Type 0
-ArePlaces s e p = (p.number ≡ is_number_place s e) × (p.message ≡ is_message_place s e)

@@ -8,16 +8,15 @@ ghost use Rattle.capl_meaning.specs.Names.{means};
 ghost use Rattle.capl_meaning.specs.Sort.{number_from, sort_of, sort_of_assignment, sort_of_binary, sort_of_choice, sort_of_element, sort_of_name, sort_of_number, sort_of_prefix, sort_of_step, sort_of_this};
 ghost use Rattle.check_names.specs.First.{noted};
 ghost use Rattle.check_sorts.specs.Scope.{scope_in};
-ghost use Rattle.check_expressions.specs.Judged.{ArePlaces, IsJudged};
+ghost use Rattle.check_expressions.specs.Judged.{IsJudged};
 
 use crate::broken::note_broken;
-use crate::judged::{Judged, Places};
+use crate::judged::Judged;
 use crate::operand::{
     note_assignment, note_element, note_integer_needed, note_number, note_operands, note_prefix,
     note_step, note_this,
 };
 use capl_meaning::{Offence, Sort};
-use capl_tree::Expr;
 use check_sorts::{
     Scope, direction, number_from, sort_of_assignment, sort_of_binary, sort_of_choice,
     sort_of_element, sort_of_form, sort_of_number, sort_of_prefix, sort_of_step, sort_of_this,
@@ -173,18 +172,6 @@ pub(crate) fn judge_choice(
     sort_of_choice(test.sort, one.sort, other.sort)
 }
 
-/// What an expression can be assigned. A place of a number is no message variable.
-#[tactic(auto, using(crate::proofs::PlaceLemmas::no_message_place))]
-fn places_of(scope: Scope, e: &Expr) -> Places
-    ensures { ArePlaces (scope_in scope.entry) e.now result }
-{
-    let number = scope.is_number_place(e);
-    Places {
-        number,
-        message: !number && scope.is_message_place(e),
-    }
-}
-
 /// An assignment at a token.
 pub(crate) fn judge_assignment(
     scope: Scope,
@@ -202,7 +189,7 @@ pub(crate) fn judge_assignment(
         first.new ≡ noted first.old
         (left_rule s operator l ++ (sides_rule s at (sort_of s l) (sort_of s r) ++ right_rule s l r)) }
 {
-    let places = places_of(scope, left.e);
+    let places = scope.places(left.e);
     note_assignment(scope, operator, at, left, right, places, first);
     sort_of_assignment(
         operator,

@@ -11,12 +11,3 @@ pub(crate) struct Judged<'e> {
     /// Its sort.
     pub(crate) sort: Sort,
 }
-
-/// What an expression can be assigned.
-#[derive(Clone, Copy)]
-pub(crate) struct Places {
-    /// Whether it is an assignable place of a number.
-    pub(crate) number: bool,
-    /// Whether it is a message variable.
-    pub(crate) message: bool,
-}

@@ -6,14 +6,15 @@ ghost use Rattle.capl_meaning.specs.Message.{is_number_place};
 ghost use Rattle.capl_meaning.specs.Sort.{sort_of, sort_of_number};
 ghost use Rattle.check_names.specs.First.{noted};
 ghost use Rattle.check_sorts.specs.Scope.{scope_in};
-ghost use Rattle.check_expressions.specs.Judged.{ArePlaces, IsJudged};
+ghost use Rattle.check_sorts.specs.Message.{ArePlaces};
+ghost use Rattle.check_expressions.specs.Judged.{IsJudged};
 
 use crate::broken::note_broken;
-use crate::judged::{Judged, Places};
+use crate::judged::Judged;
 use crate::sort::{is_array, is_message};
 use capl_meaning::{Offence, Sort};
 use capl_tree::Expr;
-use check_sorts::{Scope, ThisForm, is_bad, is_number};
+use check_sorts::{Places, Scope, ThisForm, is_bad, is_number};
 use int_kinds::{BinOp, UnOp};
 
 /// Notes that an integer is needed where an expression of this sort stands, if it is none.

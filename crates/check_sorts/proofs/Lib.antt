@@ -5,7 +5,7 @@ mod FormatLemmas
 mod MeaningLemmas
 mod MessageLemmas
 mod NameLemmas
-mod Places
+mod PlaceLemmas
 mod SortLemmas
 mod KnownLemmas
 mod TableLemmas

@@ -10,7 +10,7 @@ ghost use Rattle.capl_meaning.specs.Message as meant;
 ghost use Rattle.capl_meaning.specs.Names.{Names, means, signals_by};
 ghost use Rattle.capl_meaning.specs.Variable.{Variable, is_timer};
 ghost use Rattle.check_sorts.specs.Form.{form_in, signals_in, type_in};
-ghost use Rattle.check_sorts.specs.Message.{held_in, member_in};
+ghost use Rattle.check_sorts.specs.Message.{ArePlaces, held_in, member_in};
 ghost use Rattle.check_sorts.specs.Scope.{scope_in, this_in};
 
 use crate::form::{Form, MessageType, form_of};
@@ -49,6 +49,15 @@ pub enum Member {
         /// Whether the message is declared by name.
         by_name: bool,
     },
+}
+
+/// What an expression can be assigned.
+#[derive(Clone, Copy)]
+pub struct Places {
+    /// Whether it is an assignable place of a number.
+    pub number: bool,
+    /// Whether it is a message variable.
+    pub message: bool,
 }
 
 /// The bytes of a text between quotes, under any parentheses; None of other expressions.
@@ -205,7 +214,7 @@ fn is_open_member(member: Member) -> bool
 }
 
 /// Whether a part of a message variable is assignable.
-#[tactic(auto, using(crate::proofs::Places::open_bytes))]
+#[tactic(auto, using(crate::proofs::PlaceLemmas::open_bytes))]
 fn is_open_field(signals: DeclaredSignals, field: &Field) -> bool
     ensures { result ≡ is_open_field (signals_in signals.entry) field.now }
 {
@@ -315,7 +324,7 @@ impl<'a, 'p> Scope<'a, 'p> {
     /// Whether an expression is an assignable place of a number: a number variable that is not `const`,
     /// an element of an array that is not `const`, or an assignable field, payload bytes or a signal of
     /// a message variable.
-    #[tactic(auto, using(crate::proofs::Places::paren_place, crate::proofs::Places::index_place))]
+    #[tactic(auto, using(crate::proofs::PlaceLemmas::paren_place, crate::proofs::PlaceLemmas::index_place))]
     pub fn is_number_place(&self, e: &Expr) -> bool
         ensures { result ≡ is_number_place (scope_in self.now) e.now }
     {
@@ -350,8 +359,20 @@ impl<'a, 'p> Scope<'a, 'p> {
         }
     }
 
+    /// What an expression can be assigned. A place of a number is no message variable.
+    #[tactic(auto, using(crate::proofs::PlaceLemmas::no_message_place))]
+    pub fn places(&self, e: &Expr) -> Places
+        ensures { ArePlaces (scope_in self.now) e.now result }
+    {
+        let number = self.is_number_place(e);
+        Places {
+            number,
+            message: !number && self.is_message_place(e),
+        }
+    }
+
     /// Whether an expression is a message variable.
-    pub fn is_message_place(&self, e: &Expr) -> bool
+    fn is_message_place(&self, e: &Expr) -> bool
         ensures { result ≡ is_message_place (scope_in self.now) e.now }
     {
         matches!(self.message_in(e), Some(Held::Variable { .. }))

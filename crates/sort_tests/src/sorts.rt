@@ -133,7 +133,7 @@ fn check_members(rt: &impl Abort, held: Option<Held>) {
 fn check_message(rt: &impl Abort, alloc: Global, names: &Names) -> Result<(), Fail> {
     let word = name(alloc, b"m")?;
     let scope = Scope::outside(names, 0);
-    assert!(rt; scope.is_message_place(&word));
+    assert!(rt; scope.places(&word).message);
     check_members(rt, scope.message_in(&word));
     Ok(())
 }

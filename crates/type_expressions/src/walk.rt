@@ -224,10 +224,9 @@ fn walk_assignment(
           (sort_of s left.now) right.sort;
     }) }
 {
-    let is_place = scope.is_number_place(left);
-    let is_message = scope.is_message_place(left);
+    let places = scope.places(left);
     let left = walk(alloc, scope, tables, left)?;
-    assign(alloc, op, is_place, is_message, left, right)
+    assign(alloc, op, places.number, places.message, left, right)
 }
 
 /// Appends what a walk made of an expression.

@@ -87,8 +87,12 @@ pub(crate) fn assigned(
         tree ≡ of_assignment s.names (message_in s left.now) (message_in s right.now)
         (Eval (expression_of s (order_of tables.now) e.now))) }
 {
-    match (scope.message_in(left), scope.message_in(right)) {
-        (Some(to), Some(from)) => copied(alloc, scope, tables, e, to, from),
-        _ => evaluated(alloc, scope, tables, e),
+    // The right is looked at first, since mostly it is no name and then needs no look-up.
+    let Some(from) = scope.message_in(right) else {
+        return evaluated(alloc, scope, tables, e);
+    };
+    match scope.message_in(left) {
+        Some(to) => copied(alloc, scope, tables, e, to, from),
+        None => evaluated(alloc, scope, tables, e),
     }
 }

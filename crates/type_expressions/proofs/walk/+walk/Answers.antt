@@ -200,5 +200,5 @@ walk_step-returns t c =
 pub walk_assignment-returns : goal.walk_assignment-returns
 walk_assignment-returns t c =
     left_walked (scope_in c.args.scope) (order_in c.args.tables.now) c.args.left.now c.args.op _ _ c.in_ok-left.left c.args.right.tree c.args.right.sort
-    c.assign.result c.is_number_place-is_place.ensures c.is_message_place-is_message.ensures
+    c.assign.result c.places-places.ensures.0 c.places-places.ensures.1
     c.in_ok-left.ensures.place c.in_ok-left.ensures.sort c.assign.ensures

@@ -4,7 +4,7 @@ use Rattle.std.specs.Option.{option_map_or}
 use Rattle.capl_tree.specs.declared.expr.Expr.{Expr}
 use Rattle.capl_meaning.specs.Message.{is_open_part, message_in}
 use Rattle.check_sorts.specs.Scope.{scope_in}
-use Rattle.check_sorts.proofs.Places.{member_place}
+use Rattle.check_sorts.proofs.PlaceLemmas.{member_place}
 use Rattle.check_sorts.proofs.scope.Scope.+is_number_place.Goals as goal
 
 pub returns-in-Member : goal.returns-in-Member
