@@ -2,6 +2,7 @@
 -- This project's own: what ends an open list, that a statement with any other keyword goes on to its
 -- `;`, and that identifiers, starts and lengths are decimal digits.
 use Rattle.std.specs.Prelude.{ℕ, Bool, true, false, ◌&&◌, ◌||◌, not, ◌==◌, nat_le, nat_eq, if◌then◌else◌, List, [], ◌∷◌, drop, Option, Some, None, codes}
+use Rattle.std.specs.Bool.{then_some}
 use Rattle.std.specs.List.{prefix_len, list_all, ends_with}
 use Rattle.std.specs.Str.{bytes_eq}
 use Rattle.text_parts.specs.Number.{is_digit, number_up_to}
@@ -52,25 +53,26 @@ is_byte byte _ = false
 unfoldable pub line : List Placed → Read ℕ
 line tokens = read_as (first_line tokens) tokens
 
+-- what the next token is read as
+abbrev pub next : {A : Type 0} → (Token → Option A) → List Placed → Read A
+next read [] = None
+next read (first ∷ behind) = read_as (read first.token) behind
+
 -- a word
 unfoldable pub word : List Placed → Read (List ℕ)
-word [] = None
-word (first ∷ behind) = read_as (word_in first.token) behind
+word tokens = next word_in tokens
 
 -- a number
 unfoldable pub number : List Placed → Read (List ℕ)
-number [] = None
-number (first ∷ behind) = read_as (number_bytes first.token) behind
+number tokens = next number_bytes tokens
 
 -- decimal digits of a number up to a limit
 unfoldable pub decimal : ℕ → List Placed → Read ℕ
-decimal limit [] = None
-decimal limit (first ∷ behind) = read_as (decimal_in limit first.token) behind
+decimal limit tokens = next (decimal_in limit) tokens
 
 -- this byte
 unfoldable pub byte : ℕ → List Placed → Read (Unit {0})
-byte wanted [] = None
-byte wanted (first ∷ behind) = if is_byte wanted first.token then Some (tt, behind) else None
+byte wanted tokens = next (λ token. then_some (is_byte wanted token) tt) tokens
 
 -- this byte, or nothing
 unfoldable pub perhaps : ℕ → List Placed → Read (Unit {0})
@@ -85,8 +87,7 @@ is_quoted _ = false
 
 -- a string
 unfoldable pub string : List Placed → Read (Unit {0})
-string [] = None
-string (first ∷ behind) = if is_quoted first.token then Some (tt, behind) else None
+string tokens = next (λ token. then_some (is_quoted token) tt) tokens
 
 -- A to Z or `_`
 abbrev pub is_upper : ℕ → Bool
@@ -117,8 +118,7 @@ keyword_in _ = None
 
 -- a keyword
 unfoldable pub keyword : List Placed → Read Keyword
-keyword [] = None
-keyword (first ∷ behind) = read_as (keyword_in first.token) behind
+keyword tokens = next keyword_in tokens
 
 -- whether it is a keyword
 abbrev pub begins_statement : Token → Bool
@@ -209,13 +209,11 @@ signed_in _ = None
 
 -- the order of a signal's bits
 unfoldable pub big : List Placed → Read Bool
-big [] = None
-big (first ∷ behind) = read_as (big_in first.token) behind
+big tokens = next big_in tokens
 
 -- the sign of a signal
 unfoldable pub signed : List Placed → Read Bool
-signed [] = None
-signed (first ∷ behind) = read_as (signed_in first.token) behind
+signed tokens = next signed_in tokens
 
 -- a layout: start, `|`, length, `@`, order and sign
 unfoldable pub layout : List Placed → Read Layout
@@ -247,7 +245,7 @@ abbrev pub receivers : Before → List Placed → Read (Unit {0})
 receivers last [] = if may_end last then Some (tt, []) else None
 receivers last (first ∷ behind) =
     if begins_statement first.token then (if may_end last then Some (tt, first ∷ behind) else None)
-    else read_then (read_as (receiver_after last first.token) []) (λ next _. receivers next behind)
+    else read_then (read_as (receiver_after last first.token) []) (λ last _. receivers last behind)
 
 -- a signal: name, perhaps how it is multiplexed, `:`, layout, `(` factor `,` offset `)`, `[` least `|`
 -- greatest `]`, unit and receivers
@@ -270,8 +268,7 @@ float_in _ = None
 
 -- a value type
 unfoldable pub float : List Placed → Read Bool
-float [] = None
-float (first ∷ behind) = read_as (float_in first.token) behind
+float tokens = next float_in tokens
 
 -- a signal's value type: the message's identifier, the signal's name, perhaps `:`, the type and `;`
 unfoldable pub value_type : List Placed → Read Statement

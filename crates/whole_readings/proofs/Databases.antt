@@ -1,9 +1,10 @@
 -- Each text is a database, or a first statement of it is wrong.
 use Rattle.std.proofs.Common.{◌≡◌, ◌≤◌, ℕ, zero, suc, Bool, true, false, List, [], ◌∷◌, length, Option, Some, None, inl, inr, refl, arith}
 use Rattle.std.specs.Prelude.{◌⊎◌, if◌then◌else◌, not, codes}
+use Rattle.std.specs.Bool.{then_some}
 use Rattle.std.specs.Str.{bytes_eq}
 use Rattle.dbc_statements.specs.Token.{Token, Placed, Word, Number, Quoted, Byte, tokens_of, first_line}
-use Rattle.dbc_statements.specs.Statement.{Read, read_then, read_as, word_in, number_bytes, decimal_in, is_byte, is_quoted, is_keyword, keyword_of, keyword_in, big_in, signed_in, float_in, is_multiplexing, receiver_after, may_end, begins_statement, is_word, ends_symbols, line, word, number, decimal, byte, perhaps, string, keyword, up_to_keyword, words, symbols, up_to_semicolon, message, multiplexing_by, multiplexing, big, signed, layout, pair, receivers, signal, float, value_type, other, behind_keyword, statement_at}
+use Rattle.dbc_statements.specs.Statement.{Read, read_then, read_as, word_in, number_bytes, decimal_in, is_byte, is_quoted, is_keyword, keyword_of, keyword_in, big_in, signed_in, float_in, is_multiplexing, receiver_after, may_end, begins_statement, is_word, ends_symbols, line, next, word, number, decimal, byte, perhaps, string, keyword, up_to_keyword, words, symbols, up_to_semicolon, message, multiplexing_by, multiplexing, big, signed, layout, pair, receivers, signal, float, value_type, other, behind_keyword, statement_at}
 use Rattle.dbc_statements.specs.declared.statement.Statement.{Statement}
 use Rattle.dbc_reader.specs.Database.{Said, nothing_said, has_owner, after_statement, repeated_line, messages_of, Lead, IsDatabase, IsUnspelled, IsRepeated, IsDatabaseRefusal}
 use Rattle.dbc_reader.specs.declared.message.DbcMessage.{DbcMessage}
@@ -40,26 +41,25 @@ line_within : IsModest line
 unfolding line
 line_within most tokens few = as_within most (first_line tokens) tokens few
 
+next_within : {A : Type 0} (read : Token → Option A) → IsModest (next read)
+next_within read most [] few = tt
+next_within read most (first ∷ behind) few = as_within most (read first.token) behind (fewer first behind most few)
+
 word_within : IsModest word
 unfolding word
-word_within most [] few = tt
-word_within most (first ∷ behind) few = as_within most (word_in first.token) behind (fewer first behind most few)
+word_within most tokens few = next_within word_in most tokens few
 
 number_within : IsModest number
 unfolding number
-number_within most [] few = tt
-number_within most (first ∷ behind) few = as_within most (number_bytes first.token) behind (fewer first behind most few)
+number_within most tokens few = next_within number_bytes most tokens few
 
 decimal_within : (limit : ℕ) → IsModest (decimal limit)
 unfolding decimal
-decimal_within limit most [] few = tt
-decimal_within limit most (first ∷ behind) few = as_within most (decimal_in limit first.token) behind (fewer first behind most few)
+decimal_within limit most tokens few = next_within (decimal_in limit) most tokens few
 
 byte_within : (wanted : ℕ) → IsModest (byte wanted)
 unfolding byte
-byte_within wanted most [] few = tt
-byte_within wanted most (first ∷ behind) few =
-    either (LeavesAtMost most) (is_byte wanted first.token) (Some (tt, behind)) None (fewer first behind most few) tt
+byte_within wanted most tokens few = next_within (λ token. then_some (is_byte wanted token) tt) most tokens few
 
 perhaps_within : (wanted : ℕ) → IsModest (perhaps wanted)
 unfolding perhaps
@@ -69,9 +69,7 @@ perhaps_within wanted most (first ∷ behind) few =
 
 string_within : IsModest string
 unfolding string
-string_within most [] few = tt
-string_within most (first ∷ behind) few =
-    either (LeavesAtMost most) (is_quoted first.token) (Some (tt, behind)) None (fewer first behind most few) tt
+string_within most tokens few = next_within (λ token. then_some (is_quoted token) tt) most tokens few
 
 up_to_keyword_within : IsModest up_to_keyword
 up_to_keyword_within most [] few = few
@@ -110,28 +108,25 @@ multiplexing_within most (first ∷ behind) few = multiplexed_within first.token
 
 big_within : IsModest big
 unfolding big
-big_within most [] few = tt
-big_within most (first ∷ behind) few = as_within most (big_in first.token) behind (fewer first behind most few)
+big_within most tokens few = next_within big_in most tokens few
 
 signed_within : IsModest signed
 unfolding signed
-signed_within most [] few = tt
-signed_within most (first ∷ behind) few = as_within most (signed_in first.token) behind (fewer first behind most few)
+signed_within most tokens few = next_within signed_in most tokens few
 
 float_within : IsModest float
 unfolding float
-float_within most [] few = tt
-float_within most (first ∷ behind) few = as_within most (float_in first.token) behind (fewer first behind most few)
+float_within most tokens few = next_within float_in most tokens few
 
 receivers_within : (last : _) → IsModest (receivers last)
 receivers_within last most [] few = either (LeavesAtMost most) (may_end last) (Some (tt, [])) None few tt
 receivers_within last most (first ∷ behind) few =
     either (LeavesAtMost most) (begins_statement first.token) (if may_end last then Some (tt, first ∷ behind) else None)
-    (read_then (read_as (receiver_after last first.token) []) (λ next _. receivers next behind))
+    (read_then (read_as (receiver_after last first.token) []) (λ last _. receivers last behind))
     (either (LeavesAtMost most) (may_end last) (Some (tt, first ∷ behind)) None few tt)
-    (then_within most (read_as (receiver_after last first.token) []) (λ next _. receivers next behind)
+    (then_within most (read_as (receiver_after last first.token) []) (λ last _. receivers last behind)
     (as_within most (receiver_after last first.token) [] (omega arith))
-    (λ next tokens less. receivers_within next most behind (fewer first behind most few)))
+    (λ last tokens less. receivers_within last most behind (fewer first behind most few)))
 
 -- ---- statements
 
