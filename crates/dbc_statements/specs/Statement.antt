@@ -130,18 +130,12 @@ abbrev pub is_word : Token → Bool
 is_word (Word bytes) = true
 is_word _ = false
 
--- tokens up to the next keyword or the end
-abbrev pub up_to_keyword : List Placed → Read (Unit {0})
-up_to_keyword [] = Some (tt, [])
-up_to_keyword (first ∷ behind) =
-    if begins_statement first.token then Some (tt, first ∷ behind) else up_to_keyword behind
-
--- words up to the next keyword or the end
-abbrev pub words : List Placed → Read (Unit {0})
-words [] = Some (tt, [])
-words (first ∷ behind) =
-    if begins_statement first.token then Some (tt, first ∷ behind)
-    else if is_word first.token then words behind
+-- tokens of one sort up to the next that ends them, or the end
+abbrev pub all_up_to : (Token → Bool) → (Token → Bool) → List Placed → Read (Unit {0})
+all_up_to ends belongs [] = Some (tt, [])
+all_up_to ends belongs (first ∷ behind) =
+    if ends first.token then Some (tt, first ∷ behind)
+    else if belongs first.token then all_up_to ends belongs behind
     else None
 
 -- whether it is one of the keywords before which a list of new symbols ends
@@ -149,14 +143,6 @@ abbrev pub ends_symbols : Token → Bool
 ends_symbols (Word bytes) =
     bytes_eq bytes (codes "BS_") || bytes_eq bytes (codes "BU_") || bytes_eq bytes (codes "BO_")
 ends_symbols _ = false
-
--- words up to the next of these keywords or the end
-abbrev pub symbols : List Placed → Read (Unit {0})
-symbols [] = Some (tt, [])
-symbols (first ∷ behind) =
-    if ends_symbols first.token then Some (tt, first ∷ behind)
-    else if is_word first.token then symbols behind
-    else None
 
 -- tokens up to and with the next `;`
 abbrev pub up_to_semicolon : List Placed → Read (Unit {0})
@@ -286,11 +272,11 @@ other read = read_then read (λ _ tokens. Some (statement.Other, tokens))
 unfoldable pub behind_keyword : Bool → Keyword → List Placed → Read Statement
 behind_keyword inside key.Version tokens = other (string tokens)
 behind_keyword inside key.NewSymbols tokens =
-    other (read_then (byte 58 tokens) (λ _ tokens. symbols tokens))
+    other (read_then (byte 58 tokens) (λ _. all_up_to ends_symbols is_word))
 behind_keyword inside key.BitTiming tokens =
-    other (read_then (byte 58 tokens) (λ _ tokens. up_to_keyword tokens))
+    other (read_then (byte 58 tokens) (λ _. all_up_to begins_statement (λ token. true)))
 behind_keyword inside key.Nodes tokens =
-    other (read_then (byte 58 tokens) (λ _ tokens. words tokens))
+    other (read_then (byte 58 tokens) (λ _. all_up_to begins_statement is_word))
 behind_keyword inside key.Message tokens = message tokens
 behind_keyword inside key.Signal tokens = if inside then signal tokens else None
 behind_keyword inside key.ValueType tokens = value_type tokens

@@ -1,6 +1,6 @@
 // The parts that statements are made of.
 
-ghost use Rattle.std.specs.Prelude.{◌≡◌, ◌<◌, ◌≤◌, [], length, IfOk, IfSome, MatchOption};
+ghost use Rattle.std.specs.Prelude.{◌≡◌, ◌<◌, ◌≤◌, true, [], length, IfOk, IfSome, MatchOption};
 ghost use Rattle.dbc_statements.specs.Statement as spec;
 ghost use Rattle.dbc_statements.specs.Inside.Lexer.{token_of, AreMore};
 ghost use Rattle.dbc_statements.specs.Reading.{Gives};
@@ -227,7 +227,7 @@ impl<'a> Cursor<'a> {
 
     /// Takes tokens up to the next keyword or the end.
     pub(crate) fn up_to_keyword(&mut self)
-        ensures read { spec.up_to_keyword self.old ≡ Some (tt, self.new) }
+        ensures read { spec.all_up_to spec.begins_statement (λ token. true) self.old ≡ Some (tt, self.new) }
         ensures no_longer { length self.new ≤ length self.old }
     {
         while let Some((token, behind)) = self.first() {
@@ -240,7 +240,8 @@ impl<'a> Cursor<'a> {
 
     /// Takes words up to the next keyword or the end.
     pub(crate) fn words(&mut self) -> Result<(), Unread>
-        ensures read { Gives (λ u. u) (spec.words self.old) result self.new }
+        ensures read { Gives (λ u. u)
+            (spec.all_up_to spec.begins_statement spec.is_word self.old) result self.new }
         ensures no_longer { length self.new ≤ length self.old }
     {
         while let Some((token, behind)) = self.first() {
@@ -257,7 +258,8 @@ impl<'a> Cursor<'a> {
 
     /// Takes words up to the next keyword that ends a list of new symbols, or the end.
     pub(crate) fn symbols(&mut self) -> Result<(), Unread>
-        ensures read { Gives (λ u. u) (spec.symbols self.old) result self.new }
+        ensures read { Gives (λ u. u)
+            (spec.all_up_to spec.ends_symbols spec.is_word self.old) result self.new }
         ensures no_longer { length self.new ≤ length self.old }
     {
         while let Some((token, behind)) = self.first() {

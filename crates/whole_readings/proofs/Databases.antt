@@ -4,7 +4,7 @@ use Rattle.std.specs.Prelude.{◌⊎◌, if◌then◌else◌, not, codes}
 use Rattle.std.specs.Bool.{then_some}
 use Rattle.std.specs.Str.{bytes_eq}
 use Rattle.dbc_statements.specs.Token.{Token, Placed, Word, Number, Quoted, Byte, tokens_of, first_line}
-use Rattle.dbc_statements.specs.Statement.{Read, read_then, read_as, word_in, number_bytes, decimal_in, is_byte, is_quoted, is_keyword, keyword_of, keyword_in, big_in, signed_in, float_in, is_multiplexing, receiver_after, may_end, begins_statement, is_word, ends_symbols, line, next, word, number, decimal, byte, perhaps, string, keyword, up_to_keyword, words, symbols, up_to_semicolon, message, multiplexing_by, multiplexing, big, signed, layout, pair, receivers, signal, float, value_type, other, behind_keyword, statement_at}
+use Rattle.dbc_statements.specs.Statement.{Read, read_then, read_as, word_in, number_bytes, decimal_in, is_byte, is_quoted, is_keyword, keyword_of, keyword_in, big_in, signed_in, float_in, is_multiplexing, receiver_after, may_end, begins_statement, is_word, ends_symbols, line, next, word, number, decimal, byte, perhaps, string, keyword, all_up_to, up_to_semicolon, message, multiplexing_by, multiplexing, big, signed, layout, pair, receivers, signal, float, value_type, other, behind_keyword, statement_at}
 use Rattle.dbc_statements.specs.declared.statement.Statement.{Statement}
 use Rattle.dbc_reader.specs.Database.{Said, nothing_said, has_owner, after_statement, repeated_line, messages_of, Lead, IsDatabase, IsUnspelled, IsRepeated, IsDatabaseRefusal}
 use Rattle.dbc_reader.specs.declared.message.DbcMessage.{DbcMessage}
@@ -71,23 +71,11 @@ string_within : IsModest string
 unfolding string
 string_within most tokens few = next_within (λ token. then_some (is_quoted token) tt) most tokens few
 
-up_to_keyword_within : IsModest up_to_keyword
-up_to_keyword_within most [] few = few
-up_to_keyword_within most (first ∷ behind) few =
-    either (LeavesAtMost most) (begins_statement first.token) (Some (tt, first ∷ behind)) (up_to_keyword behind) few
-    (up_to_keyword_within most behind (fewer first behind most few))
-
-words_within : IsModest words
-words_within most [] few = few
-words_within most (first ∷ behind) few =
-    either (LeavesAtMost most) (begins_statement first.token) (Some (tt, first ∷ behind)) (if is_word first.token then words behind else None) few
-    (either (LeavesAtMost most) (is_word first.token) (words behind) None (words_within most behind (fewer first behind most few)) tt)
-
-symbols_within : IsModest symbols
-symbols_within most [] few = few
-symbols_within most (first ∷ behind) few =
-    either (LeavesAtMost most) (ends_symbols first.token) (Some (tt, first ∷ behind)) (if is_word first.token then symbols behind else None) few
-    (either (LeavesAtMost most) (is_word first.token) (symbols behind) None (symbols_within most behind (fewer first behind most few)) tt)
+all_up_to_within : (ends belongs : Token → Bool) → IsModest (all_up_to ends belongs)
+all_up_to_within ends belongs most [] few = few
+all_up_to_within ends belongs most (first ∷ behind) few =
+    either (LeavesAtMost most) (ends first.token) (Some (tt, first ∷ behind)) (if belongs first.token then all_up_to ends belongs behind else None) few
+    (either (LeavesAtMost most) (belongs first.token) (all_up_to ends belongs behind) None (all_up_to_within ends belongs most behind (fewer first behind most few)) tt)
 
 up_to_semicolon_within : IsModest up_to_semicolon
 up_to_semicolon_within most [] few = tt
@@ -185,7 +173,7 @@ other_within : (most : ℕ) (read : Read (Unit {0})) → LeavesAtMost most read 
 other_within most read within = then_within most read _ within (λ _ tokens few. few)
 
 after_byte : (most wanted : ℕ) (read : List Placed → Read (Unit {0})) → IsModest read → (tokens : List Placed) → length tokens ≤ most
-    → LeavesAtMost most (other (read_then (byte wanted tokens) (λ _ tokens. read tokens)))
+    → LeavesAtMost most (other (read_then (byte wanted tokens) (λ _. read)))
 after_byte most wanted read modest tokens few =
     other_within most _ (then_within most (byte wanted tokens) _ (byte_within wanted most tokens few) (λ _ tokens few. modest most tokens few))
 
@@ -198,11 +186,11 @@ behind_word inside bytes most tokens few =
     (either (λ k. LeavesAtMost most (read_then (read_as k tokens) (λ keyword tokens. behind_keyword inside keyword tokens))) (bytes_eq bytes (codes "VERSION")) _ _
     (other_within most (string tokens) (string_within most tokens few))
     (either (λ k. LeavesAtMost most (read_then (read_as k tokens) (λ keyword tokens. behind_keyword inside keyword tokens))) (bytes_eq bytes (codes "NS_")) _ _
-    (after_byte most 58 symbols symbols_within tokens few)
+    (after_byte most 58 (all_up_to ends_symbols is_word) (all_up_to_within ends_symbols is_word) tokens few)
     (either (λ k. LeavesAtMost most (read_then (read_as k tokens) (λ keyword tokens. behind_keyword inside keyword tokens))) (bytes_eq bytes (codes "BS_")) _ _
-    (after_byte most 58 up_to_keyword up_to_keyword_within tokens few)
+    (after_byte most 58 (all_up_to begins_statement (λ token. true)) (all_up_to_within begins_statement (λ token. true)) tokens few)
     (either (λ k. LeavesAtMost most (read_then (read_as k tokens) (λ keyword tokens. behind_keyword inside keyword tokens))) (bytes_eq bytes (codes "BU_")) _ _
-    (after_byte most 58 words words_within tokens few)
+    (after_byte most 58 (all_up_to begins_statement is_word) (all_up_to_within begins_statement is_word) tokens few)
     (either (λ k. LeavesAtMost most (read_then (read_as k tokens) (λ keyword tokens. behind_keyword inside keyword tokens))) (bytes_eq bytes (codes "BO_")) _ _
     (message_within most tokens few)
     (either (λ k. LeavesAtMost most (read_then (read_as k tokens) (λ keyword tokens. behind_keyword inside keyword tokens))) (bytes_eq bytes (codes "SG_")) _ _

@@ -5,7 +5,7 @@ use Rattle.dbc_statements.proofs.cursor.Cursor.symbols.Given as goal
 
 abbrev pub invariant-loop-token : goal.invariant-loop-token
 invariant-loop-token l = record {
-  same : spec.symbols l.fn.self ≡ spec.symbols l.self;
+  same : spec.all_up_to spec.ends_symbols spec.is_word l.fn.self ≡ spec.all_up_to spec.ends_symbols spec.is_word l.self;
   no_longer : length l.self ≤ length l.fn.self;
 }
 

@@ -5,7 +5,7 @@ use Rattle.dbc_statements.proofs.cursor.Cursor.words.Given as goal
 
 abbrev pub invariant-loop-token : goal.invariant-loop-token
 invariant-loop-token l = record {
-  same : spec.words l.fn.self ≡ spec.words l.self;
+  same : spec.all_up_to spec.begins_statement spec.is_word l.fn.self ≡ spec.all_up_to spec.begins_statement spec.is_word l.self;
   no_longer : length l.self ≤ length l.fn.self;
 }
 
