@@ -1,7 +1,7 @@
 -- A text has one database, or one refusal.
 use Rattle.std.proofs.Common.{◌≡◌, ◌≢◌, ℕ, Bool, List, [], ◌∷◌, Option, Some, None, refl, sym, ap, subst, ◌∙◌}
 use Rattle.dbc_statements.specs.Token.{Placed, tokens_of, first_line}
-use Rattle.dbc_statements.specs.Statement.{statement_at, keyword}
+use Rattle.dbc_statements.specs.Statement.{next, statement_at}
 use Rattle.dbc_reader.specs.Database.{Said, nothing_said, has_owner, after_statement, repeated_line, messages_of, Lead, IsDatabase, IsWrong, IsUnspelled, IsRepeated, IsDatabaseRefusal}
 use Rattle.dbc_statements.specs.declared.statement.Statement.{Statement}
 use Rattle.dbc_reader.specs.declared.message.DbcMessage.{DbcMessage}
@@ -13,7 +13,7 @@ abbrev Stops : Said → List Placed → Type 0
 Stops said tokens = (st : Statement) (behind : List Placed) → statement_at (has_owner said.owner) tokens ≡ Some (st, behind) → repeated_line said st ≡ None → ⊥
 
 stops_empty : (said : Said) → Stops said []
-unfolding statement_at keyword
+unfolding statement_at next
 stops_empty said st behind reads new = cc
 
 one_lead : (before : Said) (tokens : List Placed) (sts sts' : List Statement) (after after' : Said) (rest rest' : List Placed)
@@ -79,7 +79,7 @@ no_line [] line e here = cc
 no_line (t ∷ ts) line e here = cc
 
 no_statement : (inside : Bool) (tokens behind : List Placed) (st : Statement) → [] ≡ tokens → statement_at inside tokens ≡ Some (st, behind) → ⊥
-unfolding statement_at keyword
+unfolding statement_at next
 no_statement inside [] behind st e reads = cc
 no_statement inside (t ∷ ts) behind st e reads = cc
 

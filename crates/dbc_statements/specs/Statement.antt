@@ -1,7 +1,7 @@
 -- The statements of a database's text: how each is spelled in tokens (the DBC file format's keywords).
 -- This project's own: what ends an open list, that a statement with any other keyword goes on to its
 -- `;`, and that identifiers, starts and lengths are decimal digits.
-use Rattle.std.specs.Prelude.{ℕ, Bool, true, false, ◌&&◌, ◌||◌, not, ◌==◌, nat_le, nat_eq, if◌then◌else◌, List, [], ◌∷◌, drop, Option, Some, None, codes}
+use Rattle.std.specs.Prelude.{ℕ, Bool, true, false, ◌&&◌, ◌||◌, not, ◌==◌, nat_le, nat_eq, if◌then◌else◌, List, [], ◌∷◌, drop, Option, Some, None, is_some, codes}
 use Rattle.std.specs.Bool.{then_some}
 use Rattle.std.specs.List.{prefix_len, list_all, ends_with}
 use Rattle.std.specs.Str.{bytes_eq}
@@ -54,21 +54,9 @@ unfoldable pub line : List Placed → Read ℕ
 line tokens = read_as (first_line tokens) tokens
 
 -- what the next token is read as
-abbrev pub next : {A : Type 0} → (Token → Option A) → List Placed → Read A
+unfoldable pub next : {A : Type 0} → (Token → Option A) → List Placed → Read A
 next read [] = None
 next read (first ∷ behind) = read_as (read first.token) behind
-
--- a word
-unfoldable pub word : List Placed → Read (List ℕ)
-word tokens = next word_in tokens
-
--- a number
-unfoldable pub number : List Placed → Read (List ℕ)
-number tokens = next number_bytes tokens
-
--- decimal digits of a number up to a limit
-unfoldable pub decimal : ℕ → List Placed → Read ℕ
-decimal limit tokens = next (decimal_in limit) tokens
 
 -- this byte
 unfoldable pub byte : ℕ → List Placed → Read (Unit {0})
@@ -80,14 +68,10 @@ perhaps wanted [] = Some (tt, [])
 perhaps wanted (first ∷ behind) =
     if is_byte wanted first.token then Some (tt, behind) else Some (tt, first ∷ behind)
 
--- whether it is a string
-abbrev pub is_quoted : Token → Bool
-is_quoted Quoted = true
-is_quoted _ = false
-
--- a string
-unfoldable pub string : List Placed → Read (Unit {0})
-string tokens = next (λ token. then_some (is_quoted token) tt) tokens
+-- a string, of which nothing is kept
+abbrev pub quoted_in : Token → Option (Unit {0})
+quoted_in Quoted = Some tt
+quoted_in _ = None
 
 -- A to Z or `_`
 abbrev pub is_upper : ℕ → Bool
@@ -116,19 +100,13 @@ abbrev pub keyword_in : Token → Option Keyword
 keyword_in (Word bytes) = keyword_of bytes
 keyword_in _ = None
 
--- a keyword
-unfoldable pub keyword : List Placed → Read Keyword
-keyword tokens = next keyword_in tokens
-
 -- whether it is a keyword
 abbrev pub begins_statement : Token → Bool
-begins_statement (Word bytes) = is_keyword bytes
-begins_statement _ = false
+begins_statement token = is_some (keyword_in token)
 
 -- whether it is a word
 abbrev pub is_word : Token → Bool
-is_word (Word bytes) = true
-is_word _ = false
+is_word token = is_some (word_in token)
 
 -- tokens of one sort up to the next that ends them, or the end
 abbrev pub all_up_to : (Token → Bool) → (Token → Bool) → List Placed → Read (Unit {0})
@@ -153,10 +131,10 @@ up_to_semicolon (first ∷ behind) =
 -- a message: its identifier, its name, `:`, its length and its sender
 unfoldable pub message : List Placed → Read Statement
 message tokens =
-    read_then (line tokens) (λ id_line tokens. read_then (decimal 4294967295 tokens) (λ id tokens.
-    read_then (line tokens) (λ name_line tokens. read_then (word tokens) (λ name tokens.
-    read_then (byte 58 tokens) (λ _ tokens. read_then (decimal 65535 tokens) (λ len tokens.
-    read_then (word tokens) (λ _ tokens.
+    read_then (line tokens) (λ id_line tokens. read_then (next (decimal_in 4294967295) tokens) (λ id tokens.
+    read_then (line tokens) (λ name_line tokens. read_then (next word_in tokens) (λ name tokens.
+    read_then (byte 58 tokens) (λ _ tokens. read_then (next (decimal_in 65535) tokens) (λ len tokens.
+    read_then (next word_in tokens) (λ _ tokens.
     Some (statement.Message id id_line name name_line len, tokens))))))))
 
 -- whether these are digits and then perhaps an `M`
@@ -193,27 +171,19 @@ abbrev pub signed_in : Token → Option Bool
 signed_in (Byte found) = if found == 45 then Some true else if found == 43 then Some false else None
 signed_in _ = None
 
--- the order of a signal's bits
-unfoldable pub big : List Placed → Read Bool
-big tokens = next big_in tokens
-
--- the sign of a signal
-unfoldable pub signed : List Placed → Read Bool
-signed tokens = next signed_in tokens
-
 -- a layout: start, `|`, length, `@`, order and sign
 unfoldable pub layout : List Placed → Read Layout
 layout tokens =
-    read_then (decimal 65535 tokens) (λ start tokens. read_then (byte 124 tokens) (λ _ tokens.
-    read_then (decimal 65535 tokens) (λ len tokens. read_then (byte 64 tokens) (λ _ tokens.
-    read_then (big tokens) (λ big tokens. read_then (signed tokens) (λ signed tokens.
+    read_then (next (decimal_in 65535) tokens) (λ start tokens. read_then (byte 124 tokens) (λ _ tokens.
+    read_then (next (decimal_in 65535) tokens) (λ len tokens. read_then (byte 64 tokens) (λ _ tokens.
+    read_then (next big_in tokens) (λ big tokens. read_then (next signed_in tokens) (λ signed tokens.
     Some (record { start = start; len = len; big = big; signed = signed }, tokens)))))))
 
 -- two numbers between these bytes
 unfoldable pub pair : ℕ → ℕ → ℕ → List Placed → Read (Unit {0})
 pair first between last tokens =
-    read_then (byte first tokens) (λ _ tokens. read_then (number tokens) (λ _ tokens.
-    read_then (byte between tokens) (λ _ tokens. read_then (number tokens) (λ _ tokens. byte last tokens))))
+    read_then (byte first tokens) (λ _ tokens. read_then (next number_bytes tokens) (λ _ tokens.
+    read_then (byte between tokens) (λ _ tokens. read_then (next number_bytes tokens) (λ _. byte last))))
 
 -- what a receivers' list has before its next part: a word, or a `,` behind a word
 abbrev pub receiver_after : Before → Token → Option Before
@@ -237,10 +207,10 @@ receivers last (first ∷ behind) =
 -- greatest `]`, unit and receivers
 unfoldable pub signal : List Placed → Read Statement
 signal tokens =
-    read_then (line tokens) (λ line tokens. read_then (word tokens) (λ name tokens.
+    read_then (line tokens) (λ line tokens. read_then (next word_in tokens) (λ name tokens.
     read_then (multiplexing tokens) (λ _ tokens. read_then (byte 58 tokens) (λ _ tokens.
     read_then (layout tokens) (λ layout tokens. read_then (pair 40 44 41 tokens) (λ _ tokens.
-    read_then (pair 91 124 93 tokens) (λ _ tokens. read_then (string tokens) (λ _ tokens.
+    read_then (pair 91 124 93 tokens) (λ _ tokens. read_then (next quoted_in tokens) (λ _ tokens.
     read_then (receivers before.Nothing tokens) (λ _ tokens.
     Some (statement.Signal name layout line, tokens))))))))))
 
@@ -252,16 +222,12 @@ float_in (Number bytes) =
     else None
 float_in _ = None
 
--- a value type
-unfoldable pub float : List Placed → Read Bool
-float tokens = next float_in tokens
-
 -- a signal's value type: the message's identifier, the signal's name, perhaps `:`, the type and `;`
 unfoldable pub value_type : List Placed → Read Statement
 value_type tokens =
-    read_then (decimal 4294967295 tokens) (λ id tokens. read_then (word tokens) (λ name tokens.
-    read_then (perhaps 58 tokens) (λ _ tokens. read_then (float tokens) (λ float tokens.
-    read_then (byte 59 tokens) (λ _ tokens.
+    read_then (next (decimal_in 4294967295) tokens) (λ id tokens.
+    read_then (next word_in tokens) (λ name tokens. read_then (perhaps 58 tokens) (λ _ tokens.
+    read_then (next float_in tokens) (λ float tokens. read_then (byte 59 tokens) (λ _ tokens.
     Some (if float then statement.Float (record { id = id; name = name }) else statement.Other, tokens))))))
 
 -- nothing is kept of it
@@ -270,7 +236,7 @@ other read = read_then read (λ _ tokens. Some (statement.Other, tokens))
 
 -- what stands behind each keyword; a signal stands only where a message stood before
 unfoldable pub behind_keyword : Bool → Keyword → List Placed → Read Statement
-behind_keyword inside key.Version tokens = other (string tokens)
+behind_keyword inside key.Version tokens = other (next quoted_in tokens)
 behind_keyword inside key.NewSymbols tokens =
     other (read_then (byte 58 tokens) (λ _. all_up_to ends_symbols is_word))
 behind_keyword inside key.BitTiming tokens =
@@ -285,4 +251,4 @@ behind_keyword inside key.Other tokens = other (up_to_semicolon tokens)
 -- a statement: a keyword and what stands behind it
 unfoldable pub statement_at : Bool → List Placed → Read Statement
 statement_at inside tokens =
-    read_then (keyword tokens) (λ keyword tokens. behind_keyword inside keyword tokens)
+    read_then (next keyword_in tokens) (behind_keyword inside)

@@ -51,7 +51,7 @@ pub(crate) fn keyword_of(word: &[u8]) -> Option<Keyword>
 }
 
 /// Whether a word is a keyword: `VERSION`, or upper-case letters and `_` with a `_` at the end.
-pub(crate) fn is_keyword(word: &[u8]) -> bool
+fn is_keyword(word: &[u8]) -> bool
     ensures { result ≡ spec.is_keyword word.now }
 {
     word == b"VERSION".as_slice() || word.ends_with(b"_") && is_upper(word)

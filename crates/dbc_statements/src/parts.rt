@@ -7,7 +7,7 @@ ghost use Rattle.dbc_statements.specs.Reading.{Gives};
 
 use crate::cursor::Cursor;
 use crate::front::digits;
-use crate::keyword::{Keyword, is_keyword, keyword_of};
+use crate::keyword::{Keyword, keyword_of};
 use crate::token::Token;
 use crate::unread::Unread;
 use text_parts::decimal_number;
@@ -18,7 +18,7 @@ impl Token<'_> {
         ensures { result ≡ spec.begins_statement (token_of self.now) }
     {
         match self {
-            Token::Word(word) => is_keyword(word),
+            Token::Word(word) => keyword_of(word).is_some(),
             _ => false,
         }
     }
@@ -80,9 +80,9 @@ impl<'a> Cursor<'a> {
     }
 
     /// Takes a keyword.
-    #[tactic(auto, unfolding(crate::specs::Statement::keyword))]
+    #[tactic(auto, unfolding(crate::specs::Statement::next))]
     pub(crate) fn keyword(&mut self) -> Result<Keyword, Unread>
-        ensures read { Gives (λ k. k) (spec.keyword self.old) result self.new }
+        ensures read { Gives (λ k. k) (spec.next spec.keyword_in self.old) result self.new }
         ensures shorter { IfOk result (λ _. length self.new < length self.old) }
     {
         match self.next() {
@@ -95,9 +95,9 @@ impl<'a> Cursor<'a> {
     }
 
     /// Takes a word.
-    #[tactic(auto, unfolding(crate::specs::Statement::word))]
+    #[tactic(auto, unfolding(crate::specs::Statement::next))]
     pub(crate) fn word(&mut self) -> Result<&'a [u8], Unread>
-        ensures read { Gives (λ word. word.now) (spec.word self.old) result self.new }
+        ensures read { Gives (λ word. word.now) (spec.next spec.word_in self.old) result self.new }
         ensures no_longer { length self.new ≤ length self.old }
     {
         match self.next() {
@@ -107,9 +107,9 @@ impl<'a> Cursor<'a> {
     }
 
     /// Takes a number.
-    #[tactic(auto, unfolding(crate::specs::Statement::number))]
+    #[tactic(auto, unfolding(crate::specs::Statement::next))]
     pub(crate) fn number(&mut self) -> Result<&'a [u8], Unread>
-        ensures read { Gives (λ number. number.now) (spec.number self.old) result self.new }
+        ensures read { Gives (λ number. number.now) (spec.next spec.number_bytes self.old) result self.new }
         ensures no_longer { length self.new ≤ length self.old }
     {
         match self.next() {
@@ -119,9 +119,9 @@ impl<'a> Cursor<'a> {
     }
 
     /// Takes decimal digits of a number up to a limit.
-    #[tactic(auto, unfolding(crate::specs::Statement::decimal))]
+    #[tactic(auto, unfolding(crate::specs::Statement::next))]
     pub(crate) fn decimal(&mut self, limit: u64) -> Result<u64, Unread>
-        ensures read { Gives (λ n. n) (spec.decimal limit self.old) result self.new }
+        ensures read { Gives (λ n. n) (spec.next (spec.decimal_in limit) self.old) result self.new }
         ensures within { IfOk result (λ n. n ≤ limit) }
         ensures no_longer { length self.new ≤ length self.old }
     {
@@ -135,7 +135,7 @@ impl<'a> Cursor<'a> {
     }
 
     /// Takes this byte.
-    #[tactic(auto, unfolding(crate::specs::Statement::byte))]
+    #[tactic(auto, unfolding(crate::specs::Statement::byte, crate::specs::Statement::next))]
     pub(crate) fn byte(&mut self, wanted: u8) -> Result<(), Unread>
         ensures read { Gives (λ u. u) (spec.byte wanted self.old) result self.new }
         ensures no_longer { length self.new ≤ length self.old }
@@ -160,9 +160,9 @@ impl<'a> Cursor<'a> {
     }
 
     /// Takes a string.
-    #[tactic(auto, unfolding(crate::specs::Statement::string))]
+    #[tactic(auto, unfolding(crate::specs::Statement::next))]
     pub(crate) fn string(&mut self) -> Result<(), Unread>
-        ensures read { Gives (λ u. u) (spec.string self.old) result self.new }
+        ensures read { Gives (λ u. u) (spec.next spec.quoted_in self.old) result self.new }
         ensures no_longer { length self.new ≤ length self.old }
     {
         match self.next() {
@@ -187,9 +187,9 @@ impl<'a> Cursor<'a> {
     }
 
     /// Takes the order of a signal's bits, and gives whether it is big-endian.
-    #[tactic(auto, unfolding(crate::specs::Statement::big))]
+    #[tactic(auto, unfolding(crate::specs::Statement::next))]
     pub(crate) fn big(&mut self) -> Result<bool, Unread>
-        ensures read { Gives (λ b. b) (spec.big self.old) result self.new }
+        ensures read { Gives (λ b. b) (spec.next spec.big_in self.old) result self.new }
         ensures no_longer { length self.new ≤ length self.old }
     {
         match self.next() {
@@ -200,9 +200,9 @@ impl<'a> Cursor<'a> {
     }
 
     /// Takes the sign of a signal, and gives whether it is signed.
-    #[tactic(auto, unfolding(crate::specs::Statement::signed))]
+    #[tactic(auto, unfolding(crate::specs::Statement::next))]
     pub(crate) fn signed(&mut self) -> Result<bool, Unread>
-        ensures read { Gives (λ b. b) (spec.signed self.old) result self.new }
+        ensures read { Gives (λ b. b) (spec.next spec.signed_in self.old) result self.new }
         ensures no_longer { length self.new ≤ length self.old }
     {
         match self.next() {
@@ -213,9 +213,9 @@ impl<'a> Cursor<'a> {
     }
 
     /// Takes a value type, and gives whether it is a float's.
-    #[tactic(auto, unfolding(crate::specs::Statement::float))]
+    #[tactic(auto, unfolding(crate::specs::Statement::next))]
     pub(crate) fn float(&mut self) -> Result<bool, Unread>
-        ensures read { Gives (λ b. b) (spec.float self.old) result self.new }
+        ensures read { Gives (λ b. b) (spec.next spec.float_in self.old) result self.new }
         ensures no_longer { length self.new ≤ length self.old }
     {
         match self.next() {

@@ -4,7 +4,7 @@ use Rattle.std.specs.Prelude.{◌⊎◌, if◌then◌else◌, not, codes}
 use Rattle.std.specs.Bool.{then_some}
 use Rattle.std.specs.Str.{bytes_eq}
 use Rattle.dbc_statements.specs.Token.{Token, Placed, Word, Number, Quoted, Byte, tokens_of, first_line}
-use Rattle.dbc_statements.specs.Statement.{Read, read_then, read_as, word_in, number_bytes, decimal_in, is_byte, is_quoted, is_keyword, keyword_of, keyword_in, big_in, signed_in, float_in, is_multiplexing, receiver_after, may_end, begins_statement, is_word, ends_symbols, line, next, word, number, decimal, byte, perhaps, string, keyword, all_up_to, up_to_semicolon, message, multiplexing_by, multiplexing, big, signed, layout, pair, receivers, signal, float, value_type, other, behind_keyword, statement_at}
+use Rattle.dbc_statements.specs.Statement.{Read, read_then, read_as, word_in, number_bytes, decimal_in, is_byte, quoted_in, is_keyword, keyword_of, keyword_in, big_in, signed_in, float_in, is_multiplexing, receiver_after, may_end, begins_statement, is_word, ends_symbols, line, next, byte, perhaps, all_up_to, up_to_semicolon, message, multiplexing_by, multiplexing, layout, pair, receivers, signal, value_type, other, behind_keyword, statement_at}
 use Rattle.dbc_statements.specs.declared.statement.Statement.{Statement}
 use Rattle.dbc_reader.specs.Database.{Said, nothing_said, has_owner, after_statement, repeated_line, messages_of, Lead, IsDatabase, IsUnspelled, IsRepeated, IsDatabaseRefusal}
 use Rattle.dbc_reader.specs.declared.message.DbcMessage.{DbcMessage}
@@ -42,20 +42,9 @@ unfolding line
 line_within most tokens few = as_within most (first_line tokens) tokens few
 
 next_within : {A : Type 0} (read : Token → Option A) → IsModest (next read)
+unfolding next
 next_within read most [] few = tt
 next_within read most (first ∷ behind) few = as_within most (read first.token) behind (fewer first behind most few)
-
-word_within : IsModest word
-unfolding word
-word_within most tokens few = next_within word_in most tokens few
-
-number_within : IsModest number
-unfolding number
-number_within most tokens few = next_within number_bytes most tokens few
-
-decimal_within : (limit : ℕ) → IsModest (decimal limit)
-unfolding decimal
-decimal_within limit most tokens few = next_within (decimal_in limit) most tokens few
 
 byte_within : (wanted : ℕ) → IsModest (byte wanted)
 unfolding byte
@@ -66,10 +55,6 @@ unfolding perhaps
 perhaps_within wanted most [] few = few
 perhaps_within wanted most (first ∷ behind) few =
     either (LeavesAtMost most) (is_byte wanted first.token) (Some (tt, behind)) (Some (tt, first ∷ behind)) (fewer first behind most few) few
-
-string_within : IsModest string
-unfolding string
-string_within most tokens few = next_within (λ token. then_some (is_quoted token) tt) most tokens few
 
 all_up_to_within : (ends belongs : Token → Bool) → IsModest (all_up_to ends belongs)
 all_up_to_within ends belongs most [] few = few
@@ -94,18 +79,6 @@ unfolding multiplexing
 multiplexing_within most [] few = few
 multiplexing_within most (first ∷ behind) few = multiplexed_within first.token most (first ∷ behind) behind few (fewer first behind most few)
 
-big_within : IsModest big
-unfolding big
-big_within most tokens few = next_within big_in most tokens few
-
-signed_within : IsModest signed
-unfolding signed
-signed_within most tokens few = next_within signed_in most tokens few
-
-float_within : IsModest float
-unfolding float
-float_within most tokens few = next_within float_in most tokens few
-
 receivers_within : (last : _) → IsModest (receivers last)
 receivers_within last most [] few = either (LeavesAtMost most) (may_end last) (Some (tt, [])) None few tt
 receivers_within last most (first ∷ behind) few =
@@ -121,52 +94,52 @@ receivers_within last most (first ∷ behind) few =
 layout_within : IsModest layout
 unfolding layout
 layout_within most tokens few =
-    then_within most (decimal 65535 tokens) _ (decimal_within 65535 most tokens few) (λ start tokens few.
+    then_within most (next (decimal_in 65535) tokens) _ (next_within (decimal_in 65535) most tokens few) (λ start tokens few.
     then_within most (byte 124 tokens) _ (byte_within 124 most tokens few) (λ _ tokens few.
-    then_within most (decimal 65535 tokens) _ (decimal_within 65535 most tokens few) (λ len tokens few.
+    then_within most (next (decimal_in 65535) tokens) _ (next_within (decimal_in 65535) most tokens few) (λ len tokens few.
     then_within most (byte 64 tokens) _ (byte_within 64 most tokens few) (λ _ tokens few.
-    then_within most (big tokens) _ (big_within most tokens few) (λ big tokens few.
-    then_within most (signed tokens) _ (signed_within most tokens few) (λ signed tokens few. few))))))
+    then_within most (next big_in tokens) _ (next_within big_in most tokens few) (λ big tokens few.
+    then_within most (next signed_in tokens) _ (next_within signed_in most tokens few) (λ signed tokens few. few))))))
 
 pair_within : (first between last : ℕ) → IsModest (pair first between last)
 unfolding pair
 pair_within first between last most tokens few =
     then_within most (byte first tokens) _ (byte_within first most tokens few) (λ _ tokens few.
-    then_within most (number tokens) _ (number_within most tokens few) (λ _ tokens few.
+    then_within most (next number_bytes tokens) _ (next_within number_bytes most tokens few) (λ _ tokens few.
     then_within most (byte between tokens) _ (byte_within between most tokens few) (λ _ tokens few.
-    then_within most (number tokens) _ (number_within most tokens few) (λ _ tokens few. byte_within last most tokens few))))
+    then_within most (next number_bytes tokens) _ (next_within number_bytes most tokens few) (λ _ tokens few. byte_within last most tokens few))))
 
 message_within : IsModest message
 unfolding message
 message_within most tokens few =
     then_within most (line tokens) _ (line_within most tokens few) (λ id_line tokens few.
-    then_within most (decimal 4294967295 tokens) _ (decimal_within 4294967295 most tokens few) (λ id tokens few.
+    then_within most (next (decimal_in 4294967295) tokens) _ (next_within (decimal_in 4294967295) most tokens few) (λ id tokens few.
     then_within most (line tokens) _ (line_within most tokens few) (λ name_line tokens few.
-    then_within most (word tokens) _ (word_within most tokens few) (λ name tokens few.
+    then_within most (next word_in tokens) _ (next_within word_in most tokens few) (λ name tokens few.
     then_within most (byte 58 tokens) _ (byte_within 58 most tokens few) (λ _ tokens few.
-    then_within most (decimal 65535 tokens) _ (decimal_within 65535 most tokens few) (λ len tokens few.
-    then_within most (word tokens) _ (word_within most tokens few) (λ _ tokens few. few)))))))
+    then_within most (next (decimal_in 65535) tokens) _ (next_within (decimal_in 65535) most tokens few) (λ len tokens few.
+    then_within most (next word_in tokens) _ (next_within word_in most tokens few) (λ _ tokens few. few)))))))
 
 signal_within : IsModest signal
 unfolding signal
 signal_within most tokens few =
     then_within most (line tokens) _ (line_within most tokens few) (λ line tokens few.
-    then_within most (word tokens) _ (word_within most tokens few) (λ name tokens few.
+    then_within most (next word_in tokens) _ (next_within word_in most tokens few) (λ name tokens few.
     then_within most (multiplexing tokens) _ (multiplexing_within most tokens few) (λ _ tokens few.
     then_within most (byte 58 tokens) _ (byte_within 58 most tokens few) (λ _ tokens few.
     then_within most (layout tokens) _ (layout_within most tokens few) (λ layout tokens few.
     then_within most (pair 40 44 41 tokens) _ (pair_within 40 44 41 most tokens few) (λ _ tokens few.
     then_within most (pair 91 124 93 tokens) _ (pair_within 91 124 93 most tokens few) (λ _ tokens few.
-    then_within most (string tokens) _ (string_within most tokens few) (λ _ tokens few.
+    then_within most (next quoted_in tokens) _ (next_within quoted_in most tokens few) (λ _ tokens few.
     then_within most _ _ (receivers_within _ most tokens few) (λ _ tokens few. few)))))))))
 
 value_type_within : IsModest value_type
 unfolding value_type
 value_type_within most tokens few =
-    then_within most (decimal 4294967295 tokens) _ (decimal_within 4294967295 most tokens few) (λ id tokens few.
-    then_within most (word tokens) _ (word_within most tokens few) (λ name tokens few.
+    then_within most (next (decimal_in 4294967295) tokens) _ (next_within (decimal_in 4294967295) most tokens few) (λ id tokens few.
+    then_within most (next word_in tokens) _ (next_within word_in most tokens few) (λ name tokens few.
     then_within most (perhaps 58 tokens) _ (perhaps_within 58 most tokens few) (λ _ tokens few.
-    then_within most (float tokens) _ (float_within most tokens few) (λ float tokens few.
+    then_within most (next float_in tokens) _ (next_within float_in most tokens few) (λ float tokens few.
     then_within most (byte 59 tokens) _ (byte_within 59 most tokens few) (λ _ tokens few. few)))))
 
 other_within : (most : ℕ) (read : Read (Unit {0})) → LeavesAtMost most read → LeavesAtMost most (other read)
@@ -179,27 +152,27 @@ after_byte most wanted read modest tokens few =
 
 -- what stands behind the keyword of these bytes
 behind_word : (inside : Bool) (bytes : List ℕ) (most : ℕ) (tokens : List Placed) → length tokens ≤ most
-    → LeavesAtMost most (read_then (read_as (keyword_of bytes) tokens) (λ keyword tokens. behind_keyword inside keyword tokens))
+    → LeavesAtMost most (read_then (read_as (keyword_of bytes) tokens) (behind_keyword inside))
 unfolding behind_keyword
 behind_word inside bytes most tokens few =
-    either (λ k. LeavesAtMost most (read_then (read_as k tokens) (λ keyword tokens. behind_keyword inside keyword tokens))) (not (is_keyword bytes)) _ _ tt
-    (either (λ k. LeavesAtMost most (read_then (read_as k tokens) (λ keyword tokens. behind_keyword inside keyword tokens))) (bytes_eq bytes (codes "VERSION")) _ _
-    (other_within most (string tokens) (string_within most tokens few))
-    (either (λ k. LeavesAtMost most (read_then (read_as k tokens) (λ keyword tokens. behind_keyword inside keyword tokens))) (bytes_eq bytes (codes "NS_")) _ _
+    either (λ k. LeavesAtMost most (read_then (read_as k tokens) (behind_keyword inside))) (not (is_keyword bytes)) _ _ tt
+    (either (λ k. LeavesAtMost most (read_then (read_as k tokens) (behind_keyword inside))) (bytes_eq bytes (codes "VERSION")) _ _
+    (other_within most (next quoted_in tokens) (next_within quoted_in most tokens few))
+    (either (λ k. LeavesAtMost most (read_then (read_as k tokens) (behind_keyword inside))) (bytes_eq bytes (codes "NS_")) _ _
     (after_byte most 58 (all_up_to ends_symbols is_word) (all_up_to_within ends_symbols is_word) tokens few)
-    (either (λ k. LeavesAtMost most (read_then (read_as k tokens) (λ keyword tokens. behind_keyword inside keyword tokens))) (bytes_eq bytes (codes "BS_")) _ _
+    (either (λ k. LeavesAtMost most (read_then (read_as k tokens) (behind_keyword inside))) (bytes_eq bytes (codes "BS_")) _ _
     (after_byte most 58 (all_up_to begins_statement (λ token. true)) (all_up_to_within begins_statement (λ token. true)) tokens few)
-    (either (λ k. LeavesAtMost most (read_then (read_as k tokens) (λ keyword tokens. behind_keyword inside keyword tokens))) (bytes_eq bytes (codes "BU_")) _ _
+    (either (λ k. LeavesAtMost most (read_then (read_as k tokens) (behind_keyword inside))) (bytes_eq bytes (codes "BU_")) _ _
     (after_byte most 58 (all_up_to begins_statement is_word) (all_up_to_within begins_statement is_word) tokens few)
-    (either (λ k. LeavesAtMost most (read_then (read_as k tokens) (λ keyword tokens. behind_keyword inside keyword tokens))) (bytes_eq bytes (codes "BO_")) _ _
+    (either (λ k. LeavesAtMost most (read_then (read_as k tokens) (behind_keyword inside))) (bytes_eq bytes (codes "BO_")) _ _
     (message_within most tokens few)
-    (either (λ k. LeavesAtMost most (read_then (read_as k tokens) (λ keyword tokens. behind_keyword inside keyword tokens))) (bytes_eq bytes (codes "SG_")) _ _
+    (either (λ k. LeavesAtMost most (read_then (read_as k tokens) (behind_keyword inside))) (bytes_eq bytes (codes "SG_")) _ _
     (either (LeavesAtMost most) inside (signal tokens) None (signal_within most tokens few) tt)
-    (either (λ k. LeavesAtMost most (read_then (read_as k tokens) (λ keyword tokens. behind_keyword inside keyword tokens))) (bytes_eq bytes (codes "SIG_VALTYPE_")) _ _
+    (either (λ k. LeavesAtMost most (read_then (read_as k tokens) (behind_keyword inside))) (bytes_eq bytes (codes "SIG_VALTYPE_")) _ _
     (value_type_within most tokens few) (other_within most (up_to_semicolon tokens) (up_to_semicolon_within most tokens few)))))))))
 
 behind_token : (inside : Bool) (token : Token) (most : ℕ) (tokens : List Placed) → length tokens ≤ most
-    → LeavesAtMost most (read_then (read_as (keyword_in token) tokens) (λ keyword tokens. behind_keyword inside keyword tokens))
+    → LeavesAtMost most (read_then (read_as (keyword_in token) tokens) (behind_keyword inside))
 behind_token inside (Word bytes) most tokens few = behind_word inside bytes most tokens few
 behind_token inside (Number bytes) most tokens few = tt
 behind_token inside Quoted most tokens few = tt
@@ -207,7 +180,7 @@ behind_token inside (Byte found) most tokens few = tt
 
 -- a statement takes a token at least
 statement_within : (inside : Bool) (first : Placed) (tokens : List Placed) → LeavesAtMost (length tokens) (statement_at inside (first ∷ tokens))
-unfolding statement_at keyword
+unfolding statement_at next
 statement_within inside first tokens = behind_token inside first.token (length tokens) tokens (omega arith)
 
 -- ---- statements one after another
