@@ -2,6 +2,7 @@
 -- 0 in the order of the program.
 use Rattle.std.specs.Prelude.{ℕ, ◌+◌, ◌==◌, nat_le, Bool, true, false, ◌&&◌, if◌then◌else◌, List, [], ◌∷◌, Option, None, Some, option_to_list}
 use Rattle.std.specs.List.{list_any, position_from}
+use Rattle.std.specs.Option.{option_or}
 use Rattle.can_frame.specs.Arbitration.{selection_key}
 use Rattle.run_effects.specs.declared.event.Event.{Event}
 use Rattle.run_effects.specs.declared.event.Event.TheVariants as event
@@ -10,30 +11,15 @@ use Rattle.run_effects.specs.Event.{selectors_of}
 use Rattle.node_rounds.specs.declared.occurrence.Occurrence.{Occurrence}
 use Rattle.node_rounds.specs.declared.occurrence.Occurrence.TheVariants.{PreStart, Start, Stop, Frame, Timer, Key}
 
--- `on preStart`
-abbrev pub is_pre_start : Event → Bool
-is_pre_start event.PreStart = true
-is_pre_start _ = false
-
--- `on start`
-abbrev pub is_start : Event → Bool
-is_start event.Start = true
-is_start _ = false
-
--- `on stopMeasurement`
-abbrev pub is_stop : Event → Bool
-is_stop event.Stop = true
-is_stop _ = false
-
--- `on timer` of this timer
-abbrev pub is_for_timer : ℕ → Event → Bool
-is_for_timer timer (event.Timer own) = own == timer
-is_for_timer timer _ = false
-
--- `on key` of this key
-abbrev pub is_key : ℕ → Event → Bool
-is_key key (event.Key (Some own)) = own == key
-is_key key _ = false
+-- whether a procedure reacts to what happens: `on preStart`, `on start`, `on stopMeasurement`, `on timer` of
+-- this timer, `on key` of this key; `on key *` and `on message` are told below
+abbrev pub reacts_to : Occurrence → Event → Bool
+reacts_to PreStart event.PreStart = true
+reacts_to Start event.Start = true
+reacts_to Stop event.Stop = true
+reacts_to (Timer timer) (event.Timer own) = own == timer
+reacts_to (Key key) (event.Key (Some own)) = own == key
+reacts_to _ _ = false
 
 -- `on key *`
 abbrev pub is_any_key : Event → Bool
@@ -59,28 +45,19 @@ numbers_where test number (event ∷ events) =
 abbrev pub first_where : (Event → Bool) → List Event → Option ℕ
 first_where test events = position_from test 0 events
 
--- the one, or where there is none the other
-abbrev pub else_other : Option ℕ → Option ℕ → Option ℕ
-else_other None other = other
-else_other (Some number) other = Some number
-
 -- the message procedure for a selection key: that for the identifier or a database name, else one whose
 -- range holds it, else the one for `*`
 abbrev pub message_procedure : List Event → ℕ → Option ℕ
 message_procedure events key =
-    else_other (first_where (is_for_message 0 key) events)
-    (else_other (first_where (is_for_message 1 key) events) (first_where (is_for_message 2 key) events))
+    option_or (first_where (is_for_message 0 key) events)
+    (option_or (first_where (is_for_message 1 key) events) (first_where (is_for_message 2 key) events))
 
--- the key procedure for a key: that for the key, else the one for `*`
-abbrev pub key_procedure : List Event → ℕ → Option ℕ
-key_procedure events key = else_other (first_where (is_key key) events) (first_where is_any_key events)
-
--- the numbers of the procedures for an occurrence, in the order in which they run
+-- the numbers of the procedures for an occurrence, in the order in which they run: for a key that for the
+-- key, else the one for `*`
 abbrev pub procedures_for : List Event → Occurrence → List ℕ
-procedures_for events PreStart = numbers_where is_pre_start 0 events
-procedures_for events Start = numbers_where is_start 0 events
-procedures_for events Stop = numbers_where is_stop 0 events
 procedures_for events (Frame seen) =
     option_to_list (message_procedure events (selection_key seen.frame.ident))
-procedures_for events (Timer timer) = option_to_list (first_where (is_for_timer timer) events)
-procedures_for events (Key key) = option_to_list (key_procedure events key)
+procedures_for events (Timer timer) = option_to_list (first_where (reacts_to (Timer timer)) events)
+procedures_for events (Key key) =
+    option_to_list (option_or (first_where (reacts_to (Key key)) events) (first_where is_any_key events))
+procedures_for events occurrence = numbers_where (reacts_to occurrence) 0 events

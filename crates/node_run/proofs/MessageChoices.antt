@@ -2,6 +2,7 @@
 use Rattle.std.proofs.Common.{◌≡◌, inl, inr, ℕ, ◌+◌, ◌<◌, ◌≤◌, Bool, true, false, ◌&&◌, ◌||◌, cond, eqb, leb, List, [], ◌∷◌, ◌++◌, get_or, map, Option, None, Some, IfSome, IfNone, arith, refl, ap, ap₂, sym, subst, ◌∙◌}
 use Rattle.std.specs.List.{All, AllPairs, Contains, list_any, position_from}
 use Rattle.std.specs.List.Sorted.{IsPermutation}
+use Rattle.std.specs.Option.{option_or}
 use Rattle.std.proofs.Math.ListN.{get_or-map}
 use Rattle.std.proofs.lemmas.Bool.{cases_lt, eqb-true, leb-true, eq-eqb, le-leb}
 use Rattle.std.proofs.lemmas.List.{length-map, map-append}
@@ -15,7 +16,7 @@ use Rattle.msg_select.specs.declared.selector.MessageSelector.{MessageSelector}
 use Rattle.msg_select.specs.Selection.{Holds, IsChosen}
 use Rattle.msg_select.specs.Selection.{AreApart as AreApartHere}
 use Rattle.msg_select.proofs.ChoiceLemmas.{chosen_in_order, none_in_order, only_choice}
-use Rattle.node_rounds.specs.Procedures.{else_other, first_where, holds, is_for_message, message_procedure}
+use Rattle.node_rounds.specs.Procedures.{first_where, holds, is_for_message, message_procedure}
 use Rattle.node_run.specs.Code.{events_of}
 use Rattle.node_run.specs.Inside.Tables.{IsChoice, message_selectors, selector_for}
 
@@ -158,7 +159,7 @@ is_first rank key events = either (first_where (is_for_message rank key) events)
     either (Some handler) is = record { some = first_of_rank rank key 0 handler events is; none = tt }
 
 by_rank : (selectors : List MessageSelector) (key : ℕ) (zeroth first second : Option ℕ) → All (λ s. s.rank ≤ 2) selectors
-    → IsFirst 0 key selectors zeroth → IsFirst 1 key selectors first → IsFirst 2 key selectors second → IsChoice selectors key (else_other zeroth (else_other first second))
+    → IsFirst 0 key selectors zeroth → IsFirst 1 key selectors first → IsFirst 2 key selectors second → IsChoice selectors key (option_or zeroth (option_or first second))
 by_rank selectors key zeroth first second ranks of_zeroth of_first of_second =
     each zeroth first second of_zeroth of_first of_second
   where
@@ -166,7 +167,7 @@ by_rank selectors key zeroth first second ranks of_zeroth of_first of_second =
     from_zero = λ k d within held. omega arith
 
     each : (zeroth first second : Option ℕ) → IsFirst 0 key selectors zeroth → IsFirst 1 key selectors first → IsFirst 2 key selectors second
-        → IsChoice selectors key (else_other zeroth (else_other first second))
+        → IsChoice selectors key (option_or zeroth (option_or first second))
     each (Some handler) first second a b c = record { some = chosen_of 0 key handler selectors a.some from_zero; none = tt }
     each None (Some handler) second a b c = record { some = chosen_of 1 key handler selectors b.some (none_less 0 key selectors from_zero a.none); none = tt }
     each None None (Some handler) a b c =

@@ -1,6 +1,7 @@
 -- What a node plans for a round runs handlers that are there.
 use Rattle.std.proofs.Common.{◌≡◌, ℕ, suc, ◌+◌, ◌<◌, Bool, true, false, cond, List, [], ◌∷◌, ◌++◌, length, Option, None, Some, IfSome, arith, refl, ap, sym, subst, ◌∙◌, option_to_list}
 use Rattle.std.specs.List.{All, position_from}
+use Rattle.std.specs.Option.{option_or}
 use Rattle.std.proofs.lemmas.List.Elements.{All-nil, All-cons, All-map, All-tail, All-append}
 use Rattle.can_frame.specs.Arbitration.{selection_key}
 use Rattle.run_effects.specs.declared.event.Event.{Event}
@@ -11,7 +12,7 @@ use Rattle.node_rounds.specs.declared.occurrence.Trigger.{Trigger}
 use Rattle.node_rounds.specs.declared.round.Round.{Round}
 use Rattle.node_rounds.specs.declared.round.Round.TheVariants.{PreStart, Start, Moment, Stop}
 use Rattle.node_rounds.specs.declared.round.Seen.{Seen}
-use Rattle.node_rounds.specs.Procedures.{else_other, first_where, is_any_key, is_key, is_for_message, is_pre_start, is_start, is_stop, is_for_timer, numbers_where, procedures_for}
+use Rattle.node_rounds.specs.Procedures.{first_where, is_any_key, is_for_message, numbers_where, procedures_for, reacts_to}
 use Rattle.node_rounds.specs.Round.{Rest, at_begin, frame_triggers, key_triggers, rest_of, triggers}
 use Rattle.node_run.specs.Code.{code_reaction, events_of}
 use Rattle.node_run.specs.Node.{NodeInRound}
@@ -43,7 +44,7 @@ first_exists test number count (event ∷ events) is =
     by_test true here some = here
     by_test false here some = some
 
-else_exists : (count : ℕ) (one other : Option ℕ) → IfSome one (λ k. k < count) → IfSome other (λ k. k < count) → IfSome (else_other one other) (λ k. k < count)
+else_exists : (count : ℕ) (one other : Option ℕ) → IfSome one (λ k. k < count) → IfSome other (λ k. k < count) → IfSome (option_or one other) (λ k. k < count)
 else_exists count None other h g = g
 else_exists count (Some k) other h g = h
 
@@ -57,16 +58,16 @@ first_where_exists test events = first_exists test 0 (length events) events (ome
 
 -- the procedures for an occurrence are there
 pub procedures_exist : (events : List Event) (occurrence : Occurrence) → All (λ k. k < length events) (procedures_for events occurrence)
-procedures_exist events happens.PreStart = numbers_exist is_pre_start 0 (length events) events (omega arith)
-procedures_exist events happens.Start = numbers_exist is_start 0 (length events) events (omega arith)
-procedures_exist events happens.Stop = numbers_exist is_stop 0 (length events) events (omega arith)
+procedures_exist events happens.PreStart = numbers_exist (reacts_to happens.PreStart) 0 (length events) events (omega arith)
+procedures_exist events happens.Start = numbers_exist (reacts_to happens.Start) 0 (length events) events (omega arith)
+procedures_exist events happens.Stop = numbers_exist (reacts_to happens.Stop) 0 (length events) events (omega arith)
 procedures_exist events (happens.Frame seen) =
     let key = selection_key seen.frame.ident in
     listed (length events) _ (else_exists (length events) _ _ (first_where_exists (is_for_message 0 key) events)
     (else_exists (length events) _ _ (first_where_exists (is_for_message 1 key) events) (first_where_exists (is_for_message 2 key) events)))
-procedures_exist events (happens.Timer timer) = listed (length events) _ (first_where_exists (is_for_timer timer) events)
+procedures_exist events (happens.Timer timer) = listed (length events) _ (first_where_exists (reacts_to (happens.Timer timer)) events)
 procedures_exist events (happens.Key key) =
-    listed (length events) _ (else_exists (length events) _ _ (first_where_exists (is_key key) events) (first_where_exists is_any_key events))
+    listed (length events) _ (else_exists (length events) _ _ (first_where_exists (reacts_to (happens.Key key)) events) (first_where_exists is_any_key events))
 
 -- ---- plans
 

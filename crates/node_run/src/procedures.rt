@@ -1,10 +1,12 @@
 // The procedures of a node, and which one an occurrence is for.
 
 ghost use Rattle.std.specs.Prelude.{◌≡◌, ◌<◌, ◌^◌, IfOk, length};
+ghost use Rattle.std.specs.Option.{option_or};
 ghost use Rattle.can_frame.specs.Arbitration.{selection_key};
 ghost use Rattle.bytecode.specs.Verified.{IsVerified};
 ghost use Rattle.node_run.specs.Code.{events_of};
-ghost use Rattle.node_rounds.specs.Procedures.{first_where, is_for_timer, key_procedure, message_procedure};
+ghost use Rattle.node_rounds.specs.declared.occurrence.Occurrence.TheVariants as happens;
+ghost use Rattle.node_rounds.specs.Procedures.{first_where, is_any_key, message_procedure, reacts_to};
 
 use crate::tables::{Subject, messages_of, table_of};
 use crate::wanted::{Wanted, first_handler};
@@ -78,14 +80,17 @@ impl Procedures {
 
     /// The number of the handler for a timer.
     pub(crate) fn for_timer(&self, timer: u32) -> Option<u32>
-        ensures { result ≡ first_where (is_for_timer timer) (events_of self.now.handlers) }
+        ensures { result
+            ≡ first_where (reacts_to (happens.Timer timer)) (events_of self.now.handlers) }
     {
         *self.timers.get(timer as usize)?
     }
 
     /// The number of the handler for a key.
     pub(crate) fn for_key(&self, key: u8) -> Option<u32>
-        ensures { result ≡ key_procedure (events_of self.now.handlers) key }
+        ensures { result
+            ≡ option_or (first_where (reacts_to (happens.Key key)) (events_of self.now.handlers))
+            (first_where is_any_key (events_of self.now.handlers)) }
     {
         self.keys[key as usize].or(self.any_key)
     }

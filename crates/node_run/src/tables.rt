@@ -2,9 +2,9 @@
 
 ghost use Rattle.std.specs.Prelude.{◌≡◌, ◌≢◌, ◌++◌, ◌<◌, ◌^◌, ℕ, Some, None, IfOk, OnOk, length, map, slice_index_or};
 ghost use Rattle.std.specs.List.Sorted.{IsPermutation};
+ghost use Rattle.std.specs.Option.{option_or};
 ghost use Rattle.node_run.specs.Code.{events_of};
 ghost use Rattle.node_run.specs.Inside.Tables.{IsTable, message_selectors, place_of, selector_for};
-ghost use Rattle.node_rounds.specs.Procedures.{else_other};
 
 use bytecode::Handler;
 use msg_select::{MessageSelector, Selectors};
@@ -63,7 +63,7 @@ pub(crate) fn table_of(
 /// Enters a handler at a place of a table that has none there.
 fn enter(table: &mut Vec<Option<u32>>, place: usize, handler: u32)
     ensures own { place < length table.old.items → slice_index_or table.new.items place None
-        ≡ else_other (slice_index_or table.old.items place None) (Some handler) }
+        ≡ option_or (slice_index_or table.old.items place None) (Some handler) }
     ensures others { (other : ℕ) → other ≢ place →
         slice_index_or table.new.items other None ≡ slice_index_or table.old.items other None }
     ensures as_many { length table.new.items ≡ length table.old.items }

@@ -3,7 +3,7 @@ use Rattle.std.proofs.Common.{◌≡◌, ℕ, zero, suc, ◌+◌, ◌<◌, ◌/�
 use Rattle.std.specs.Prelude.{ℤ, pos, ⊤, cond, flat_map, if◌then◌else◌, option_to_list, slice_index_or}
 use Rattle.std.specs.Int.{int_rem_euclid}
 use Rattle.std.specs.List.{AllByRecursion, AllZip, position_from}
-use Rattle.std.specs.Option.{option_map_or}
+use Rattle.std.specs.Option.{option_map_or, option_or}
 use Rattle.std.proofs.lemmas.Int.{ints}
 use Rattle.std.proofs.lemmas.List.{length-map}
 use Rattle.can_frame.specs.Arbitration.{selection_key}
@@ -21,7 +21,7 @@ use Rattle.stack_vm.specs.Frame.{message_of}
 use Rattle.node_rounds.specs.declared.occurrence.Occurrence.{Occurrence}
 use Rattle.node_rounds.specs.declared.occurrence.Occurrence.TheVariants as happens
 use Rattle.node_rounds.specs.declared.round.Seen.{Seen}
-use Rattle.node_rounds.specs.Procedures.{else_other, first_where, is_any_key, is_key, is_for_message, is_pre_start, is_start, is_stop, is_for_timer, key_procedure, message_procedure, numbers_where, procedures_for}
+use Rattle.node_rounds.specs.Procedures.{first_where, is_any_key, is_for_message, message_procedure, numbers_where, procedures_for, reacts_to}
 use Rattle.node_run.specs.Code.{cells_with_this}
 use Rattle.capl_meaning.specs.Variable.{Form, Number, Array, Message, Timer, Misfit, Part, Globals, Procedure, Variable}
 use Rattle.capl_meaning.specs.Names.{Names, NoThis, ThisForm, ThisFrame, ThisKey, inside, this_form}
@@ -127,7 +127,7 @@ only_one (Some one) number among = elim (among_cons one [] number among.0 among.
   | inr none ↦ let less : none.0 < 0 = none.1 in absurd (omega (arith, less))
 ]
 
-else_either : (one other : Option ℕ) (number : ℕ) → else_other one other ≡ Some number → (one ≡ Some number) ⊎ (other ≡ Some number)
+else_either : (one other : Option ℕ) (number : ℕ) → option_or one other ≡ Some number → (one ≡ Some number) ⊎ (other ≡ Some number)
 else_either None other number is = inr is
 else_either (Some one) other number is = inl is
 
@@ -146,26 +146,26 @@ Sees occurrence now t e = (form : ThisForm) → IsFormOf e form → SameSeen for
 none_seen : (a b : This) (form : ThisForm) → form ≡ NoThis → SameSeen form a b
 none_seen a b form is = subst (λ f. SameSeen f a b) (sym is) tt
 
-start_sees : (now : ℕ) (t : This) (e : Event) → is_start e ≡ true → Sees happens.Start now t e
+start_sees : (now : ℕ) (t : This) (e : Event) → reacts_to happens.Start e ≡ true → Sees happens.Start now t e
 start_sees now t event.Start holds form is = none_seen _ _ form is
 start_sees now t _ holds form is = absurd (true≢false (sym holds))
 
-pre_start_sees : (now : ℕ) (t : This) (e : Event) → is_pre_start e ≡ true → Sees happens.PreStart now t e
+pre_start_sees : (now : ℕ) (t : This) (e : Event) → reacts_to happens.PreStart e ≡ true → Sees happens.PreStart now t e
 pre_start_sees now t event.PreStart holds form is = none_seen _ _ form is
 pre_start_sees now t _ holds form is = absurd (true≢false (sym holds))
 
-stop_sees : (now : ℕ) (t : This) (e : Event) → is_stop e ≡ true → Sees happens.Stop now t e
+stop_sees : (now : ℕ) (t : This) (e : Event) → reacts_to happens.Stop e ≡ true → Sees happens.Stop now t e
 stop_sees now t event.Stop holds form is = none_seen _ _ form is
 stop_sees now t _ holds form is = absurd (true≢false (sym holds))
 
-timer_sees : (timer now : ℕ) (t : This) (e : Event) → is_for_timer timer e ≡ true → Sees (happens.Timer timer) now t e
+timer_sees : (timer now : ℕ) (t : This) (e : Event) → reacts_to (happens.Timer timer) e ≡ true → Sees (happens.Timer timer) now t e
 timer_sees timer now t (event.Timer own) holds form is = none_seen _ _ form is
 timer_sees timer now t _ holds form is = absurd (true≢false (sym holds))
 
 key_form_sees : (key now : ℕ) (t : This) (form : ThisForm) → form ≡ ThisKey → SameSeen form (this_seen (happens.Key key) now t) (this_of (happens.Key key) now)
 key_form_sees key now t form is = subst (λ f. SameSeen f (this_seen (happens.Key key) now t) (this_of (happens.Key key) now)) (sym is) refl
 
-key_sees : (key now : ℕ) (t : This) (e : Event) → is_key key e ≡ true → Sees (happens.Key key) now t e
+key_sees : (key now : ℕ) (t : This) (e : Event) → reacts_to (happens.Key key) e ≡ true → Sees (happens.Key key) now t e
 key_sees key now t (event.Key own) holds form is = key_form_sees key now t form is
 key_sees key now t _ holds form is = absurd (true≢false (sym holds))
 
@@ -187,9 +187,9 @@ seen_by test P events number each has = (has.0, has.1, each has.0 has.2)
 
 -- a procedure for an occurrence sees what its source says
 pub procedure_sees : (events : List Event) (occurrence : Occurrence) (now : ℕ) (t : This) (number : ℕ) → Contains (procedures_for events occurrence) number → EventAt (Sees occurrence now t) events number
-procedure_sees events happens.PreStart now t number among = seen_by is_pre_start _ events number (pre_start_sees now t) (numbers_at is_pre_start events number among)
-procedure_sees events happens.Start now t number among = seen_by is_start _ events number (start_sees now t) (numbers_at is_start events number among)
-procedure_sees events happens.Stop now t number among = seen_by is_stop _ events number (stop_sees now t) (numbers_at is_stop events number among)
+procedure_sees events happens.PreStart now t number among = seen_by (reacts_to happens.PreStart) _ events number (pre_start_sees now t) (numbers_at (reacts_to happens.PreStart) events number among)
+procedure_sees events happens.Start now t number among = seen_by (reacts_to happens.Start) _ events number (start_sees now t) (numbers_at (reacts_to happens.Start) events number among)
+procedure_sees events happens.Stop now t number among = seen_by (reacts_to happens.Stop) _ events number (stop_sees now t) (numbers_at (reacts_to happens.Stop) events number among)
 procedure_sees events (happens.Frame seen) now t number among =
     let key : ℕ = selection_key seen.frame.ident in
     let by : (rank : ℕ) → first_where (is_for_message rank key) events ≡ Some number → EventAt (Sees (happens.Frame seen) now t) events number =
@@ -199,10 +199,10 @@ procedure_sees events (happens.Frame seen) now t number among =
       | inr other ↦ elim (else_either (first_where (is_for_message 1 key) events) _ number other) [ inl is ↦ by 1 is | inr is ↦ by 2 is ]
     ]
 procedure_sees events (happens.Timer timer) now t number among =
-    seen_by (is_for_timer timer) _ events number (timer_sees timer now t) (first_at (is_for_timer timer) events number (only_one (first_where (is_for_timer timer) events) number among))
+    seen_by (reacts_to (happens.Timer timer)) _ events number (timer_sees timer now t) (first_at (reacts_to (happens.Timer timer)) events number (only_one (first_where (reacts_to (happens.Timer timer)) events) number among))
 procedure_sees events (happens.Key key) now t number among =
-    elim (else_either (first_where (is_key key) events) _ number (only_one (key_procedure events key) number among)) [
-      | inl is ↦ seen_by (is_key key) _ events number (key_sees key now t) (first_at (is_key key) events number is)
+    elim (else_either (first_where (reacts_to (happens.Key key)) events) _ number (only_one (option_or (first_where (reacts_to (happens.Key key)) events) (first_where is_any_key events)) number among)) [
+      | inl is ↦ seen_by (reacts_to (happens.Key key)) _ events number (key_sees key now t) (first_at (reacts_to (happens.Key key)) events number is)
       | inr is ↦ seen_by is_any_key _ events number (any_key_sees key now t) (first_at is_any_key events number is)
     ]
 

@@ -7,7 +7,8 @@ use Rattle.run_effects.specs.Event.{selectors_of}
 use Rattle.bytecode.specs.Verified.{IsVerified}
 use Rattle.msg_select.specs.declared.selector.MessageSelector.{MessageSelector}
 use Rattle.msg_select.specs.Selection.{IsChosen, NoneHolds}
-use Rattle.node_rounds.specs.Procedures.{first_where, is_any_key, is_key, is_for_timer, message_procedure}
+use Rattle.node_rounds.specs.declared.occurrence.Occurrence.TheVariants as happens
+use Rattle.node_rounds.specs.Procedures.{first_where, is_any_key, message_procedure, reacts_to}
 use Rattle.node_run.specs.declared.tables.Subject.{Subject}
 use Rattle.node_run.specs.declared.tables.Subject.TheVariants.{Timers, Keys}
 use Rattle.node_run.specs.declared.procedures.Procedures.TheInside.{Inside}
@@ -21,8 +22,8 @@ place_of subject event = None
 
 -- whether a procedure reacts to the timer, or to the key, of a number
 abbrev pub is_for : Subject → ℕ → Event → Bool
-is_for Timers timer event = is_for_timer timer event
-is_for Keys key event = is_key key event
+is_for Timers timer event = reacts_to (happens.Timer timer) event
+is_for Keys key event = reacts_to (happens.Key key) event
 
 -- a table of so many places has at each the first procedure for the timer, or for the key, of this number
 pub record IsTable (subject : Subject) (events : List Event) (count : ℕ) (table : List (Option ℕ)) :
@@ -57,7 +58,8 @@ pub record AreTables (p : Inside) : Type 0 where
   pub verified : IsVerified p.code
   pub numbered : length p.code.handlers < 2 ^ 32
   pub timers : (timer : ℕ) →
-      slice_index_or p.timers.items timer None ≡ first_where (is_for_timer timer) (events_of p.code.handlers)
+      slice_index_or p.timers.items timer None
+      ≡ first_where (reacts_to (happens.Timer timer)) (events_of p.code.handlers)
   pub keys : IsTable Keys (events_of p.code.handlers) 256 p.keys.items
   pub any_key : p.any_key ≡ first_where is_any_key (events_of p.code.handlers)
   pub messages : (key : ℕ) (choice : Option ℕ) → IsChoice p.messages key choice →

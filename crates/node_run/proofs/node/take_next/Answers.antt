@@ -1,7 +1,8 @@
 -- What is left runs handlers that are there.
 use Rattle.std.proofs.Common.{None, refl, subst, sym, ◌<◌, length}
 use Rattle.std.specs.Option.{IfSome}
-use Rattle.node_rounds.specs.Procedures.{is_for_timer}
+use Rattle.node_rounds.specs.declared.occurrence.Occurrence.TheVariants as happens
+use Rattle.node_rounds.specs.Procedures.{reacts_to}
 use Rattle.node_run.proofs.Plans.{still_planned, timer_procedure_exists}
 use Rattle.node_run.proofs.node.take_next.Goals as goal
 
@@ -12,7 +13,7 @@ returns-then-is_some-clause-planned c =
 pub returns-clause-exists : goal.returns-clause-exists
 returns-clause-exists c =
     subst (λ o. IfSome o (λ handler. handler < length c.args.procedures.now.handlers)) (sym c.for_timer.ensures)
-    (timer_procedure_exists c.args.procedures.now.handlers (is_for_timer c.in-Some.timer))
+    (timer_procedure_exists c.args.procedures.now.handlers (reacts_to (happens.Timer c.in-Some.timer)))
 
 pub returns-2-clause-planned : goal.returns-2-clause-planned
 returns-2-clause-planned c =

@@ -1,7 +1,7 @@
 -- What is entered is the first handler so far.
 use Rattle.std.proofs.Common.{rules, arith, ◌<◌, ◌+◌, ◌∙◌, ap, sym, Some, None, length, get_or, drop}
+use Rattle.std.specs.Option.{option_or}
 use Rattle.bytecode.specs.declared.code.Handler.{Handler}
-use Rattle.node_rounds.specs.Procedures.{else_other}
 use Rattle.node_run.proofs.ProcedureTables.{first_of, next_with_place, next_without_place}
 use Rattle.node_run.specs.Inside.Tables.{place_of}
 use Rattle.node_run.proofs.tables.table_of.Goals as goal
@@ -22,8 +22,8 @@ loop-handler-preserved c =
             (λ same.
             let here : w.in-Some.place < length before = omega (arith, same, within, c.loop-handler.invariant.as_many) in
             ap (λ v. get_or v.items place None) w.table-is ∙ ap (λ p. get_or w.enter.new.table.items p None) same ∙ w.enter.ensures.own here
-            ∙ ap (λ p. else_other (get_or before p None) (Some c.loop-handler.number)) (sym same)
-            ∙ ap (λ n. else_other (get_or before place None) (Some n)) c.loop-handler.invariant.numbered)
+            ∙ ap (λ p. option_or (get_or before p None) (Some c.loop-handler.number)) (sym same)
+            ∙ ap (λ n. option_or (get_or before place None) (Some n)) c.loop-handler.invariant.numbered)
             (λ other. ap (λ v. get_or v.items place None) w.table-is ∙ w.enter.ensures.others place other);
       }
       | in_default w ↦ record {
