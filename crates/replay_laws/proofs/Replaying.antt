@@ -11,7 +11,9 @@ use Rattle.can_bus.specs.declared.bus.Ended.{Ended}
 use Rattle.can_bus.specs.declared.transmission.Transmission.{Transmission}
 use Rattle.can_bus.specs.Bus.{BusState, new_bus, ended, after_arbitration, next_moment}
 use Rattle.replay_node.specs.declared.replay.Request.{Request}
-use Rattle.run_meaning.specs.Moments.{next_request, requests_at, requests_after}
+use Rattle.run_meaning.specs.Live.{next_request}
+use Rattle.run_meaning.specs.Moments.{requests_at, requests_after}
+use Rattle.run_meaning.proofs.UpTo.{requests_after_more, requests_at_more}
 use Rattle.replay_laws.proofs.Instants.{Logged, Ask, Instant, with_asks, after_instant, logged_at, logged, AreSpaced}
 use Rattle.replay_laws.proofs.Alone.{idle_bus, sending, nothing_begins, begins}
 
@@ -54,14 +56,17 @@ module _ (bit last before from : ℕ) (reached : last ≤ 2 ^ 64 - 1) (earlier :
 
   none_due : (now : ℕ) (es : List Logged) → now < from → AreSpaced bit last from es → requests_at now (replayed bit before es) ≡ []
   none_due now [] soon spaced = refl
-  none_due now (e ∷ es) soon spaced = ap (λ b. cond b (e.frame ∷ requests_at now (replayed bit (asks_at bit before e) es)) []) (not_now _ now (starts_late now e es soon spaced))
+  none_due now (e ∷ es) soon spaced =
+      let rs = replayed bit (asks_at bit before e) es in
+      let first : Request = record { at = asks_at bit before e; frame = e.frame } in
+      requests_at_more now first rs ∙ ap (λ b. cond b (e.frame ∷ requests_at now rs) []) (not_now _ now (starts_late now e es soon spaced))
 
   all_left : (now : ℕ) (es : List Logged) → now < from → AreSpaced bit last from es → requests_after now (replayed bit before es) ≡ replayed bit before es
   all_left now [] soon spaced = refl
   all_left now (e ∷ es) soon spaced =
       let rs = replayed bit (asks_at bit before e) es in
       let first : Request = record { at = asks_at bit before e; frame = e.frame } in
-      ap (λ b. cond b (requests_after now rs) (first ∷ rs)) (not_now _ now (starts_late now e es soon spaced))
+      requests_after_more now first rs ∙ ap (λ b. cond b (requests_after now rs) (first ∷ rs)) (not_now _ now (starts_late now e es soon spaced))
 
 -- ---- how the bus stands to what is still to be logged
 module _ (bit last : ℕ) (timed : 1 ≤ bit) (small : last < 2 ^ 64) where
@@ -109,9 +114,11 @@ module _ (bit last : ℕ) (timed : 1 ≤ bit) (small : last < 2 ^ 64) where
       let soon : i.moment < e.moment + 3 * bit = omega arith in
       let here = is_now at i.moment now in
       let due : requests_at i.moment (replayed bit before (e ∷ es)) ≡ e.frame ∷ [] =
-      ap (λ b. cond b (e.frame ∷ requests_at i.moment rs) []) here ∙ ap (λ q. e.frame ∷ q) (none_due bit last at (e.moment + 3 * bit) reached behind i.moment es soon spaced.2) in
+      requests_at_more i.moment first rs ∙ ap (λ b. cond b (e.frame ∷ requests_at i.moment rs) []) here
+      ∙ ap (λ q. e.frame ∷ q) (none_due bit last at (e.moment + 3 * bit) reached behind i.moment es soon spaced.2) in
       let stay : requests_after i.moment (replayed bit before (e ∷ es)) ≡ rs =
-      ap (λ b. cond b (requests_after i.moment rs) (first ∷ rs)) here ∙ all_left bit last at (e.moment + 3 * bit) reached behind i.moment es soon spaced.2 in
+      requests_after_more i.moment first rs ∙ ap (λ b. cond b (requests_after i.moment rs) (first ∷ rs)) here
+      ∙ all_left bit last at (e.moment + 3 * bit) reached behind i.moment es soon spaced.2 in
       let one : i.asks ≡ record { node = asks.0; frame = e.frame } ∷ [] = asks.1 ∙ ap (asks_of asks.0) due in
       let begun = begins bit free next asks.0 e.frame i.moment (omega arith) in
       let t : Transmission = sending bit i.moment (record { node = asks.0; number = begun.0; frame = e.frame }) in
@@ -133,8 +140,9 @@ module _ (bit last : ℕ) (timed : 1 ≤ bit) (small : last < 2 ^ 64) where
       let rs = replayed bit at es in
       let first : Request = record { at = at; frame = e.frame } in
       elim (cases_lt i.moment at) [
-        | inl later ↦ idle_waits i free before from next (e ∷ es) low earlier spaced (ap (λ b. cond b (e.frame ∷ requests_at i.moment rs) []) (not_now at i.moment later))
-            (ap (λ b. cond b (requests_after i.moment rs) (first ∷ rs)) (not_now at i.moment later)) asks
+        | inl later ↦ idle_waits i free before from next (e ∷ es) low earlier spaced
+            (requests_at_more i.moment first rs ∙ ap (λ b. cond b (e.frame ∷ requests_at i.moment rs) []) (not_now at i.moment later))
+            (requests_after_more i.moment first rs ∙ ap (λ b. cond b (requests_after i.moment rs) (first ∷ rs)) (not_now at i.moment later)) asks
         | inr here ↦ idle_begins i free before from next e es low earlier spaced (omega arith) asks
       ]
 

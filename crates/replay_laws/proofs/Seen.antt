@@ -1,8 +1,9 @@
 -- What a run logs, as its bus has it: whatever the nodes do, its frames leave the wire at instants up to the end
 -- moment, and each was asked for.
-use Rattle.std.proofs.Common.{◌≡◌, ℕ, ◌+◌, ◌≤◌, true, false, cond, List, [], ◌∷◌, ◌++◌, refl, sym, ap, subst, ◌∙◌, arith}
-use Rattle.std.specs.Prelude.{All, nat_le}
-use Rattle.std.proofs.lemmas.List.Elements.{All-nil, All-cons, All-head, All-tail, All-append, All-map}
+use Rattle.std.proofs.Common.{◌≡◌, ℕ, ◌+◌, ◌≤◌, List, [], ◌∷◌, ◌++◌, refl, sym, ap, subst, ◌∙◌, arith}
+use Rattle.std.specs.Prelude.{All, nat_le, take}
+use Rattle.std.specs.List.{prefix_len}
+use Rattle.std.proofs.lemmas.List.Elements.{All-nil, All-cons, All-head, All-tail, All-append, All-map, All-take, All-drop}
 use Rattle.can_frame.specs.Frame.{FrameFields}
 use Rattle.can_bus.specs.Bus.{BusState, new_bus, ended, one_channel}
 use Rattle.scenario.specs.declared.scenario.KeyItem.{KeyItem}
@@ -56,17 +57,11 @@ module _ (P : FrameFields → Type 0) where
       (all_hold (node + 1) tasks (All-tail (λ o. All TaskP o) own tasks all))
 
   at_hold : (now : ℕ) (rs : List Request) → All RequestP rs → All P (requests_at now rs)
-  at_hold now [] all = All-nil _
-  at_hold now (r ∷ rs) all =
-      elim (nat_le r.at now) as (λ b. All P (cond b (r.frame ∷ requests_at now rs) [])) [
-        | true ↦ All-cons P r.frame (requests_at now rs) (All-head RequestP r rs all) (at_hold now rs (All-tail RequestP r rs all))
-        | false ↦ All-nil _
-      ]
+  at_hold now rs all =
+      let up_to : ℕ = prefix_len (λ (r : Request). nat_le r.at now) rs in All-map P (λ (r : Request). r.frame) (take up_to rs) (All-take RequestP up_to rs all)
 
   after_hold : (now : ℕ) (rs : List Request) → All RequestP rs → All RequestP (requests_after now rs)
-  after_hold now [] all = All-nil _
-  after_hold now (r ∷ rs) all =
-      elim (nat_le r.at now) as (λ b. All RequestP (cond b (requests_after now rs) (r ∷ rs))) [ true ↦ after_hold now rs (All-tail RequestP r rs all) | false ↦ all ]
+  after_hold now rs all = All-drop RequestP (prefix_len (λ (r : Request). nat_le r.at now) rs) rs all
 
   instant_hold : (node now : ℕ) (tasks : List (List Task)) (rs : List Request) → All (λ own. All TaskP own) tasks → All RequestP rs → All AskP (asks_by_all 0 tasks ++ asks_of node (requests_at now rs))
   instant_hold node now tasks rs all requests =

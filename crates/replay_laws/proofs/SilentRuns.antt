@@ -9,7 +9,8 @@ use Rattle.scenario.specs.declared.scenario.KeyItem.{KeyItem}
 use Rattle.replay_node.specs.declared.replay.Request.{Request}
 use Rattle.node_rounds.specs.Reaction.{Reacts}
 use Rattle.node_rounds.specs.Round.{Task}
-use Rattle.run_meaning.specs.Moments.{least, next_key, next_request, next_timer, requests_at, requests_after}
+use Rattle.run_meaning.specs.Live.{next_key, next_request}
+use Rattle.run_meaning.specs.Moments.{least, next_timer, requests_at, requests_after}
 use Rattle.run_meaning.specs.Run.{AreInstants, EndsAt, IsRun, Passed, RunState, ask_stop, new_run, next_instant, quiet_round}
 use Rattle.replay_laws.specs.Tasks.{AllTasks, AsksNothing}
 use Rattle.replay_laws.proofs.Instants.{Logged, Instant, logged_at, logged}

@@ -4,7 +4,6 @@ use Rattle.std.specs.Prelude.{if◌then◌else◌}
 use Rattle.std.specs.List.{AllByRecursion, flat_map}
 use Rattle.std.specs.Option.{option_map_or}
 use Rattle.std.proofs.lemmas.Bool.{cases_lt}
-use Rattle.std.proofs.lemmas.Bool.Decides.{leb_tells}
 use Rattle.std.proofs.lemmas.List.Elements.{All-cons, All-head, All-nil, All-tail}
 use Rattle.can_frame.specs.Frame.{FrameFields}
 use Rattle.can_bus.specs.declared.bus.Ended.{Ended}
@@ -22,11 +21,12 @@ use Rattle.node_rounds.specs.Entries.{after_requests}
 use Rattle.node_rounds.specs.Reaction.{NodeState, NoneOverdue, Reacts, Runner, next_due, reaction_of}
 use Rattle.node_rounds.specs.Round.{Task}
 use Rattle.run_meaning.specs.Bus.{after_all_tasks, after_tasks}
-use Rattle.run_meaning.specs.Live.{CanBeSeen, IsLater, IsLive, IsReady, Stands}
-use Rattle.run_meaning.specs.Moments.{keys_after, keys_at, least, next_key, next_request, next_timer, requests_after, requests_at}
+use Rattle.run_meaning.specs.Live.{CanBeSeen, IsLater, IsLive, IsReady, Stands, next_key, next_request}
+use Rattle.run_meaning.specs.Moments.{keys_after, keys_at, least, next_timer, requests_after, requests_at}
 use Rattle.run_meaning.specs.Run.{AreRounds, EndsAt, RunsOn, HasBegun, IsEnded, IsInstant, IsRound, IsRun, IsSecond, Passed, RunState, after_round, finished, new_run, next_instant, quiet_round, settled}
 use Rattle.run_meaning.proofs.EachPart.{parts_ready, parts_there}
 use Rattle.run_meaning.proofs.Occurring.{CarriesSeen, KeysCan, ReplayCan, all_tasks_seen, arbitrate_seen, ended_seen, finish_seen, keys_after_can, keys_at_can, requests_after_can, requests_at_can, requests_seen}
+use Rattle.run_meaning.proofs.UpTo.{later_behind}
 
 -- ---- moments
 
@@ -82,18 +82,10 @@ ready_until runner sound now other (s ∷ nodes) all h =
     (record { is_sound = all.0.is_sound; on_time = node_bound runner other s both.0 }, ready_until runner sound now other nodes all.1 both.1)
 
 keys_later : (now : ℕ) (keys : List KeyItem) → IfSome (next_key (keys_after now keys)) (λ m. now < m)
-keys_later now [] = tt
-keys_later now (key ∷ keys) = elim (leb_tells key.at now) [
-  | inl due ↦ subst (λ b. IfSome (next_key (if b then keys_after now keys else key ∷ keys)) (λ m. now < m)) (sym due.0) (keys_later now keys)
-  | inr late ↦ subst (λ b. IfSome (next_key (if b then keys_after now keys else key ∷ keys)) (λ m. now < m)) (sym late.0) late.1
-]
+keys_later now keys = later_behind (λ (key : KeyItem). key.at) now keys
 
 requests_later : (now : ℕ) (requests : List Request) → IfSome (next_request (requests_after now requests)) (λ m. now < m)
-requests_later now [] = tt
-requests_later now (one ∷ requests) = elim (leb_tells one.at now) [
-  | inl due ↦ subst (λ b. IfSome (next_request (if b then requests_after now requests else one ∷ requests)) (λ m. now < m)) (sym due.0) (requests_later now requests)
-  | inr late ↦ subst (λ b. IfSome (next_request (if b then requests_after now requests else one ∷ requests)) (λ m. now < m)) (sym late.0) late.1
-]
+requests_later now requests = later_behind (λ (one : Request). one.at) now requests
 
 -- ---- the bus
 

@@ -1,6 +1,7 @@
 -- Lemmas of this crate; crates above use them.
 pub mod DueTimers
 pub mod DueTasks
+pub mod UpTo
 pub mod Occurring
 pub mod EachPart
 pub mod EachRun

@@ -1,8 +1,8 @@
 -- What comes in a run can occur: the keys, the requests of the replay, and the frames that the bus carries.
-use Rattle.std.proofs.Common.{ℕ, ◌+◌, inl, inr, Bool, true, false, List, [], ◌∷◌, Option, Some, None, All, IfSome, sym, subst}
-use Rattle.std.specs.Prelude.{if◌then◌else◌, nat_le}
-use Rattle.std.specs.List.{AllByRecursion}
-use Rattle.std.proofs.lemmas.List.Elements.{All-cons, All-head, All-nil, All-tail}
+use Rattle.std.proofs.Common.{ℕ, ◌+◌, inl, inr, List, [], ◌∷◌, Option, Some, None, All, IfSome, sym, subst}
+use Rattle.std.specs.Prelude.{nat_le, take}
+use Rattle.std.specs.List.{AllByRecursion, prefix_len}
+use Rattle.std.proofs.lemmas.List.Elements.{All-drop, All-head, All-map, All-tail, All-take}
 use Rattle.can_frame.specs.Frame.{FrameFields}
 use Rattle.can_bus.specs.declared.bus.Ended.{Ended}
 use Rattle.can_bus.specs.Laws.{FramesCome}
@@ -38,39 +38,21 @@ CarriesSeen {B} can bus b = (frame : FrameFields) → bus.carries b frame → Ca
 module _ (can : Occurrence → Type 0) (now : ℕ) where
   -- the keys of a moment, and those after it
   pub keys_at_can : (keys : List KeyItem) → KeysCan can keys → All (λ key. can (happens.Key key)) (keys_at now keys)
-  keys_at_can [] are = All-nil (λ key. can (happens.Key key))
-  keys_at_can (key ∷ keys) are =
-      go (nat_le key.at now) (All-head (λ x. can (happens.Key x.key)) key keys are) (keys_at_can keys (All-tail (λ x. can (happens.Key x.key)) key keys are))
-    where
-      go : (b : Bool) → can (happens.Key key.key) → All (λ x. can (happens.Key x)) (keys_at now keys) → All (λ x. can (happens.Key x)) (if b then key.key ∷ keys_at now keys else [])
-      go true here more = All-cons (λ x. can (happens.Key x)) key.key (keys_at now keys) here more
-      go false here more = All-nil (λ x. can (happens.Key x))
+  keys_at_can keys are =
+      let up_to : ℕ = prefix_len (λ (key : KeyItem). nat_le key.at now) keys in
+      All-map (λ key. can (happens.Key key)) (λ (key : KeyItem). key.key) (take up_to keys) (All-take (λ (key : KeyItem). can (happens.Key key.key)) up_to keys are)
 
   pub keys_after_can : (keys : List KeyItem) → KeysCan can keys → KeysCan can (keys_after now keys)
-  keys_after_can [] are = are
-  keys_after_can (key ∷ keys) are = go (nat_le key.at now) (keys_after_can keys (All-tail (λ x. can (happens.Key x.key)) key keys are))
-    where
-      go : (b : Bool) → KeysCan can (keys_after now keys) → KeysCan can (if b then keys_after now keys else key ∷ keys)
-      go true more = more
-      go false more = are
+  keys_after_can keys are = All-drop (λ (key : KeyItem). can (happens.Key key.key)) (prefix_len (λ (key : KeyItem). nat_le key.at now) keys) keys are
 
   -- the requests of a moment, and those after it
   pub requests_at_can : (requests : List Request) → ReplayCan can requests → All (CanBeSeen can) (requests_at now requests)
-  requests_at_can [] are = All-nil (CanBeSeen can)
-  requests_at_can (one ∷ requests) are =
-      go (nat_le one.at now) (All-head (λ x. CanBeSeen can x.frame) one requests are) (requests_at_can requests (All-tail (λ x. CanBeSeen can x.frame) one requests are))
-    where
-      go : (b : Bool) → CanBeSeen can one.frame → All (CanBeSeen can) (requests_at now requests) → All (CanBeSeen can) (if b then one.frame ∷ requests_at now requests else [])
-      go true here more = All-cons (CanBeSeen can) one.frame (requests_at now requests) here more
-      go false here more = All-nil (CanBeSeen can)
+  requests_at_can requests are =
+      let up_to : ℕ = prefix_len (λ (one : Request). nat_le one.at now) requests in
+      All-map (CanBeSeen can) (λ (one : Request). one.frame) (take up_to requests) (All-take (λ (one : Request). CanBeSeen can one.frame) up_to requests are)
 
   pub requests_after_can : (requests : List Request) → ReplayCan can requests → ReplayCan can (requests_after now requests)
-  requests_after_can [] are = are
-  requests_after_can (one ∷ requests) are = go (nat_le one.at now) (requests_after_can requests (All-tail (λ x. CanBeSeen can x.frame) one requests are))
-    where
-      go : (b : Bool) → ReplayCan can (requests_after now requests) → ReplayCan can (if b then requests_after now requests else one ∷ requests)
-      go true more = more
-      go false more = are
+  requests_after_can requests are = All-drop (λ (one : Request). CanBeSeen can one.frame) (prefix_len (λ (one : Request). nat_le one.at now) requests) requests are
 
 -- ---- frames on a bus
 

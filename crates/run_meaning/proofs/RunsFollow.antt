@@ -12,7 +12,8 @@ use Rattle.node_rounds.specs.Follows.{Follows}
 use Rattle.node_rounds.specs.Reaction.{Reacts, next_due}
 use Rattle.node_rounds.specs.Round.{Task}
 use Rattle.node_rounds.proofs.FollowLemmas.{parts_follow}
-use Rattle.run_meaning.specs.Moments.{keys_at, least, next_key, next_request, next_timer, requests_at}
+use Rattle.run_meaning.specs.Live.{next_key, next_request}
+use Rattle.run_meaning.specs.Moments.{keys_at, least, next_timer, requests_at}
 use Rattle.run_meaning.specs.Run.{AreInstants, AreParts, AreRounds, EndsAt, RunsOn, HasBegun, IsEnded, IsInstant, IsRound, IsRun, IsSecond, Passed, RunState, finished, next_instant, seen_by, settled, with_nodes}
 
 -- ---- moments

@@ -1,8 +1,11 @@
 -- When nodes do each task that they have, and how a run stands between two instants.
-use Rattle.std.specs.Prelude.{◌≡◌, ℕ, ◌<◌, Bool, false, List, All, IfSome}
+use Rattle.std.specs.Prelude.{◌≡◌, ℕ, ◌<◌, Bool, false, List, Option, All, IfSome, slice_get}
 use Rattle.std.specs.List.{AllByRecursion}
+use Rattle.std.specs.Option.{option_map}
 use Rattle.can_bus.specs.Meaning.{BusMeaning}
 use Rattle.can_frame.specs.Frame.{FrameFields}
+use Rattle.scenario.specs.declared.scenario.KeyItem.{KeyItem}
+use Rattle.replay_node.specs.declared.replay.Request.{Request}
 use Rattle.timer_queue.specs.Timers.{IsTimers}
 use Rattle.node_rounds.specs.declared.occurrence.Occurrence.{Occurrence}
 use Rattle.node_rounds.specs.declared.occurrence.Occurrence.TheVariants.{Frame, Key, PreStart, Start, Stop, Timer}
@@ -10,8 +13,15 @@ use Rattle.node_rounds.specs.declared.occurrence.Trigger.{Trigger}
 use Rattle.node_rounds.specs.Follows.{IsFor}
 use Rattle.node_rounds.specs.Reaction.{Done, NodeState, NoneOverdue, Runner, reaction_of}
 use Rattle.node_rounds.specs.Round.{Rest}
-use Rattle.run_meaning.specs.Moments.{next_key, next_request}
 use Rattle.run_meaning.specs.Run.{RunState}
+
+-- the moment of the next key
+abbrev pub next_key : List KeyItem → Option ℕ
+next_key keys = option_map (λ key. key.at) (slice_get keys 0)
+
+-- the moment of the next request of the replay
+abbrev pub next_request : List Request → Option ℕ
+next_request requests = option_map (λ request. request.at) (slice_get requests 0)
 
 -- a frame can be seen, by its sender and by others
 abbrev pub CanBeSeen : (Occurrence → Type 0) → FrameFields → Type 0

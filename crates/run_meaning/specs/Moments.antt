@@ -1,6 +1,8 @@
 -- Which moment comes next in a run, and what comes at it from outside: keys that are pressed, and requests
 -- of the log that is replayed. Both stand by moment.
-use Rattle.std.specs.Prelude.{ℕ, nat_le, if◌then◌else◌, List, [], ◌∷◌, Option, None, Some, min}
+use Rattle.std.specs.Prelude.{ℕ, nat_le, List, [], ◌∷◌, Option, None, Some, drop, map, min, slice_get}
+use Rattle.std.specs.List.{prefix_len, take_while}
+use Rattle.std.specs.Option.{option_map}
 use Rattle.can_frame.specs.Frame.{FrameFields}
 use Rattle.can_bus.specs.Meaning.{BusMeaning}
 use Rattle.scenario.specs.declared.scenario.KeyItem.{KeyItem}
@@ -15,39 +17,24 @@ least (Some a) (Some b) = Some (min a b)
 
 -- ---- keys
 
--- the moment of the next key
-abbrev pub next_key : List KeyItem → Option ℕ
-next_key [] = None
-next_key (key ∷ keys) = Some key.at
-
 -- the keys up to a moment, in order
 abbrev pub keys_at : ℕ → List KeyItem → List ℕ
-keys_at now [] = []
-keys_at now (key ∷ keys) = if nat_le key.at now then key.key ∷ keys_at now keys else []
+keys_at now keys = map (λ key. key.key) (take_while (λ key. nat_le key.at now) keys)
 
 -- the keys after a moment
 abbrev pub keys_after : ℕ → List KeyItem → List KeyItem
-keys_after now [] = []
-keys_after now (key ∷ keys) = if nat_le key.at now then keys_after now keys else key ∷ keys
+keys_after now keys = drop (prefix_len (λ key. nat_le key.at now) keys) keys
 
 -- ---- requests of the replay
 
--- the moment of the next request
-abbrev pub next_request : List Request → Option ℕ
-next_request [] = None
-next_request (request ∷ requests) = Some request.at
-
 -- the frames that are requested up to a moment, in order
 abbrev pub requests_at : ℕ → List Request → List FrameFields
-requests_at now [] = []
-requests_at now (request ∷ requests) =
-    if nat_le request.at now then request.frame ∷ requests_at now requests else []
+requests_at now requests =
+    map (λ request. request.frame) (take_while (λ request. nat_le request.at now) requests)
 
 -- the requests after a moment
 abbrev pub requests_after : ℕ → List Request → List Request
-requests_after now [] = []
-requests_after now (request ∷ requests) =
-    if nat_le request.at now then requests_after now requests else request ∷ requests
+requests_after now requests = drop (prefix_len (λ request. nat_le request.at now) requests) requests
 
 -- ---- the next moment
 
@@ -60,4 +47,6 @@ next_timer {S} r (node ∷ nodes) = least (next_due r node) (next_timer r nodes)
 abbrev pub next_of_all : {S B : Type 0} → Reacts S → BusMeaning B → List S → B → List KeyItem → List Request
     → Option ℕ
 next_of_all {S} {B} r bus nodes b keys requests =
-    least (bus.next_moment b) (least (next_timer r nodes) (least (next_key keys) (next_request requests)))
+    least (bus.next_moment b) (least (next_timer r nodes)
+    (least (option_map (λ key. key.at) (slice_get keys 0))
+    (option_map (λ request. request.at) (slice_get requests 0))))

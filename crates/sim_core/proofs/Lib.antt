@@ -1,4 +1,5 @@
 -- Lemmas of this crate.
+pub mod KeyLemmas
 pub mod Errors
 pub mod ListLemmas
 pub mod LoadedNodes
