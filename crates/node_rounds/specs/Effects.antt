@@ -1,6 +1,6 @@
 -- What the effects of a run come to (CAPL manual: write, output, stop, setTimer, setTimerCyclic,
 -- cancelTimer). What a trap and the limit of turns do is this project's own.
-use Rattle.std.specs.Prelude.{ℕ, ◌<◌, Bool, true, false, List, [], ◌∷◌, codes, ⊤}
+use Rattle.std.specs.Prelude.{ℕ, ◌<◌, Bool, true, false, List, [], ◌∷◌, fold, codes, ⊤}
 use Rattle.can_frame.specs.Frame.{FrameFields}
 use Rattle.run_effects.specs.Effect.{Effect, Line, Send, Stop, Set, Cancel}
 use Rattle.run_effects.specs.declared.outcome.Outcome.{Outcome}
@@ -34,8 +34,7 @@ timers_after_one now timers effect = timers
 
 -- the timers after the settings and cancellings, in order, at a moment
 abbrev pub timers_after : ℕ → Timers → List Effect → Timers
-timers_after now timers [] = timers
-timers_after now timers (effect ∷ effects) = timers_after now (timers_after_one now timers effect) effects
+timers_after now timers effects = fold (timers_after_one now) timers effects
 
 -- an effect names a timer among so many, and sets it for a duration that can be set
 abbrev pub IsTimerEffect : ℕ → Effect → Type 0

@@ -1,5 +1,5 @@
 -- What the tasks of a node leave in a record and on a bus.
-use Rattle.std.specs.Prelude.{◌≡◌, ℕ, List, [], ◌∷◌, map}
+use Rattle.std.specs.Prelude.{◌≡◌, ℕ, List, [], ◌∷◌, fold, map}
 use Rattle.can_frame.specs.Frame.{FrameFields}
 use Rattle.run_records.specs.declared.record.Noted.{Noted}
 use Rattle.run_records.specs.declared.record.Noted.TheVariants as entry
@@ -17,6 +17,4 @@ TakesEntries {R} meaning before (noted ∷ entries) after =
 
 -- the bus after the requests of a node, in order
 abbrev pub after_requests : {B : Type 0} → (B → ℕ → FrameFields → B) → B → ℕ → List FrameFields → B
-after_requests {B} after_request bus node [] = bus
-after_requests {B} after_request bus node (frame ∷ frames) =
-    after_requests after_request (after_request bus node frame) node frames
+after_requests {B} after_request bus node frames = fold (λ b frame. after_request b node frame) bus frames
