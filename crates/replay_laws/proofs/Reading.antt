@@ -1,7 +1,7 @@
 -- What the lines of a well spaced log read as.
 use Rattle.std.proofs.Common.{◌≡◌, ℕ, ◌^◌, ◌<◌, ◌≤◌, true, false, cond, List, [], ◌∷◌, ◌++◌, map, refl, sym, ap, subst, ◌∙◌, inl, inr, arith, append_assoc}
 use Rattle.std.specs.Prelude.{All, codes, decimal, ◌==◌}
-use Rattle.std.specs.List.{onto_first}
+use Rattle.std.specs.List.{AllZip, onto_first}
 use Rattle.std.specs.Str.{bytes_eq}
 use Rattle.std.proofs.lemmas.Bool.Decides.{nat_tests}
 use Rattle.std.proofs.lemmas.Slice.Eq.{bytes_eq-Decides}
@@ -18,7 +18,7 @@ use Rattle.log_line.specs.declared.line.Line.{Line}
 use Rattle.log_line.specs.declared.line.Line.TheVariants.{Entry}
 use Rattle.log_line.proofs.OneReading.{IsDataByte, data_in}
 use Rattle.log_line.proofs.WrittenLemmas.{frame_written}
-use Rattle.replay_node.specs.Log.{AllRead, LogReads}
+use Rattle.replay_node.specs.Log.{LogReads}
 use Rattle.replay_node.specs.Replay.{entries_on, entry_on}
 use Rattle.replay_node.specs.Spaced.{lines_written}
 use Rattle.replay_laws.proofs.Entries.{IsWithin}
@@ -118,7 +118,7 @@ module _ (once : (line : List ℕ) (reading other : Line) → Reads line reading
   of_text : (e : declared.Entry) → CanRead e → Reads (text_of e) (Entry e)
   of_text e can = reads e.seconds e.micros e.interface e.frame can.0 can.1 can.2 can.3
 
-  read_as : (name : List ℕ) (es : List declared.Entry) (readings : List Line) → All CanRead es → All (λ e. e.interface ≡ name) es → AllRead (map text_of es) readings → entries_on name readings ≡ es
+  read_as : (name : List ℕ) (es : List declared.Entry) (readings : List Line) → All CanRead es → All (λ e. e.interface ≡ name) es → AllZip Reads (map text_of es) readings → entries_on name readings ≡ es
   read_as name [] [] all on read = refl
   read_as name [] (reading ∷ readings) all on read = absurd read
   read_as name (e ∷ es) [] all on read = absurd read
@@ -138,6 +138,6 @@ module _ (once : (line : List ℕ) (reading other : Line) → Reads line reading
 
   -- a log of lines reads as its entries
   pub log_reads : (name : List ℕ) (es : List declared.Entry) (readings : List Line) → All CanRead es → All (λ e. e.interface ≡ name) es → LogReads (lines_written es) readings → entries_on name readings ≡ es
-  log_reads name es readings all on (inl read) = read_as name es readings all on (subst (λ lines. AllRead lines readings) (lines_are es all) read)
+  log_reads name es readings all on (inl read) = read_as name es readings all on (subst (λ lines. AllZip Reads lines readings) (lines_are es all) read)
   log_reads name es readings all on (inr ends) =
       let unread = ends.1 in absurd (all_have es unread.lines unread.last all (sym (lines_are es all) ∙ unread.are) unread.no_reading)

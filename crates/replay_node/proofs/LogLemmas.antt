@@ -2,16 +2,16 @@
 use Rattle.std.proofs.Common.{◌≡◌, ◌≢◌, ℕ, ◌+◌, ◌-◌, ◌<◌, ◌≤◌, ◌⊎◌, inl, inr, Bool, true, false, List, [], ◌∷◌, ◌++◌, length, get_or, refl, sym, ap, subst, ◌∙◌, arith, append_assoc, append-nil, length-append}
 use Rattle.std.specs.Prelude.{◌==◌}
 use Rattle.std.specs.Bool.{OnFalse}
-use Rattle.std.specs.List.{onto_first}
+use Rattle.std.specs.List.{AllZip, onto_first}
 use Rattle.std.proofs.lemmas.List.{get_or-append_right}
 use Rattle.text_parts.specs.Line.{text_lines, line_end}
 use Rattle.log_line.specs.Reading.{Reads}
 use Rattle.log_line.specs.declared.line.Line.{Line}
 use Rattle.log_line.specs.declared.line.Line.TheVariants.{Skip}
-use Rattle.replay_node.specs.Log.{is_ended, HasNoReading, AllRead, EndsUnread, IsBadLine, LogReads}
+use Rattle.replay_node.specs.Log.{is_ended, HasNoReading, EndsUnread, IsBadLine, LogReads}
 
 -- one more line that reads
-all_read_more : (lines : List (List ℕ)) (readings : List Line) (line : List ℕ) (reading : Line) → AllRead lines readings → Reads line reading → AllRead (lines ++ line ∷ []) (readings ++ reading ∷ [])
+all_read_more : (lines : List (List ℕ)) (readings : List Line) (line : List ℕ) (reading : Line) → AllZip Reads lines readings → Reads line reading → AllZip Reads (lines ++ line ∷ []) (readings ++ reading ∷ [])
 all_read_more [] [] line reading read is = (is, tt)
 all_read_more [] (r ∷ readings) line reading read is = absurd read
 all_read_more (l ∷ lines) [] line reading read is = absurd read
@@ -80,7 +80,7 @@ pub record HasRead (log rest : List ℕ) (number : ℕ) (readings : List Line) :
   pub lines : List (List ℕ)
   pub text : log ≡ front ++ rest
   pub split : text_lines log ≡ lines ++ text_lines rest
-  pub read : AllRead lines readings
+  pub read : AllZip Reads lines readings
   pub count : number ≡ length lines
   pub room : number + length rest ≤ length log
 
@@ -168,4 +168,4 @@ unread_end log rest line after false number readings has first is none = inr (re
 pub read_all : (log rest : List ℕ) (number : ℕ) (readings : List Line) → HasRead log rest number readings → rest ≡ [] → LogReads log readings
 read_all log rest number readings has none =
     let same : text_lines log ≡ has.lines = has.split ∙ ap (λ l. has.lines ++ text_lines l) none ∙ append-nil has.lines in
-    inl (subst (λ l. AllRead l readings) (sym same) has.read)
+    inl (subst (λ l. AllZip Reads l readings) (sym same) has.read)

@@ -1,11 +1,12 @@
 -- A log has one replay, or one bad line.
 use Rattle.std.proofs.Common.{◌≡◌, ℕ, ◌+◌, inl, inr, List, [], ◌∷◌, ◌++◌, length, refl, sym, ap, subst, ◌∙◌}
+use Rattle.std.specs.List.{AllZip}
 use Rattle.text_parts.specs.Line.{text_lines}
 use Rattle.log_line.specs.Reading.{Reads}
 use Rattle.log_line.specs.declared.line.Line.{Line}
 use Rattle.log_line.specs.declared.line.Line.TheVariants.{Skip}
 use Rattle.scenario.specs.declared.scenario.Epoch.{Epoch}
-use Rattle.replay_node.specs.Log.{AllRead, EndsUnread, HasNoReading, IsBadLine, LogReads}
+use Rattle.replay_node.specs.Log.{EndsUnread, HasNoReading, IsBadLine, LogReads}
 use Rattle.replay_node.specs.Replay.{IsReplay, IsReplayOf, entries_on, requests_from}
 use Rattle.replay_node.specs.declared.replay.Replay.{Replay}
 
@@ -13,7 +14,7 @@ use Rattle.replay_node.specs.declared.replay.Replay.{Replay}
 abbrev pub OneReading : Type 0
 OneReading = (line : List ℕ) (reading other : Line) → Reads line reading → Reads line other → reading ≡ other
 
-lines_read_once : OneReading → (lines : List (List ℕ)) (readings others : List Line) → AllRead lines readings → AllRead lines others → readings ≡ others
+lines_read_once : OneReading → (lines : List (List ℕ)) (readings others : List Line) → AllZip Reads lines readings → AllZip Reads lines others → readings ≡ others
 lines_read_once one [] [] [] is also = refl
 lines_read_once one [] [] (y ∷ others) is also = absurd also
 lines_read_once one [] (x ∷ readings) others is also = absurd is
@@ -25,7 +26,7 @@ lines_read_once one (line ∷ lines) (x ∷ readings) (y ∷ others) is also =
     (λ i. first i ∷ rest i)
 
 -- a line without a reading is among no lines that are read
-unread_among : (lines : List (List ℕ)) (line : List ℕ) (behind : List (List ℕ)) (readings : List Line) → HasNoReading line → AllRead (lines ++ line ∷ behind) readings → ⊥
+unread_among : (lines : List (List ℕ)) (line : List ℕ) (behind : List (List ℕ)) (readings : List Line) → HasNoReading line → AllZip Reads (lines ++ line ∷ behind) readings → ⊥
 unread_among [] line behind [] none read = read
 unread_among [] line behind (x ∷ readings) none read = none x read.0
 unread_among (l ∷ lines) line behind [] none read = read
@@ -40,7 +41,7 @@ apart_more : (line : List ℕ) (lines others behind more : List (List ℕ)) → 
 apart_more line lines others behind more are = record { before = ap (λ l. line ∷ l) are.before; after = are.after }
 
 first_unread : (lines others : List (List ℕ)) (line other : List ℕ) (behind more : List (List ℕ)) (readings found : List Line) → lines ++ line ∷ behind ≡ others ++ other ∷ more
-    → AllRead lines readings → HasNoReading line → AllRead others found → HasNoReading other → AreApart lines others behind more
+    → AllZip Reads lines readings → HasNoReading line → AllZip Reads others found → HasNoReading other → AreApart lines others behind more
 first_unread [] [] line other behind more readings found same read none seen missing = record { before = refl; after = cc }
 first_unread [] (y ∷ others) line other behind more readings [] same read none seen missing = absurd seen
 first_unread [] (y ∷ others) line other behind more readings (f ∷ found) same read none seen missing =
@@ -63,11 +64,11 @@ ends_once : (log : List ℕ) (before others : List Line) → OneReading → Ends
 ends_once log before others one is also =
     let same : is.lines ++ is.last ∷ [] ≡ also.lines ++ also.last ∷ [] = sym is.are ∙ also.are in
     let apart = first_unread is.lines also.lines is.last also.last [] [] before others same is.read is.no_reading also.read also.no_reading in
-    lines_read_once one also.lines before others (subst (λ l. AllRead l before) apart.before is.read) also.read
+    lines_read_once one also.lines before others (subst (λ l. AllZip Reads l before) apart.before is.read) also.read
 
 -- a log that is read has no unread end
-read_or_unread : (log : List ℕ) (readings before : List Line) → AllRead (text_lines log) readings → EndsUnread log before → ⊥
-read_or_unread log readings before read ends = unread_among ends.lines ends.last [] readings ends.no_reading (subst (λ l. AllRead l readings) ends.are read)
+read_or_unread : (log : List ℕ) (readings before : List Line) → AllZip Reads (text_lines log) readings → EndsUnread log before → ⊥
+read_or_unread log readings before read ends = unread_among ends.lines ends.last [] readings ends.no_reading (subst (λ l. AllZip Reads l readings) ends.are read)
 
 reads_once : OneReading → (log : List ℕ) (readings others : List Line) → LogReads log readings → LogReads log others → readings ≡ others
 reads_once one log readings others (inl is) (inl also) = lines_read_once one (text_lines log) readings others is also
@@ -97,7 +98,7 @@ bad_line_once log number other is also =
 
 -- a log that reads has no bad line
 reads_or_bad : (log : List ℕ) (readings : List Line) (number : ℕ) → LogReads log readings → IsBadLine log number → ⊥
-reads_or_bad log readings number (inl read) bad = unread_among bad.lines bad.line bad.behind readings bad.no_reading (subst (λ l. AllRead l readings) bad.are read)
+reads_or_bad log readings number (inl read) bad = unread_among bad.lines bad.line bad.behind readings bad.no_reading (subst (λ l. AllZip Reads l readings) bad.are read)
 reads_or_bad log readings number (inr (before, ends, end)) bad =
     let same : ends.lines ++ ends.last ∷ [] ≡ bad.lines ++ bad.line ∷ bad.behind = sym ends.are ∙ bad.are in
     let apart = first_unread ends.lines bad.lines ends.last bad.line [] bad.behind before bad.read.0 same ends.read ends.no_reading bad.read.1 bad.no_reading in

@@ -1,6 +1,7 @@
 -- What holds of the requests of every replay.
 use Rattle.std.proofs.Common.{◌≡◌, ℕ, zero, suc, ◌^◌, ◌<◌, ◌≤◌, inl, inr, Bool, true, false, List, [], ◌∷◌, ◌++◌, length, get_or, refl, sym, subst, ◌∙◌, arith, append-nil}
 use Rattle.std.specs.Prelude.{All, max, Result, Ok, Err, IfOk}
+use Rattle.std.specs.List.{AllZip}
 use Rattle.std.specs.List.Sorted.{IsNonDecreasingBy}
 use Rattle.std.specs.Str.{bytes_eq}
 use Rattle.std.proofs.lemmas.List.Elements.{All-nil, All-cons, All-head, All-tail, All-append}
@@ -15,7 +16,7 @@ use Rattle.log_line.specs.declared.line.Line.TheVariants.{Entry, Skip, Empty}
 use Rattle.scenario.specs.Within.{IsEpochWithin}
 use Rattle.scenario.specs.declared.scenario.Epoch.{Epoch}
 use Rattle.scenario.specs.declared.scenario.Epoch.TheVariants.{At, First}
-use Rattle.replay_node.specs.Log.{AllRead, LogReads}
+use Rattle.replay_node.specs.Log.{LogReads}
 use Rattle.replay_node.specs.Replay.{IsReplay, entries_on, entry_on, epoch_seconds, requests_from, start_of}
 use Rattle.replay_node.specs.declared.replay.Replay.{Replay}
 use Rattle.replay_node.specs.declared.replay.Request.{Request}
@@ -66,7 +67,7 @@ line_loggable can interface line (Entry entry) reads = one_loggable interface en
 line_loggable can interface line Skip reads = All-nil HasLoggable
 line_loggable can interface line Empty reads = All-nil HasLoggable
 
-lines_loggable : ReadLoggable → (interface : List ℕ) (lines : List (List ℕ)) (readings : List Line) → AllRead lines readings → All HasLoggable (entries_on interface readings)
+lines_loggable : ReadLoggable → (interface : List ℕ) (lines : List (List ℕ)) (readings : List Line) → AllZip Reads lines readings → All HasLoggable (entries_on interface readings)
 lines_loggable can interface [] [] read = All-nil HasLoggable
 lines_loggable can interface [] (x ∷ readings) read = absurd read
 lines_loggable can interface (line ∷ lines) [] read = absurd read

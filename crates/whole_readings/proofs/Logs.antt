@@ -1,6 +1,7 @@
 -- Each line of a log has a reading or none, and each log a replay or a bad line.
 use Rattle.std.proofs.Common.{◌≡◌, ◌≢◌, ◌<◌, ◌≤◌, ◌+◌, ◌-◌, ℕ, zero, suc, Bool, true, false, List, [], ◌∷◌, ◌++◌, length, replicate, All, inl, inr, refl, sym, ap, subst, ◌∙◌, arith, append_assoc}
 use Rattle.std.specs.Prelude.{◌⊎◌, codes}
+use Rattle.std.specs.List.{AllZip}
 use Rattle.text_parts.specs.Line.{text_lines}
 use Rattle.text_parts.specs.Number.{IsDigit, IsHexDigit, number_in}
 use Rattle.can_frame.specs.Frame.{FrameFields}
@@ -13,7 +14,7 @@ use Rattle.log_line.specs.Reading.{IsPrintable, IsInterface, IsDirection, IsPass
 use Rattle.log_line.specs.declared.line.Line.{Line}
 use Rattle.log_line.specs.declared.line.Line.TheVariants.{Entry, Skip, Empty}
 use Rattle.scenario.specs.declared.scenario.Epoch.{Epoch}
-use Rattle.replay_node.specs.Log.{is_ended, HasNoReading, AllRead, LogReads, IsBadLine}
+use Rattle.replay_node.specs.Log.{is_ended, HasNoReading, LogReads, IsBadLine}
 use Rattle.replay_node.specs.Replay.{entries_on, skipped_on, epoch_seconds, requests_from, IsReplay}
 use Rattle.replay_node.specs.declared.replay.Replay.{Replay}
 use Rattle.whole_readings.proofs.Known.{Known, known_by, known_both, known_three, known_either, known_not, known_same, known_le, known_text, known_all, known_split, HasSplit}
@@ -478,10 +479,10 @@ known_reading line =
 abbrev HasUnread : List (List ℕ) → Type 0
 HasUnread all =
     (lines : List (List ℕ)) × (line : List ℕ) × (behind : List (List ℕ)) × (all ≡ lines ++ line ∷ behind)
-    × ((readings : List Line) × AllRead lines readings) × HasNoReading line
+    × ((readings : List Line) × AllZip Reads lines readings) × HasNoReading line
 
 abbrev HasReadings : List (List ℕ) → Type 0
-HasReadings all = (readings : List Line) × AllRead all readings
+HasReadings all = (readings : List Line) × AllZip Reads all readings
 
 one_line : (line : List ℕ) (all : List (List ℕ)) → ((reading : Line) × Reads line reading) ⊎ HasNoReading line
     → HasReadings all ⊎ HasUnread all → HasReadings (line ∷ all) ⊎ HasUnread (line ∷ all)
