@@ -98,13 +98,12 @@ module _ (P : FrameFields → Type 0) where
       → IsRun r one_channel until (new_run nodes (new_bus bit) keys requests) rounds after → AllTasks TaskP rounds → All RequestP requests → IsSeen until (new_bus bit) (frames_in rounds)
   run_seen {S} r until bit nodes keys requests rounds after is tasks all =
       let before : RunState S BusState = new_run nodes (new_bus bit) keys requests in
-      let goes = is.goes_on in
       let first = first_instant r before is.first is.begun refl is.begins in
       let Holds : Passed → Type 0 = λ q. All (λ own. All TaskP own) q.tasks in
-      let own : AllTasks TaskP (is.first ++ is.more) = subst (AllTasks TaskP) is.are tasks in
-      let begun : AllTasks TaskP (quiet_round 0 first.pre_start ∷ quiet_round 0 first.start ∷ []) = subst (AllTasks TaskP) first.are (tasks_first TaskP is.first is.more own) in
-      let more : AllTasks TaskP (rounds_of goes.instants ++ goes.stop) = subst (AllTasks TaskP) goes.are (tasks_more TaskP is.first is.more own) in
-      let rest = instants_seen r until is.begun goes.instants goes.last goes.goes (tasks_first TaskP (rounds_of goes.instants) goes.stop more)
+      let own : AllTasks TaskP (is.first ++ (rounds_of is.instants ++ is.stop)) = subst (AllTasks TaskP) is.are tasks in
+      let begun : AllTasks TaskP (quiet_round 0 first.pre_start ∷ quiet_round 0 first.start ∷ []) = subst (AllTasks TaskP) first.are (tasks_first TaskP is.first (rounds_of is.instants ++ is.stop) own) in
+      let more : AllTasks TaskP (rounds_of is.instants ++ is.stop) = tasks_more TaskP is.first (rounds_of is.instants ++ is.stop) own in
+      let rest = instants_seen r until is.begun is.instants is.last is.goes (tasks_first TaskP (rounds_of is.instants) is.stop more)
       (subst (λ rs. All RequestP rs) (sym first.requests) (after_hold 0 requests all)) in
       let pre = asks_by_all 0 first.pre_start in
       let start = asks_by_all 0 first.start in
@@ -119,5 +118,5 @@ module _ (P : FrameFields → Type 0) where
             (All-append AskP (pre ++ start) source (All-append AskP pre start (all_hold 0 first.pre_start pre_all) (all_hold 0 first.start start_all))
             (frames_hold first.node (requests_at 0 requests) (at_hold 0 requests all)))
             rest.asks;
-        are = ap (λ b. logged b rest.instants) (sym first.bus) ∙ rest.are ∙ sym (frames_of_run is.first is.more goes.stop rounds goes.instants (ap frames_in first.are) (ap frames_in (goes.ending).are) goes.are is.are);
+        are = ap (λ b. logged b rest.instants) (sym first.bus) ∙ rest.are ∙ sym (frames_of_run is.first (rounds_of is.instants ++ is.stop) is.stop rounds is.instants (ap frames_in first.are) (ap frames_in (is.ending).are) refl is.are);
       }

@@ -122,16 +122,15 @@ pub run_replayed : {S : Type 0} (r : Reacts S) (until bit : ℕ) (nodes : List S
     → IsRun r one_channel until (new_run nodes (new_bus bit) keys requests) rounds after → AllTasks AsksNothing rounds → IsReplayed until (new_bus bit) requests (frames_in rounds)
 run_replayed {S} r until bit nodes keys requests rounds after is tasks =
     let before : RunState S BusState = new_run nodes (new_bus bit) keys requests in
-    let goes = is.goes_on in
     let first = first_instant r before is.first is.begun refl is.begins in
     let Holds : Passed → Type 0 = λ q. All (λ own. All AsksNothing own) q.tasks in
-    let own : AllTasks AsksNothing (is.first ++ is.more) = subst (AllTasks AsksNothing) is.are tasks in
-    let begun : AllTasks AsksNothing (quiet_round 0 first.pre_start ∷ quiet_round 0 first.start ∷ []) = subst (AllTasks AsksNothing) first.are (tasks_first AsksNothing is.first is.more own) in
-    let more : AllTasks AsksNothing (rounds_of goes.instants ++ goes.stop) = subst (AllTasks AsksNothing) goes.are (tasks_more AsksNothing is.first is.more own) in
+    let own : AllTasks AsksNothing (is.first ++ (rounds_of is.instants ++ is.stop)) = subst (AllTasks AsksNothing) is.are tasks in
+    let begun : AllTasks AsksNothing (quiet_round 0 first.pre_start ∷ quiet_round 0 first.start ∷ []) = subst (AllTasks AsksNothing) first.are (tasks_first AsksNothing is.first (rounds_of is.instants ++ is.stop) own) in
+    let more : AllTasks AsksNothing (rounds_of is.instants ++ is.stop) = tasks_more AsksNothing is.first (rounds_of is.instants ++ is.stop) own in
     let pre_all = All-head Holds (quiet_round 0 first.pre_start) (quiet_round 0 first.start ∷ []) begun in
     let start_all = All-head Holds (quiet_round 0 first.start) [] (All-tail Holds (quiet_round 0 first.pre_start) (quiet_round 0 first.start ∷ []) begun) in
     let stops : (is.begun).stops ≡ false = first.stops ∙ ap (λ b. b || ask_stop first.start) (no_stop first.pre_start pre_all) ∙ no_stop first.start start_all in
-    let rest = instants_replayed r until (goes.ending).moment is.begun goes.instants goes.last goes.goes (tasks_first AsksNothing (rounds_of goes.instants) goes.stop more) stops (goes.ending).ends in
+    let rest = instants_replayed r until (is.ending).moment is.begun is.instants is.last is.goes (tasks_first AsksNothing (rounds_of is.instants) is.stop more) stops (is.ending).ends in
     let pre = asks_by_all 0 first.pre_start in
     let start = asks_by_all 0 first.start in
     let source = asks_of first.node (requests_at 0 requests) in
@@ -145,5 +144,5 @@ run_replayed {S} r until bit nodes keys requests rounds after is tasks =
         (first.node, ap (λ l. l ++ start ++ source) (all_nothing 0 first.pre_start pre_all) ∙ ap (λ l. l ++ source) (all_nothing 0 first.start start_all)),
         subst (λ b. AreReplays until b (requests_after 0 requests) rest.instants) first.bus (subst (λ rs. AreReplays until (is.begun).bus rs rest.instants) first.requests rest.replays),
       );
-      are = ap (λ b. logged b rest.instants) (sym first.bus) ∙ rest.are ∙ sym (frames_of_run is.first is.more goes.stop rounds goes.instants (ap frames_in first.are) (ap frames_in (goes.ending).are) goes.are is.are);
+      are = ap (λ b. logged b rest.instants) (sym first.bus) ∙ rest.are ∙ sym (frames_of_run is.first (rounds_of is.instants ++ is.stop) is.stop rounds is.instants (ap frames_in first.are) (ap frames_in (is.ending).are) refl is.are);
     }

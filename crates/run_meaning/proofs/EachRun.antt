@@ -23,9 +23,11 @@ use Rattle.node_rounds.specs.Round.{Task}
 use Rattle.run_meaning.specs.Bus.{after_all_tasks, after_tasks}
 use Rattle.run_meaning.specs.Live.{CanBeSeen, IsLater, IsLive, IsReady, Stands, next_key, next_request}
 use Rattle.run_meaning.specs.Moments.{keys_after, keys_at, least, next_timer, requests_after, requests_at}
-use Rattle.run_meaning.specs.Run.{AreRounds, EndsAt, RunsOn, HasBegun, IsEnded, IsInstant, IsRound, IsRun, IsSecond, Passed, RunState, after_round, finished, new_run, next_instant, quiet_round, settled}
+use Rattle.run_meaning.specs.Rest.{RunsOn}
+use Rattle.run_meaning.specs.Run.{AreRounds, EndsAt, HasBegun, IsEnded, IsInstant, IsRound, IsRun, IsSecond, Passed, RunState, after_round, finished, new_run, next_instant, quiet_round, settled}
 use Rattle.run_meaning.proofs.EachPart.{parts_ready, parts_there}
 use Rattle.run_meaning.proofs.Occurring.{CarriesSeen, KeysCan, ReplayCan, all_tasks_seen, arbitrate_seen, ended_seen, finish_seen, keys_after_can, keys_at_can, requests_after_can, requests_at_can, requests_seen}
+use Rattle.run_meaning.proofs.RunParts.{run_of_parts}
 use Rattle.run_meaning.proofs.UpTo.{later_behind}
 
 -- ---- moments
@@ -469,4 +471,4 @@ module _
         let begun = begun_there runner sound can live bus come nodes b keys requests keys_can ready in
         let stands = (begun_stands nodes b keys requests begun.0 begun.1 ready later sound_b empty keys_can requests_can frames begun.2).0 in
         let rest = goes_on_there until begun.1 stands in
-        (begun.0 ++ rest.0, rest.1, record { first = begun.0; begun = begun.1; more = rest.0; begins = begun.2; goes_on = rest.2; are = refl })
+        (begun.0 ++ rest.0, rest.1, run_of_parts begun.0 rest.0 begun.1 begun.2 rest.2 refl)

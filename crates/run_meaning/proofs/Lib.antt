@@ -4,6 +4,7 @@ pub mod DueTasks
 pub mod UpTo
 pub mod Occurring
 pub mod EachPart
+pub mod RunParts
 pub mod EachRun
 pub mod OrderLemmas
 pub mod RunsFollow

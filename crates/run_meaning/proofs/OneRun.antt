@@ -7,8 +7,10 @@ use Rattle.node_rounds.specs.declared.round.Round.TheVariants as round_of
 use Rattle.node_rounds.specs.Reaction.{Reacts}
 use Rattle.node_rounds.specs.Round.{Task}
 use Rattle.run_meaning.specs.Moments.{keys_at}
-use Rattle.run_meaning.specs.Run.{AreInstants, AreParts, AreRounds, EndsAt, RunsOn, HasBegun, IsEnded, IsInstant, IsRound, IsRun, IsSecond, Passed, RunState, finished, next_instant, quiet_round, settled}
+use Rattle.run_meaning.specs.Rest.{RunsOn, rounds_left}
+use Rattle.run_meaning.specs.Run.{AreInstants, AreParts, AreRounds, EndsAt, HasBegun, IsEnded, IsInstant, IsRound, IsRun, IsSecond, Passed, RunState, finished, next_instant, quiet_round, settled}
 use Rattle.run_meaning.proofs.Once.{IsOnce, parts_once, round_once, some_same}
+use Rattle.run_meaning.proofs.RunParts.{runs_on}
 
 -- ---- instants
 
@@ -109,6 +111,6 @@ pub run_once : {S B : Type 0} (r : Reacts S) → IsOnce r → (bus : BusMeaning 
     → IsRun r bus until before rounds after → IsRun r bus until before others end → (rounds ≡ others) × (after ≡ end)
 run_once {S} {B} r once bus until before after end rounds others x y =
     let one = begun_once r once bus before x.first y.first x.begun y.begun x.begins y.begins in
-    let two = goes_on_once r once bus until y.begun x.more y.more after end (subst (λ (s : RunState S B). RunsOn r bus until s x.more after) one.1 x.goes_on) y.goes_on in
+    let two = goes_on_once r once bus until y.begun (rounds_left x) (rounds_left y) after end (subst (λ (s : RunState S B). RunsOn r bus until s (rounds_left x) after) one.1 (runs_on x)) (runs_on y) in
     let by : List Passed → List Passed → List Passed = λ first more. first ++ more in
-    (x.are ∙ ap (λ first. by first x.more) one.0 ∙ ap (by y.first) two.0 ∙ sym y.are, two.1)
+    (x.are ∙ ap (λ first. by first (rounds_left x)) one.0 ∙ ap (by y.first) two.0 ∙ sym y.are, two.1)

@@ -14,7 +14,9 @@ use Rattle.node_rounds.specs.Round.{Task}
 use Rattle.node_rounds.proofs.FollowLemmas.{parts_follow}
 use Rattle.run_meaning.specs.Live.{next_key, next_request}
 use Rattle.run_meaning.specs.Moments.{keys_at, least, next_timer, requests_at}
-use Rattle.run_meaning.specs.Run.{AreInstants, AreParts, AreRounds, EndsAt, RunsOn, HasBegun, IsEnded, IsInstant, IsRound, IsRun, IsSecond, Passed, RunState, finished, next_instant, seen_by, settled, with_nodes}
+use Rattle.run_meaning.specs.Rest.{RunsOn, rounds_left}
+use Rattle.run_meaning.specs.Run.{AreInstants, AreParts, AreRounds, EndsAt, HasBegun, IsEnded, IsInstant, IsRound, IsRun, IsSecond, Passed, RunState, finished, next_instant, seen_by, settled, with_nodes}
+use Rattle.run_meaning.proofs.RunParts.{run_of_parts, runs_on}
 
 -- ---- moments
 
@@ -174,5 +176,5 @@ pub runs_follow : {S T B : Type 0} {related : S → T → Type 0} {r : Reacts S}
     → (ends : List T) × IsRun q bus until (with_nodes s ts) rounds (with_nodes after ends) × AllZip related after.nodes ends
 runs_follow follows bus until s after ts rounds alike run =
     let one = begun_follows follows bus s ts run.first run.begun alike run.begins in
-    let two = goes_on_follows follows bus until run.begun one.0 run.more after one.2 run.goes_on in
-    (two.0, record { first = run.first; begun = with_nodes run.begun one.0; more = run.more; begins = one.1; goes_on = two.1; are = run.are }, two.2)
+    let two = goes_on_follows follows bus until run.begun one.0 (rounds_left run) after one.2 (runs_on run) in
+    (two.0, run_of_parts run.first (rounds_left run) (with_nodes run.begun one.0) one.1 two.1 run.are, two.2)

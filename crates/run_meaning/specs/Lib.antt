@@ -2,6 +2,7 @@
 pub mod Bus
 pub mod Moments
 pub mod Run
+pub mod Rest
 pub mod Order
 pub mod Steps
 pub mod Counts

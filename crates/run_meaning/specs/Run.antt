@@ -187,23 +187,16 @@ pub record IsEnded {S B : Type 0} (r : Reacts S) (bus : BusMeaning B) (until : �
   pub stands : after ≡ record before { moment = moment; nodes = nodes }
   pub are : rounds ≡ quiet_round moment tasks ∷ []
 
--- What is left of a run after an instant: further instants, and the end.
-pub record RunsOn {S B : Type 0} (r : Reacts S) (bus : BusMeaning B) (until : ℕ) (before : RunState S B)
-    (rounds : List Passed) (after : RunState S B) : Type 0 where
-  pub instants : List (List Passed)
-  pub last : RunState S B
-  pub stop : List Passed
-  pub goes : AreInstants r bus until before instants last
-  pub ending : IsEnded r bus until last stop after
-  pub are : rounds ≡ flat_map (λ instant. instant) instants ++ stop
-
--- A run up to an end moment, from how it stands before all rounds: these are its rounds, and so it stands at
--- the end.
+-- A run up to an end moment, from how it stands before all rounds: it begins, instants follow, and it ends.
+-- These are its rounds, and so it stands at the end.
 pub record IsRun {S B : Type 0} (r : Reacts S) (bus : BusMeaning B) (until : ℕ) (before : RunState S B)
     (rounds : List Passed) (after : RunState S B) : Type 0 where
   pub first : List Passed
   pub begun : RunState S B
-  pub more : List Passed
+  pub instants : List (List Passed)
+  pub last : RunState S B
+  pub stop : List Passed
   pub begins : HasBegun r bus before first begun
-  pub goes_on : RunsOn r bus until begun more after
-  pub are : rounds ≡ first ++ more
+  pub goes : AreInstants r bus until begun instants last
+  pub ending : IsEnded r bus until last stop after
+  pub are : rounds ≡ first ++ (flat_map (λ instant. instant) instants ++ stop)

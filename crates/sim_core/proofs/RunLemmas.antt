@@ -11,10 +11,12 @@ use Rattle.node_run.specs.Code.{CodeMemory, by_code, code_reaction}
 use Rattle.node_run.specs.Sound.{CanOccur, IsSound}
 use Rattle.run_meaning.specs.Done.{AreCut, AreDone}
 use Rattle.run_meaning.specs.Live.{Stands}
-use Rattle.run_meaning.specs.Run.{EndsAt, RunsOn, HasBegun, IsEnded, IsInstant, IsRound, IsRun, Passed, RunState, next_instant, quiet_round}
+use Rattle.run_meaning.specs.Rest.{RunsOn}
+use Rattle.run_meaning.specs.Run.{EndsAt, HasBegun, IsEnded, IsInstant, IsRound, IsRun, Passed, RunState, next_instant, quiet_round}
 use Rattle.run_meaning.specs.Steps.{picks_left, steps}
 use Rattle.run_meaning.proofs.DoneLemmas.{cut_before, cut_more, done_more, picks_left_append, steps_append}
 use Rattle.run_meaning.proofs.EachRun.{goes_on_there, instant_first, instant_stands, ready_at_end, stop_first}
+use Rattle.run_meaning.proofs.RunParts.{run_of_parts}
 use Rattle.sim_core.specs.Core.{CoreState, DoesInstant, HasRun, HaveRows, IsInstantCut, IsNextInstant, IsRunCut, KeepsCore, rows_of, run_of}
 use Rattle.sim_core.specs.declared.simulation.Phase.TheVariants.{Going, New, Over}
 use Rattle.sim_core.specs.Inside.Kept.{IsAtRest, IsCore}
@@ -117,14 +119,7 @@ module _ {B R : Type 0} (bus : BusMeaning B) (meaning : RecordMeaning R) (before
       → length meter_now ≡ length meter → meaning.faults into ≤ meaning.faults into_now → HasGone bus meaning before into meter now into_now meter_now
   gone_first now into_now meter_now is_new does rows long faults = record {
     rounds = does.rounds;
-    leads = λ rest after goes. record {
-      first = does.rounds;
-      begun = run_of now;
-      more = rest;
-      begins = is_begun bus before does.rounds (run_of now) is_new does.is_next;
-      goes_on = goes;
-      are = refl;
-    };
+    leads = λ rest after goes. run_of_parts does.rounds rest (run_of now) (is_begun bus before does.rounds (run_of now) is_new does.is_next) goes refl;
     done = does.done;
     picks = does.picks;
     goes = does.goes;
@@ -246,6 +241,6 @@ module _ {B R : Type 0} (bus : BusMeaning B) (meaning : RecordMeaning R) (before
       record {
         rounds = cut.rounds ++ rest.0;
         end = rest.1;
-        is_run = record { first = cut.rounds; begun = cut.after; more = rest.0; begins = begun; goes_on = rest.2; are = refl };
+        is_run = run_of_parts cut.rounds rest.0 cut.after begun rest.2 refl;
         cut = cut_as refl (sym (steps_append cut.rounds rest.0 before.picks)) (cut_before cut.cut (steps rest.0 (picks_left cut.rounds before.picks)));
       }

@@ -86,7 +86,6 @@ module _ {B : Type 0} (bus : BusMeaning B) where
   pub codes_stay : (until : ℕ) (before : RunState (NodeState CodeMemory) B) (rounds : List Passed) (after : RunState (NodeState CodeMemory) B) → IsRun code_reaction bus until before rounds after
       → codes_of after.nodes ≡ codes_of before.nodes
   codes_stay until before rounds after run =
-      let on = run.goes_on in
-      let end = on.ending in
-      ap (λ (s : RunState (NodeState CodeMemory) B). codes_of s.nodes) end.stands ∙ by_parts _ end.moment None [] 0 on.last.nodes end.tasks end.nodes end.parts
-      ∙ by_instants until run.begun on.instants on.last on.goes ∙ by_begin before run.first run.begun run.begins
+      let end = run.ending in
+      ap (λ (s : RunState (NodeState CodeMemory) B). codes_of s.nodes) end.stands ∙ by_parts _ end.moment None [] 0 run.last.nodes end.tasks end.nodes end.parts
+      ∙ by_instants until run.begun run.instants run.last run.goes ∙ by_begin before run.first run.begun run.begins

@@ -109,8 +109,7 @@ module _ {S B : Type 0} (r : Reacts S) (bus : BusMeaning B) (sound : S → Type 
   -- it holds of each task of a run
   pub run_each : (until : ℕ) (before : RunState S B) (rounds : List Passed) (after : RunState S B) → AllByRecursion sound before.nodes → IsRun r bus until before rounds after → AllTasks X rounds
   run_each until before rounds after held is =
-      let goes = is.goes_on in
       let first = begun_each before is.first is.begun held is.begins in
-      let more = instants_each until is.begun goes.instants goes.last first.1 goes.goes in
-      let last = ended_each until goes.last goes.stop after more.1 goes.ending in
-      subst (AllTasks X) (sym is.are) (both_rounds is.first is.more first.0 (subst (AllTasks X) (sym goes.are) (both_rounds (rounds_of goes.instants) goes.stop more.0 last)))
+      let more = instants_each until is.begun is.instants is.last first.1 is.goes in
+      let last = ended_each until is.last is.stop after more.1 is.ending in
+      subst (AllTasks X) (sym is.are) (both_rounds is.first (rounds_of is.instants ++ is.stop) first.0 (both_rounds (rounds_of is.instants) is.stop more.0 last))

@@ -237,13 +237,12 @@ module _ {S B : Type 0} (r : Reacts S) (bus : BusMeaning B) (until : ℕ) where
         let more : List ℕ = picks_after tasks picks in
         let behind : List ℕ = picks_after begins.start more in
         let start = round_made commute in_start None (keys_at 0 keys) over made.end.happened begins.start starts.nodes more starts.parts in
-        let on = run.goes_on in
-        let next : NextMade (settled bus begins.end) start.end.happened (steps (flat_map (λ (instant : List Passed). instant) on.instants ++ on.stop) behind) last =
-        instants_made on.instants (settled bus begins.end) on.last last on.stop (subst (λ (x : RunState S B). AreInstants r bus until x on.instants on.last) begins.stands on.goes) on.ending start.end.happened behind in
-        let later = subst (λ (x : RunState S B). NextMade (settled bus x) start.end.happened (steps (flat_map (λ (instant : List Passed). instant) on.instants ++ on.stop) behind) last) starts.stands next in
-        let rest : List Passed = flat_map (λ (instant : List Passed). instant) on.instants ++ on.stop in
+        let next : NextMade (settled bus begins.end) start.end.happened (steps (flat_map (λ (instant : List Passed). instant) run.instants ++ run.stop) behind) last =
+        instants_made run.instants (settled bus begins.end) run.last last run.stop (subst (λ (x : RunState S B). AreInstants r bus until x run.instants run.last) begins.stands run.goes) run.ending start.end.happened behind in
+        let later = subst (λ (x : RunState S B). NextMade (settled bus x) start.end.happened (steps (flat_map (λ (instant : List Passed). instant) run.instants ++ run.stop) behind) last) starts.stands next in
+        let rest : List Passed = flat_map (λ (instant : List Passed). instant) run.instants ++ run.stop in
         let begun : List Passed = quiet_round 0 tasks ∷ quiet_round 0 begins.start ∷ [] in
-        let all : begun ++ rest ≡ rounds = ap (λ (ps : List Passed). ps ++ rest) (sym begins.are) ∙ ap (λ (ps : List Passed). run.first ++ ps) (sym on.are) ∙ sym run.are in
+        let all : begun ++ rest ≡ rounds = ap (λ (ps : List Passed). ps ++ rest) (sym begins.are) ∙ sym run.are in
         subst (λ (ps : List Passed). Made (first_world r s) [] (steps ps picks) last) all
         (closed_made in_pre_start None [] s [] tasks begins.pre_starts.nodes picks (steps (quiet_round 0 begins.start ∷ rest) more) last made
         (at_round r in_start None (keys_at 0 keys) over made.end.happened) refl

@@ -19,7 +19,8 @@ use Rattle.node_rounds.specs.Reaction.{Reacts}
 use Rattle.node_rounds.specs.Round.{IsDone, Task}
 use Rattle.run_meaning.specs.Moments.{keys_at}
 use Rattle.run_meaning.specs.Order.{first_tasks, nodes_with_tasks, picked, picks_after}
-use Rattle.run_meaning.specs.Run.{AreParts, RunsOn, IsRun, IsSecond, Passed, RunState, after_round, finished, new_run, quiet_round, settled}
+use Rattle.run_meaning.specs.Rest.{RunsOn}
+use Rattle.run_meaning.specs.Run.{AreParts, IsRun, IsSecond, Passed, RunState, after_round, finished, new_run, quiet_round, settled}
 use Rattle.run_meaning.specs.Steps.{Step, steps, task_done, task_steps}
 use Rattle.run_meaning.proofs.OrderLemmas.{picks_put, put_task, steps_put}
 use Rattle.task_orders.specs.Moves.{BeginsAfter, BeginsInstant, BeginsNext, BeginsSecond, BeginsStop, DoesTask, IsInterleaving, IsPossible, Move, MoveAll, closes, does_task}
@@ -326,7 +327,9 @@ by_picks {S} {B} r bus until commute nodes b keys requests moves end inter =
       is_run = record {
         first = quiet_round 0 by.tasks ∷ quiet_round 0 start.tasks ∷ [];
         begun = settled bus start.between;
-        more = start.more;
+        instants = start.goes_on.instants;
+        last = start.goes_on.last;
+        stop = start.goes_on.stop;
         begins = record {
           is_new = refl;
           before_start = by.tasks;
@@ -338,8 +341,9 @@ by_picks {S} {B} r bus until commute nodes b keys requests moves end inter =
           stands = refl;
           are = refl;
         };
-        goes_on = start.goes_on;
-        are = refl;
+        goes = start.goes_on.goes;
+        ending = start.goes_on.ending;
+        are = ap (λ (more : List Passed). quiet_round 0 by.tasks ∷ quiet_round 0 start.tasks ∷ more) start.goes_on.are;
       };
       happens = by.happens ∙ ap (λ (l : List Passed). steps (quiet_round 0 by.tasks ∷ l) by.picks) start.are;
       few = by.few;
