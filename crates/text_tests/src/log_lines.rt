@@ -196,5 +196,6 @@ fn lines_of_some_frames_are_written(rt: HostRuntime) -> Result<(), Fail> {
 #[test]
 fn laws_can_be_called() {
     laws::one_reading();
+    laws::read_frames_are_loggable();
     laws::written_lines_read();
 }

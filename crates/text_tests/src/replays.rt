@@ -3,7 +3,7 @@
 ghost use Rattle.std.specs.Prelude.{◌<◌, ◌^◌, length};
 
 use can_frame::Ident;
-use replay_node::{ReplayRefusal, Request, requests};
+use replay_node::{ReplayRefusal, Request, laws, requests};
 use scenario::Epoch;
 use std::test::Fail;
 
@@ -78,4 +78,9 @@ fn the_first_bad_line_is_named(rt: HostRuntime) {
     let log = b"(0.000100) a 000#\r\nhello\nagain\n";
     let bad = requests(rt.alloc(), log, b"a", 2, Epoch::At(0));
     assert!(rt; matches!(bad, Err(ReplayRefusal::BadLine { line: 2 })));
+}
+
+#[test]
+fn laws_can_be_called() {
+    laws::one_replay();
 }
