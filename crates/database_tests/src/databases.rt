@@ -2,7 +2,7 @@
 
 mod made;
 
-use dbc_reader::{Database, DbcRefusal, read};
+use dbc_reader::{Database, DbcRefusal, laws, read};
 use made::{PAYLOAD, ROWS, Row, TEXTS};
 use signal_codec::{Layout, get, usable};
 use std::process::Abort;
@@ -159,4 +159,9 @@ fn texts_are_refused_in_their_line(rt: HostRuntime) {
         let refusal = answer(&rt, text).err();
         assert_eq!(rt; refusal, Some(DbcRefusal::Text { line }));
     }
+}
+
+#[test]
+fn laws_can_be_called() {
+    laws::one_reading();
 }
