@@ -1,6 +1,6 @@
 // The order of functions, and recursion.
 
-use check_calls::Calls;
+use check_calls::{Calls, laws};
 use check_names::Names;
 use parser_tests::sources::program;
 use std::alloc::Global;
@@ -83,4 +83,9 @@ fn functions_that_go_round_are_recursive(rt: HostRuntime) -> Result<(), Fail> {
         assert!(rt; are_told(rt.alloc(), &calls, wanted)?, "{source}");
     }
     Ok(())
+}
+
+#[test]
+fn laws_can_be_called() {
+    laws::orders_are_good();
 }
