@@ -592,6 +592,8 @@ fn long_sources_are_refused(rt: HostRuntime) -> Result<(), Fail> {
 fn runs_have_laws() {
     laws::one_answer();
     laws::accepted_inputs_have_an_answer();
+    laws::logs_are_recorded();
+    laws::logs_are_reproduced();
     laws::numbers_are_numerals();
     laws::picks_change_order_alone();
 }
