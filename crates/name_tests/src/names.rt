@@ -57,6 +57,17 @@ fn check_variables(rt: &impl Abort, names: &Names) {
     }
 }
 
+/// Variables are counted, and found by name in the procedure that declares them, wherever in it. The facts of
+/// names can be asked for.
+fn check_owners(rt: &impl Abort, names: &Names) {
+    assert_eq!(rt; names.variable_count(), 3);
+    assert_eq!(rt; names.first_named(0, b"a"), Some(0));
+    assert_eq!(rt; names.first_named(1, b"a"), None);
+    assert_eq!(rt; names.first_named(1, b"c"), Some(2));
+    names.variables_are_few();
+    names.functions_rise();
+}
+
 /// A number with the mark of extended identifiers.
 fn number(value: u64) -> Expr {
     Expr::Num {
@@ -117,6 +128,7 @@ fn names_mean_what_is_declared_before(rt: HostRuntime) -> Result<(), Fail> {
     let names = &named.names;
     check_meanings(&rt, names);
     check_variables(&rt, names);
+    check_owners(&rt, names);
     check_selectors(&rt, rt.alloc(), names)?;
     check_types(&rt, names);
     Ok(())
