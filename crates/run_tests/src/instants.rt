@@ -25,9 +25,10 @@ struct Desk {
 }
 
 impl Desk {
-    /// A simulation of which nothing has happened yet.
+    /// A simulation of which nothing has happened yet, and which has a run.
     fn make(alloc: Global, start: Start<PlainBus>) -> Desk {
         let Start { core, meter } = start;
+        core.has_a_run();
         Desk {
             core,
             into: MemRecord::new(alloc),
