@@ -10,7 +10,8 @@ use Rattle.std.proofs.lemmas.List.Quantifiers.{all_pairs_push}
 use Rattle.std.proofs.lemmas.Slice.Eq.{bytes_eq-Decides}
 use Rattle.capl_lexer.specs.declared.token.Token.{Token}
 use Rattle.capl_include.specs.Answer.{HaveDifferentNames}
-use Rattle.capl_include.specs.Expansion.{Expansion, has_met, meeting}
+use Rattle.capl_include.specs.Expansion.{Expansion, meeting}
+use Rattle.capl_include.specs.Inside.Step.{has_met}
 use Rattle.capl_include.specs.Inside.Once.{GoesOnce, ReadsEach}
 use Rattle.texts.specs.Fault.{raised, raised_by}
 use Rattle.capl_include.specs.declared.expanded.SourceFile.{SourceFile}

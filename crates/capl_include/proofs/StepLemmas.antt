@@ -6,7 +6,8 @@ use Rattle.capl_lexer.specs.declared.token.Tok.TheVariants as tok
 use Rattle.capl_lexer.specs.declared.token.Token.{Token}
 use Rattle.capl_include.specs.Blame.{place_blame}
 use Rattle.capl_include.specs.Name.{included_name, is_included_name}
-use Rattle.capl_include.specs.Expansion.{Include, Refused, Passed, Visited, includes_of, include_then, has_met}
+use Rattle.capl_include.specs.Expansion.{Include, includes_of, include_then}
+use Rattle.capl_include.specs.Inside.Step.{Refused, Passed, Visited, has_met}
 use Rattle.capl_include.specs.Inside.Visit.{HasStep, StepAgrees}
 use Rattle.capl_include.specs.Inside.Refusal.{IsBlamedOrNoMemory}
 use Rattle.capl_include.specs.declared.refusal.ExpandRefusal.{ExpandRefusal}

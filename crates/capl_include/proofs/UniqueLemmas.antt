@@ -1,12 +1,15 @@
 -- An expansion comes to one outcome.
 use Rattle.std.proofs.Common.{◌≡◌, ◌+◌, ℕ, zero, suc, Bool, true, false, List, [], ◌∷◌, length, Option, Some, None, inl, inr, sym, ap, subst, ◌∙◌, nat_lt, nat_le}
+use Rattle.std.specs.Prelude.{not}
 use Rattle.texts.specs.declared.blame.Blame.{Blame}
 use Rattle.texts.specs.Rule.{source_rule}
 use Rattle.capl_lexer.specs.Reading.{line_at, column_at, token_limit}
 use Rattle.capl_lexer.specs.declared.token.Token.{Token}
 use Rattle.capl_lexer.proofs.ReadingLemmas.{reading-unique, bad_place-reading, bad_place-unique}
 use Rattle.capl_include.specs.Blame.{too_long_rule, file_blame, place_blame}
-use Rattle.capl_include.specs.Expansion.{Contents, Expansion, Outcome, Include, Inclusion, Went, Stopped, Refused, Passed, Visited, Visits, GoesOn, IsIncluded, AreIncluded, StopsIf, VisitsTokens, VisitsText, VisitsHeld, IsVisit, includes_of, step_of, meeting, appending, file_limit, byte_limit}
+use Rattle.capl_include.specs.Name.{included_name, is_included_name}
+use Rattle.capl_include.specs.Inside.Step.{GoesPast, has_met}
+use Rattle.capl_include.specs.Expansion.{Contents, Expansion, Outcome, Include, Went, Stopped, Visits, GoesOn, IsIncluded, AreIncluded, StopsIf, VisitsTokens, VisitsText, VisitsHeld, IsVisit, includes_of, meeting, appending, file_limit, byte_limit}
 
 -- the visit of a file comes to one outcome
 abbrev pub AreOnce : Visits → Type 0
@@ -23,20 +26,29 @@ goes-unique : (after : Outcome) (one other : Outcome) (First Second : Expansion 
 goes-unique (Went next) one other First Second rest first second = rest next first second
 goes-unique (Stopped blame) one other First Second rest first second = first ∙ sym second
 
-step-unique : (IsVisited : Visits) → AreOnce IsVisited → (step : Inclusion) (at : Expansion) (one other : Outcome) (First Second : Expansion → Type 0)
+past-unique : (IsVisited : Visits) → AreOnce IsVisited → (before : Bool) (name : List ℕ) (at : Expansion) (one other : Outcome) (First Second : Expansion → Type 0)
     → ((next : Expansion) → First next → Second next → one ≡ other)
-    → IsIncluded IsVisited step at one First → IsIncluded IsVisited step at other Second → one ≡ other
-step-unique IsVisited once (Refused blame) at one other First Second rest first second = first ∙ sym second
-step-unique IsVisited once Passed at one other First Second rest first second = rest at first second
-step-unique IsVisited once (Visited name) at one other First Second rest (after, visit, goes) (beyond, also, goes_too) =
+    → GoesPast IsVisited before name at one First → GoesPast IsVisited before name at other Second → one ≡ other
+past-unique IsVisited once true name at one other First Second rest first second = rest at first second
+past-unique IsVisited once false name at one other First Second rest (after, visit, goes) (beyond, also, goes_too) =
     let same = once name at after beyond visit also in
     goes-unique beyond one other First Second rest (subst (λ (o : Outcome). GoesOn o one First) same goes) goes_too
+
+include-unique : (IsVisited : Visits) → AreOnce IsVisited → (naming : List ℕ) (include : Include) (at : Expansion) (one other : Outcome) (First Second : Expansion → Type 0)
+    → ((next : Expansion) → First next → Second next → one ≡ other)
+    → IsIncluded IsVisited naming include at one First → IsIncluded IsVisited naming include at other Second → one ≡ other
+include-unique IsVisited once naming include at one other First Second rest first second =
+    let name : List ℕ = included_name naming include.own in
+    let before : Bool = has_met at.met name in
+    stops-unique (not (is_included_name include.own name)) (place_blame naming include.line include.column (source_rule 8)) one other
+    (GoesPast IsVisited before name at one First) (GoesPast IsVisited before name at other Second)
+    (past-unique IsVisited once before name at one other First Second rest) first second
 
 included-unique : (IsVisited : Visits) → AreOnce IsVisited → (naming : List ℕ) (includes : List Include) (at : Expansion) (one other : Outcome)
     → AreIncluded IsVisited naming includes at one → AreIncluded IsVisited naming includes at other → one ≡ other
 included-unique IsVisited once naming [] at one other first second = first ∙ sym second
 included-unique IsVisited once naming (include ∷ includes) at one other first second =
-    step-unique IsVisited once (step_of naming include at.met) at one other
+    include-unique IsVisited once naming include at one other
     (λ next. AreIncluded IsVisited naming includes next one) (λ next. AreIncluded IsVisited naming includes next other)
     (λ next. included-unique IsVisited once naming includes next one other) first second
 

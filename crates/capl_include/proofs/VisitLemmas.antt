@@ -1,6 +1,6 @@
 -- The visit of a file, part by part.
 use Rattle.std.proofs.Common.{◌≡◌, ◌<◌, ◌≤◌, ◌+◌, ℕ, zero, suc, Bool, true, false, List, [], ◌∷◌, ◌++◌, length, get_or, drop, Option, Some, None, Result, Ok, Err, inl, inr, refl, sym, ap, subst, ◌∙◌, arith, nat_lt, nat_le}
-use Rattle.std.specs.Prelude.{◌⊎◌, IfSome, IfErr, IsErrAnd}
+use Rattle.std.specs.Prelude.{◌⊎◌, IfSome, IfErr, IsErrAnd, if◌then◌else◌, not}
 use Rattle.std.proofs.lemmas.Bool.Decides.{nat_tests}
 use Rattle.std.proofs.lemmas.List.{drop_more, drop_all}
 use Rattle.texts.specs.declared.blame.Blame.{Blame}
@@ -10,7 +10,9 @@ use Rattle.capl_lexer.specs.declared.token.Tok.{Tok}
 use Rattle.capl_lexer.specs.declared.token.Tok.TheVariants as tok
 use Rattle.capl_lexer.specs.declared.token.Token.{Token}
 use Rattle.capl_include.specs.Blame.{too_long_rule, file_blame, place_blame}
-use Rattle.capl_include.specs.Expansion.{Contents, Expansion, Outcome, Inclusion, Went, Stopped, Refused, Passed, Visited, Visits, IsIncluded, AreIncluded, StopsIf, VisitsText, VisitsHeld, IsVisit, includes_of, include_then, meeting, appending, file_limit, byte_limit}
+use Rattle.capl_include.specs.Name.{included_name, is_included_name}
+use Rattle.capl_include.specs.Expansion.{Contents, Expansion, Outcome, Include, Went, Stopped, Visits, IsIncluded, AreIncluded, StopsIf, VisitsText, VisitsHeld, IsVisit, includes_of, include_then, meeting, appending, file_limit, byte_limit}
+use Rattle.capl_include.specs.Inside.Step.{Inclusion, Refused, Passed, Visited, GoesBy, GoesPast, has_met, step_of}
 use Rattle.capl_include.specs.Inside.Visit.{IsRead, IsReadBlame, ReadAgrees, HasStep, StepAgrees, IsVisitAt, IsVisitRefusal}
 use Rattle.capl_include.specs.Inside.Refusal.{IsBlamedOrNoMemory}
 use Rattle.capl_include.specs.declared.refusal.ExpandRefusal.{ExpandRefusal}
@@ -128,14 +130,32 @@ no_include IsVisited naming token tokens at outcome none included =
     subst (λ includes. AreIncluded IsVisited naming includes at outcome)
     (sym (includes-cons token tokens ∙ ap (λ first. first ++ includes_of tokens) none)) included
 
+-- an include goes as its step does
+by_step : (IsVisited : Visits) (naming : List ℕ) (include : Include) (at : Expansion) (outcome : Outcome) (Rest : Expansion → Type 0)
+    → GoesBy IsVisited (step_of naming include at.met) at outcome Rest → IsIncluded IsVisited naming include at outcome Rest
+by_step IsVisited naming include at outcome Rest = cases (is_included_name include.own name) (has_met at.met name)
+  where
+    name : List ℕ
+    name = included_name naming include.own
+
+    blame : Blame
+    blame = place_blame naming include.line include.column (source_rule 8)
+
+    cases : (good before : Bool) → GoesBy IsVisited (if good then (if before then Passed else Visited name) else Refused blame) at outcome Rest
+        → StopsIf (not good) blame outcome (GoesPast IsVisited before name at outcome Rest)
+    cases false before goes = goes
+    cases true true goes = goes
+    cases true false goes = goes
+
 with_include : (IsVisited : Visits) (naming : List ℕ) (token : Token) (tokens : List Token) (at : Expansion) (outcome : Outcome) (step : Inclusion)
     → HasStep naming token at.met step
-    → IsIncluded IsVisited step at outcome (λ next. AreIncluded IsVisited naming (includes_of tokens) next outcome)
+    → GoesBy IsVisited step at outcome (λ next. AreIncluded IsVisited naming (includes_of tokens) next outcome)
     → AreIncluded IsVisited naming (includes_of (token ∷ tokens)) at outcome
 with_include IsVisited naming token tokens at outcome step has included =
     subst (λ includes. AreIncluded IsVisited naming includes at outcome)
     (sym (includes-cons token tokens ∙ ap (λ first. first ++ includes_of tokens) has.only))
-    (subst (λ (s : Inclusion). IsIncluded IsVisited s at outcome (λ next. AreIncluded IsVisited naming (includes_of tokens) next outcome)) (sym has.is) included)
+    (by_step IsVisited naming has.include at outcome (λ next. AreIncluded IsVisited naming (includes_of tokens) next outcome)
+    (subst (λ (s : Inclusion). GoesBy IsVisited s at outcome (λ next. AreIncluded IsVisited naming (includes_of tokens) next outcome)) (sym has.is) included))
 
 -- a token that names a file which was met, or none
 pub passed_over : (IsVisited : Visits) (naming : List ℕ) (token : Token) (tokens : List Token) (at : Expansion) (outcome : Outcome)

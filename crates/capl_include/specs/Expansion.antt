@@ -1,6 +1,6 @@
 -- The expansion of a file over what the files hold: a recursion on the names that it names (CAPL manual,
 -- includes). It ends at the first rule that is broken.
-use Rattle.std.specs.Prelude.{◌≡◌, ◌+◌, ◌^◌, ◌⊎◌, ℕ, zero, suc, Bool, true, false, List, [], ◌∷◌, ◌++◌, length, Option, Some, None, nat_lt, nat_le, if◌then◌else◌}
+use Rattle.std.specs.Prelude.{◌≡◌, ◌+◌, ◌^◌, ◌⊎◌, ℕ, zero, suc, Bool, true, false, List, [], ◌∷◌, ◌++◌, length, MatchBool, Option, Some, None, nat_lt, nat_le, not}
 use Rattle.std.specs.List.{list_any}
 use Rattle.std.specs.Str.{bytes_eq}
 use Rattle.texts.specs.declared.blame.Blame.{Blame}
@@ -58,23 +58,6 @@ abbrev pub includes_of : List Token → List Include
 includes_of [] = []
 includes_of (token ∷ tokens) = include_then token token.tok (includes_of tokens)
 
--- whether a file of this name was met
-abbrev pub has_met : List (List ℕ) → List ℕ → Bool
-has_met met name = list_any (λ other. bytes_eq other name) met
-
--- what comes of an include: a blame, nothing, or the visit of a file
-pub data Inclusion : Type 0 where
-  Refused : Blame → Inclusion
-  Passed : Inclusion
-  Visited : List ℕ → Inclusion
-
--- a name that is none is refused, a file that was met is passed over, and another one is visited
-abbrev pub step_of : List ℕ → Include → List (List ℕ) → Inclusion
-step_of naming include met =
-    let name = included_name naming include.own in
-    if is_included_name include.own name then (if has_met met name then Passed else Visited name)
-    else Refused (place_blame naming include.line include.column (source_rule 8))
-
 -- how a visit of the file of a name goes, from where an expansion stands
 abbrev pub Visits : Type 1
 Visits = List ℕ → Expansion → Outcome → Type 0
@@ -84,38 +67,36 @@ abbrev pub GoesOn : Outcome → Outcome → (Expansion → Type 0) → Type 0
 GoesOn (Went next) outcome Rest = Rest next
 GoesOn (Stopped blame) outcome Rest = outcome ≡ Stopped blame
 
--- an include goes so, and this holds from there
-abbrev pub IsIncluded : Visits → Inclusion → Expansion → Outcome → (Expansion → Type 0) → Type 0
-IsIncluded IsVisited (Refused blame) at outcome Rest = outcome ≡ Stopped blame
-IsIncluded IsVisited Passed at outcome Rest = Rest at
-IsIncluded IsVisited (Visited name) at outcome Rest =
-    (after : Outcome) × IsVisited name at after × GoesOn after outcome Rest
-
--- the includes of a file go so, one after another
-abbrev pub AreIncluded : Visits → List ℕ → List Include → Expansion → Outcome → Type 0
-AreIncluded IsVisited naming [] at outcome = outcome ≡ Went at
-AreIncluded IsVisited naming (include ∷ includes) at outcome =
-    IsIncluded IsVisited (step_of naming include at.met) at outcome
-    (λ next. AreIncluded IsVisited naming includes next outcome)
-
 -- where the test holds the expansion stops at the blame, and else this holds
 abbrev pub StopsIf : Bool → Blame → Outcome → Type 0 → Type 0
 StopsIf true blame outcome Rest = outcome ≡ Stopped blame
 StopsIf false blame outcome Rest = Rest
 
+-- an include of a file goes so, and this holds from there: a name that is none stops the expansion, a file
+-- that was met is passed over, and another one is visited
+abbrev pub IsIncluded : Visits → List ℕ → Include → Expansion → Outcome → (Expansion → Type 0) → Type 0
+IsIncluded IsVisited naming include at outcome Rest =
+    let name : List ℕ = included_name naming include.own in
+    StopsIf (not (is_included_name include.own name))
+    (place_blame naming include.line include.column (source_rule 8)) outcome
+    (MatchBool (list_any (λ other. bytes_eq other name) at.met) (Rest at)
+    ((after : Outcome) × IsVisited name at after × GoesOn after outcome Rest))
+
+-- the includes of a file go so, one after another
+abbrev pub AreIncluded : Visits → List ℕ → List Include → Expansion → Outcome → Type 0
+AreIncluded IsVisited naming [] at outcome = outcome ≡ Went at
+AreIncluded IsVisited naming (include ∷ includes) at outcome =
+    IsIncluded IsVisited naming include at outcome
+    (λ next. AreIncluded IsVisited naming includes next outcome)
+
 -- a file with these tokens is met
 abbrev pub meeting : List ℕ → List Token → Expansion → Expansion
-meeting name tokens at =
-    record { met = at.met ++ name ∷ []; count = at.count + length tokens; files = at.files }
+meeting name tokens at = record at { met = at.met ++ name ∷ []; count = at.count + length tokens }
 
 -- a file with these tokens is appended, where the expansion went on
 abbrev pub appending : List ℕ → List Token → Outcome → Outcome
 appending name tokens (Went at) =
-    Went (record {
-      met = at.met;
-      count = at.count;
-      files = at.files ++ record { name = name; tokens = tokens } ∷ [];
-    })
+    Went (record at { files = at.files ++ record { name = name; tokens = tokens } ∷ [] })
 appending name tokens (Stopped blame) = Stopped blame
 
 -- a file with these tokens is visited: it is met, its includes are visited, and it is appended

@@ -1,4 +1,5 @@
 -- What this crate's own functions are proved by; no contract of a public function rests on it.
 pub mod Once
 pub mod Refusal
+pub mod Step
 pub mod Visit

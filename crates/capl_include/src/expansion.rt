@@ -3,10 +3,11 @@
 ghost use Rattle.std.specs.Prelude.{◌≡◌, ◌+◌, ◌<◌, ◌≤◌, ◌^◌, false, All, IfOk, IfErr, OnOk, IfSome, IsErrOf, length};
 ghost use Rattle.capl_lexer.specs.Reading.{token_limit};
 ghost use Rattle.texts.specs.Fault.{HasRisen, raised, raised_by};
-ghost use Rattle.capl_include.specs.Expansion.{Went, file_limit, has_met};
+ghost use Rattle.capl_include.specs.Expansion.{Went, file_limit};
 ghost use Rattle.capl_include.specs.Answer.{IsAnswer, IsOnly, HaveDifferentNames, token_count};
 ghost use Rattle.capl_include.specs.Text.{AreOfTexts, IsOfText};
 ghost use Rattle.capl_include.specs.Inside.Once.{GoesOnce, ReadsEach};
+ghost use Rattle.capl_include.specs.Inside.Step.{has_met};
 ghost use Rattle.capl_include.specs.Inside.Visit.{IsVisitAt, IsVisitRefusal, ReadAgrees, StepAgrees};
 
 use crate::blames::{

@@ -1,7 +1,8 @@
 // How far an expansion has come.
 
 ghost use Rattle.std.specs.Prelude.{◌≡◌, ◌+◌, ◌++◌, ◌∷◌, ◌^◌, ◌<◌, [], OnOk, OnErr, length, nat_le};
-ghost use Rattle.capl_include.specs.Expansion.{Expansion, nothing_met, has_met, file_limit};
+ghost use Rattle.capl_include.specs.Expansion.{Expansion, nothing_met, file_limit};
+ghost use Rattle.capl_include.specs.Inside.Step.{has_met};
 
 use crate::expanded::{Expanded, SourceFile};
 use crate::refusal::ExpandRefusal;

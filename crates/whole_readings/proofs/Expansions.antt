@@ -1,12 +1,14 @@
 -- Each expansion comes to an outcome.
 use Rattle.std.proofs.Common.{◌≡◌, ◌+◌, ℕ, zero, suc, Bool, true, false, List, [], ◌∷◌, length, Option, Some, None, inl, inr, refl, nat_lt, nat_le}
-use Rattle.std.specs.Prelude.{◌⊎◌}
+use Rattle.std.specs.Prelude.{◌⊎◌, not}
 use Rattle.texts.specs.declared.blame.Blame.{Blame}
 use Rattle.texts.specs.Rule.{source_rule}
 use Rattle.capl_lexer.specs.Reading.{IsReading, IsBadPlace, line_at, column_at, token_limit}
 use Rattle.capl_lexer.specs.declared.token.Token.{Token}
 use Rattle.capl_include.specs.Blame.{too_long_rule, file_blame, place_blame}
-use Rattle.capl_include.specs.Expansion.{Contents, Expansion, Outcome, Include, Inclusion, Went, Stopped, Refused, Passed, Visited, Visits, GoesOn, IsIncluded, AreIncluded, StopsIf, VisitsTokens, VisitsText, VisitsHeld, IsVisit, IsExpansion, includes_of, step_of, meeting, appending, file_limit, byte_limit, nothing_met}
+use Rattle.capl_include.specs.Expansion.{Contents, Expansion, Outcome, Include, Went, Stopped, Visits, GoesOn, IsIncluded, AreIncluded, StopsIf, VisitsTokens, VisitsText, VisitsHeld, IsVisit, IsExpansion, includes_of, meeting, appending, file_limit, byte_limit, nothing_met}
+use Rattle.capl_include.specs.Inside.Step.{GoesPast, has_met}
+use Rattle.capl_include.specs.Name.{included_name, is_included_name}
 use Rattle.whole_readings.proofs.Lexing.{reading_or_bad_place}
 
 -- something has an outcome
@@ -25,19 +27,27 @@ goes_on : (after : Outcome) (Rest : Expansion → Outcome → Type 0) → ((next
 goes_on (Went next) Rest further = further next
 goes_on (Stopped blame) Rest further = (Stopped blame, refl)
 
-step_comes : (IsVisited : Visits) → AllCome IsVisited → (step : Inclusion) (at : Expansion) (Rest : Expansion → Outcome → Type 0)
-    → ((next : Expansion) → Comes (Rest next)) → Comes (λ outcome. IsIncluded IsVisited step at outcome (λ next. Rest next outcome))
-step_comes IsVisited visit (Refused blame) at Rest further = (Stopped blame, refl)
-step_comes IsVisited visit Passed at Rest further = further at
-step_comes IsVisited visit (Visited name) at Rest further =
+past_comes : (IsVisited : Visits) → AllCome IsVisited → (before : Bool) (name : List ℕ) (at : Expansion) (Rest : Expansion → Outcome → Type 0)
+    → ((next : Expansion) → Comes (Rest next)) → Comes (λ outcome. GoesPast IsVisited before name at outcome (λ next. Rest next outcome))
+past_comes IsVisited visit true name at Rest further = further at
+past_comes IsVisited visit false name at Rest further =
     let after = visit name at in
     let end = goes_on after.0 Rest further in
     (end.0, (after.0, after.1, end.1))
 
+include_comes : (IsVisited : Visits) → AllCome IsVisited → (naming : List ℕ) (include : Include) (at : Expansion) (Rest : Expansion → Outcome → Type 0)
+    → ((next : Expansion) → Comes (Rest next)) → Comes (λ outcome. IsIncluded IsVisited naming include at outcome (λ next. Rest next outcome))
+include_comes IsVisited visit naming include at Rest further =
+    let name : List ℕ = included_name naming include.own in
+    let before : Bool = has_met at.met name in
+    stops_or (not (is_included_name include.own name)) (place_blame naming include.line include.column (source_rule 8))
+    (λ outcome. GoesPast IsVisited before name at outcome (λ next. Rest next outcome))
+    (past_comes IsVisited visit before name at Rest further)
+
 included_come : (IsVisited : Visits) → AllCome IsVisited → (naming : List ℕ) (includes : List Include) (at : Expansion) → Comes (AreIncluded IsVisited naming includes at)
 included_come IsVisited visit naming [] at = (Went at, refl)
 included_come IsVisited visit naming (include ∷ includes) at =
-    step_comes IsVisited visit (step_of naming include at.met) at (λ next. AreIncluded IsVisited naming includes next)
+    include_comes IsVisited visit naming include at (λ next. AreIncluded IsVisited naming includes next)
     (λ next. included_come IsVisited visit naming includes next)
 
 tokens_come : (IsVisited : Visits) → AllCome IsVisited → (name : List ℕ) (tokens : List Token) (at : Expansion) → Comes (VisitsTokens IsVisited name tokens at)

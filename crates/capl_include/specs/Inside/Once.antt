@@ -2,7 +2,8 @@
 use Rattle.std.specs.Prelude.{◌≡◌, ℕ, ◌+◌, true, false, List, ◌++◌, All, length}
 use Rattle.texts.specs.Fault.{raised_by}
 use Rattle.capl_include.specs.Answer.{HaveDifferentNames}
-use Rattle.capl_include.specs.Expansion.{Expansion, has_met}
+use Rattle.capl_include.specs.Expansion.{Expansion}
+use Rattle.capl_include.specs.Inside.Step.{has_met}
 use Rattle.capl_include.specs.declared.expanded.SourceFile.{SourceFile}
 
 -- an expansion went on: what was met still is, and the files that were appended were not met before, are met

@@ -6,7 +6,8 @@ use Rattle.texts.specs.Rule.{source_rule}
 use Rattle.capl_lexer.specs.Reading.{IsReading, IsBadPlace, line_at, column_at, token_limit}
 use Rattle.capl_lexer.specs.declared.token.Token.{Token}
 use Rattle.capl_include.specs.Blame.{too_long_rule, file_blame, place_blame}
-use Rattle.capl_include.specs.Expansion.{Contents, Expansion, Outcome, Include, Inclusion, Stopped, Refused, Passed, Visited, IsVisit, includes_of, step_of, file_limit, byte_limit}
+use Rattle.capl_include.specs.Expansion.{Contents, Expansion, Outcome, Include, Stopped, IsVisit, includes_of, file_limit, byte_limit}
+use Rattle.capl_include.specs.Inside.Step.{Inclusion, Refused, Passed, Visited, step_of}
 use Rattle.capl_include.specs.declared.refusal.ExpandRefusal.{ExpandRefusal}
 use Rattle.capl_include.specs.declared.refusal.ExpandRefusal.TheVariants.{Blamed, Failed, NoMemory}
 
