@@ -1,7 +1,7 @@
 -- The inputs of each name are accepted, or have a first blame.
 use Rattle.std.proofs.Common.{◌≡◌, ◌+◌, ℕ, List, [], ◌∷◌, ◌++◌, length, Option, Some, None, inl, inr, refl, ap, arith, length-append}
 use Rattle.std.specs.Prelude.{◌⊎◌}
-use Rattle.std.specs.List.{sum_by}
+use Rattle.std.specs.List.{AllZip, sum_by}
 use Rattle.std.proofs.lemmas.Bool.{cases_lt}
 use Rattle.std.proofs.lemmas.List.Sums.{sum_by-cons}
 use Rattle.sim_outside.specs.Folder.{beside}
@@ -24,7 +24,7 @@ use Rattle.replay_node.specs.declared.replay.Replay.{Replay}
 use Rattle.sim_inputs.specs.Blame.{Holds, IsFileBlame, log_rule, missing_rule, statement_rule, too_large_rule, twice_rule}
 use Rattle.sim_inputs.specs.Scenario.{ScenarioAt, IsScenarioBlame, scenario_limit}
 use Rattle.sim_inputs.specs.Database.{BaseAt, IsBaseBlame, database_limit}
-use Rattle.sim_inputs.specs.Nodes.{NodeSource, AreSources, AreWithin, IsNodeSource, IsNodesBlame, cells_in, most_together, weight_in}
+use Rattle.sim_inputs.specs.Nodes.{NodeSource, AreWithin, IsNodeSource, IsNodesBlame, cells_in, most_together, weight_in}
 use Rattle.sim_inputs.specs.Replay.{LogAt, IsReplayBlame, log_limit}
 use Rattle.sim_inputs.specs.Accepted.{AreNodes, AreAccepted, IsLaterBlame, IsFirstBlame}
 use Rattle.whole_readings.proofs.Databases.{database_or_refusal}
@@ -92,7 +92,7 @@ base_or_blame contents name (Some file) =
 -- the sources of nodes, behind programs that have so many cells and so great a weight together, or their blame
 abbrev AreTakenOrBlamed : Contents → List ℕ → List DbcMessage → ℕ → ℕ → List NodeItem → Type 0
 AreTakenOrBlamed contents name base cells weights nodes =
-    ((sources : List NodeSource) × AreSources contents name base nodes sources
+    ((sources : List NodeSource) × AllZip (IsNodeSource contents name base) nodes sources
     × AreWithin (cells + sum_by (cells_in base) sources) (weights + sum_by weight_in sources))
     ⊎ ((blame : Blame) × IsNodesBlame contents name base cells weights nodes blame)
 

@@ -15,9 +15,9 @@ use Rattle.sim_inputs.specs.Accepted.{AreAccepted, AreNodes, IsFirstBlame}
 use Rattle.sim_inputs.specs.Answer.{AreCoded, AreInputsOf, IsAnswer}
 use Rattle.sim_inputs.specs.Database.{BaseAt}
 use Rattle.input_refusals.specs.Agreement.{Agrees}
-use Rattle.sim_inputs.specs.Inside.Codes.{AreNodeCodes, AreOfSources}
+use Rattle.sim_inputs.specs.Inside.Codes.{AreNodeCodes, AreOfSources, AreSources}
 use Rattle.sim_inputs.specs.Inside.Messages.{messages_in}
-use Rattle.sim_inputs.specs.Nodes.{AreSources, IsNodesBlame, NodeSource}
+use Rattle.sim_inputs.specs.Nodes.{IsNodesBlame, NodeSource}
 use Rattle.sim_inputs.specs.Replay.{IsReplayBlame, ReplayAt}
 use Rattle.sim_inputs.specs.Scenario.{ScenarioAt}
 use Rattle.sim_inputs.specs.declared.inputs.Inputs.{Inputs}

@@ -23,8 +23,8 @@ use Rattle.input_refusals.specs.declared.refusal.InputRefusal.{InputRefusal}
 use Rattle.input_refusals.specs.declared.refusal.InputRefusal.TheVariants.{NoMemory}
 use Rattle.sim_inputs.specs.Answer.{AreCodesFor}
 use Rattle.sim_inputs.specs.Blame.{too_large_rule}
-use Rattle.sim_inputs.specs.Inside.Codes.{AreNodeCodes, AreOfSources}
-use Rattle.sim_inputs.specs.Nodes.{AreSources, AreWithin, IsNodesBlame, IsNodeSource, NodeSource, cells_in, file_names, most_together, weight_in}
+use Rattle.sim_inputs.specs.Inside.Codes.{AreNodeCodes, AreOfSources, AreSources}
+use Rattle.sim_inputs.specs.Nodes.{AreWithin, IsNodesBlame, IsNodeSource, NodeSource, cells_in, file_names, most_together, weight_in}
 
 -- The nodes up to a number are read: these are their codes and the names of their files, so many cells and so great a weight their programs
 -- have together, and the first blame of the other nodes is that of all.

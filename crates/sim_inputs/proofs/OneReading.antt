@@ -23,9 +23,10 @@ use Rattle.sim_inputs.specs.Accepted.{AreAccepted, AreNodes, IsFirstBlame, IsLas
 use Rattle.source_compiler.specs.Source.{IsProgramBlame, IsSource, IsSourceBlame}
 use Rattle.sim_inputs.specs.Database.{BaseAt, IsBaseBlame}
 use Rattle.sim_inputs.specs.Law.{SayTheSame}
-use Rattle.sim_inputs.specs.Nodes.{AreSources, AreWithin, IsNodesBlame, IsSumBlame, NodeSource, cells_in, weight_in}
+use Rattle.sim_inputs.specs.Inside.Codes.{AreSources}
+use Rattle.sim_inputs.specs.Nodes.{AreWithin, IsNodesBlame, IsSumBlame, NodeSource, cells_in, weight_in}
 use Rattle.sim_inputs.specs.Replay.{IsReplayBlame}
-use Rattle.source_compiler.specs.Program.{AreTreesOf, FilesAt, IsFilesBlame, IsOffenceBlame, IsSizeBlame, most}
+use Rattle.source_compiler.specs.Program.{AreTreesOf, FilesAt, IsOffenceBlame, IsSizeBlame, most}
 use Rattle.sim_inputs.specs.Scenario.{ScenarioAt, scenario_limit}
 use Rattle.source_compiler.proofs.FileLemmas.{one_parse_blame, one_program, one_screen_blame, parsed_or_blame, screened_or_blame}
 use Rattle.sim_inputs.proofs.KeyLemmas.{one_order}
@@ -65,11 +66,11 @@ one_files contents name files others (end, went, is) (end_too, went_too, also) =
     let ends : end ≡ end_too = cc in
     is ∙ ap (λ (e : Expansion). e.files) ends ∙ sym also
 
-files_or_blame : (contents : Contents) (name : List ℕ) (files : List SourceFile) (blame : Blame) → FilesAt contents name files → IsFilesBlame contents name blame → ⊥
+files_or_blame : (contents : Contents) (name : List ℕ) (files : List SourceFile) (blame : Blame) → FilesAt contents name files → IsExpansion contents name (Stopped blame) → ⊥
 files_or_blame contents name files blame (end, went, is) stopped =
     let same = one_outcome contents name (Went end) (Stopped blame) went stopped in cc
 
-one_files_blame : (contents : Contents) (name : List ℕ) (blame other : Blame) → IsFilesBlame contents name blame → IsFilesBlame contents name other → blame ≡ other
+one_files_blame : (contents : Contents) (name : List ℕ) (blame other : Blame) → IsExpansion contents name (Stopped blame) → IsExpansion contents name (Stopped other) → blame ≡ other
 one_files_blame contents name blame other stopped stopped_too =
     let same = one_outcome contents name (Stopped blame) (Stopped other) stopped stopped_too in cc
 

@@ -1,6 +1,7 @@
 -- Which inputs are accepted, and which blame is the first of inputs that are not: that of the scenario, else
 -- of its database, else of its nodes, else of the log that it replays.
 use Rattle.std.specs.Prelude.{◌⊎◌, ℕ, List}
+use Rattle.std.specs.List.{AllZip, sum_by}
 use Rattle.texts.specs.declared.blame.Blame.{Blame}
 use Rattle.scenario.specs.declared.scenario.Scenario.{Scenario}
 use Rattle.dbc_reader.specs.declared.message.DbcMessage.{DbcMessage}
@@ -8,14 +9,15 @@ use Rattle.capl_include.specs.Expansion.{Contents}
 use Rattle.replay_node.specs.declared.replay.Replay.{Replay}
 use Rattle.sim_inputs.specs.Scenario.{ScenarioAt, IsScenarioBlame}
 use Rattle.sim_inputs.specs.Database.{BaseAt, IsBaseBlame}
-use Rattle.sim_inputs.specs.Nodes.{NodeSource, AreSources, FitTogether, IsNodesBlame}
+use Rattle.sim_inputs.specs.Nodes.{NodeSource, AreWithin, IsNodeSource, IsNodesBlame, cells_in, weight_in}
 use Rattle.sim_inputs.specs.Replay.{ReplayAt, IsReplayBlame}
 
--- the sources of all nodes of a scenario, whose programs are not too large together
+-- the sources of all nodes of a scenario, each accepted by itself: one for each node, in order; and their
+-- programs are not too large together
 pub record AreNodes (contents : Contents) (name : List ℕ) (base : List DbcMessage) (scenario : Scenario)
     (sources : List NodeSource) : Type 0 where
-  pub sources_at : AreSources contents name base scenario.nodes.items sources
-  pub fit : FitTogether base sources
+  pub sources_at : AllZip (IsNodeSource contents name base) scenario.nodes.items sources
+  pub fit : AreWithin (sum_by (cells_in base) sources) (sum_by weight_in sources)
 
 -- The inputs of a name are accepted: this is the scenario of the name, these are the messages of its
 -- database, these the sources of its nodes, and this is its replay.

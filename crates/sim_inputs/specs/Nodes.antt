@@ -1,6 +1,5 @@
 -- The sources of the nodes of a scenario, and which blame is the first of nodes whose sources are not taken.
 use Rattle.std.specs.Prelude.{◌≡◌, ◌<◌, ◌≤◌, ◌+◌, ◌⊎◌, ℕ, List, [], ◌∷◌, map}
-use Rattle.std.specs.List.{AllZip, sum_by}
 use Rattle.texts.specs.declared.blame.Blame.{Blame}
 use Rattle.sim_outside.specs.Folder.{beside}
 use Rattle.scenario.specs.declared.scenario.NodeItem.{NodeItem}
@@ -30,10 +29,6 @@ abbrev pub IsNodeSource : Contents → List ℕ → List DbcMessage → NodeItem
 IsNodeSource contents name base node source =
     IsSource contents (beside name node.file) base source.files source.program
 
--- the sources of nodes are accepted, each by itself: one for each node, in order
-abbrev pub AreSources : Contents → List ℕ → List DbcMessage → List NodeItem → List NodeSource → Type 0
-AreSources contents name base nodes sources = AllZip (IsNodeSource contents name base) nodes sources
-
 -- ---- sizes
 
 -- the most cells, and the greatest weight, of all programs of a scenario together
@@ -51,10 +46,6 @@ weight_in source = weight source.program
 -- so many cells and so great a weight, both of all programs together, are not too large
 abbrev pub AreWithin : ℕ → ℕ → Type 0
 AreWithin cells weights = (cells ≤ most_together) × (weights ≤ most_together)
-
--- all programs of these sources together are not too large
-abbrev pub FitTogether : List DbcMessage → List NodeSource → Type 0
-FitTogether base sources = AreWithin (sum_by (cells_in base) sources) (sum_by weight_in sources)
 
 -- ---- blames
 

@@ -33,6 +33,8 @@ use Rattle.sim_text.specs.Blame.{blame_line}
 use Rattle.source_laws.specs.Source.{SourceMemory, by_source_reaction}
 use Rattle.sim_run.proofs.CommandLemmas.{AsksSame, asked_or_none, one_asked}
 use Rattle.sim_run.proofs.LoadedLemmas.{nothing_due}
+use Rattle.sim_run.proofs.SourceLemmas.{nodes_of_programs}
+use Rattle.sim_run.specs.Inside.Sources.{first_nodes}
 use Rattle.sim_run.specs.Answer.{IsAnswer, IsAnswerOf, IsAnswerOn, IsAnsweredOn, IsRefused, IsShown}
 use Rattle.sim_run.specs.Command.{IsAsked}
 use Rattle.sim_run.specs.Run.{IsRunOf, first_rows, rows_in}
@@ -75,7 +77,7 @@ SomeRunLaw = (base : List DbcMessage) (turns : ℕ) (programs : List Program) �
 abbrev IsRunWith : List DbcMessage → List NodeSource → List Request → ℕ → ℕ → ℕ → List KeyItem → List Passed → Type 0
 IsRunWith base sources requests until turns bit keys rounds =
     (end : RunState (NodeState SourceMemory) BusState)
-    × IsRun by_source_reaction one_channel until (new_run (first_source_nodes base turns (map (λ source. source.program) sources)) (new_bus bit) keys requests) rounds end
+    × IsRun by_source_reaction one_channel until (new_run (first_nodes base turns sources) (new_bus bit) keys requests) rounds end
 
 moved_run : (scenario other : Scenario) (base : List DbcMessage) (sources : List NodeSource) (replay : Replay) (rounds : List Passed) → SayTheSame scenario other →
     IsRunOf scenario base sources replay rounds → IsRunOf other base sources replay rounds
@@ -129,7 +131,7 @@ moved_shown show scenario other base sources replay bytes rows same is =
 one_shown : OneRunLaw → (show : Show) (scenario : Scenario) (base : List DbcMessage) (sources : List NodeSource) (replay : Replay) (bytes more : List ℕ) (rows others : List MeterRow) →
     IsShown show scenario base sources replay bytes rows → IsShown show scenario base sources replay more others → (bytes ≡ more) × (rows ≡ others)
 one_shown law show scenario base sources replay bytes more rows others is also =
-    let first = new_run (first_source_nodes base scenario.turns (map (λ source. source.program) sources)) (new_bus scenario.bit) scenario.keys.items replay.list in
+    let first = new_run (first_nodes base scenario.turns sources) (new_bus scenario.bit) scenario.keys.items replay.list in
     let rounds = (law scenario.until first is.run.end also.run.end is.rounds also.rounds is.run.is also.run.is).0 in
     let list = ap (λ r. steps r scenario.picks.items) rounds in
     (is.shows ∙ ap (shown_of show scenario base sources replay) list ∙ sym also.shows, is.counts ∙ ap (rows_in base sources) list ∙ sym also.counts)
@@ -220,7 +222,9 @@ run_of law contents name scenario base sources replay accepted =
     let ran =
     law base scenario.turns (map (λ source. source.program) sources) (none_offends contents name base scenario.nodes.items sources accepted.nodes_at.sources_at)
     scenario.until (new_bus scenario.bit) scenario.keys.items replay.list within.some_bit (nothing_due scenario.bit) in
-    (ran.0, record { end = ran.1; is = ran.2 })
+    let is = subst (λ (nodes : List (NodeState SourceMemory)). IsRun by_source_reaction one_channel scenario.until (new_run nodes (new_bus scenario.bit) scenario.keys.items replay.list) ran.0 ran.1)
+    (nodes_of_programs base scenario.turns sources) ran.2 in
+    (ran.0, record { end = ran.1; is = is })
 
 -- a run is shown in some bytes
 shown_by : (show : Show) (scenario : Scenario) (base : List DbcMessage) (sources : List NodeSource) (replay : Replay) (rounds : List Passed) → IsRunOf scenario base sources replay rounds →

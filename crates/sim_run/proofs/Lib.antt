@@ -5,5 +5,6 @@ pub mod LoadedLemmas
 pub mod LogLemmas
 pub mod OrderLemmas
 pub mod ShownLemmas
+pub mod SourceLemmas
 pub mod AnswerLemmas
 pub mod WrittenLemmas

@@ -1,5 +1,5 @@
 -- The logs of scenarios: what is recorded is well spaced, and what is replayed to silent nodes is reproduced.
-use Rattle.std.proofs.Common.{◌≡◌, ℕ, ◌+◌, ◌/◌, ◌%◌, ◌<◌, ◌≤◌, ◌^◌, List, [], ◌∷◌, ◌++◌, All, inl, inr, map, refl, sym, ap, subst, ◌∙◌, arith, append-nil}
+use Rattle.std.proofs.Common.{◌≡◌, ℕ, ◌+◌, ◌/◌, ◌%◌, ◌<◌, ◌≤◌, ◌^◌, List, [], ◌∷◌, ◌++◌, All, inl, inr, refl, sym, ap, subst, ◌∙◌, arith, append-nil}
 use Rattle.std.proofs.lemmas.List.Elements.{All-cons, All-head, All-nil, All-tail}
 use Rattle.can_bus.specs.Bus.{BusState, new_bus, one_channel}
 use Rattle.capl_include.specs.Expansion.{Contents}
@@ -12,7 +12,6 @@ use Rattle.replay_node.specs.Replay.{IsReplay}
 use Rattle.replay_node.specs.Spaced.{IsSpacedLog}
 use Rattle.replay_node.specs.declared.replay.Replay.{Replay}
 use Rattle.replay_node.specs.declared.replay.Request.{Request}
-use Rattle.run_laws.specs.Sources.{first_source_nodes}
 use Rattle.run_meaning.specs.Run.{IsRun, Passed, RunState, new_run}
 use Rattle.run_meaning.specs.Steps.{Step, entries, steps}
 use Rattle.run_records.specs.declared.record.Noted.{Noted}
@@ -32,6 +31,7 @@ use Rattle.source_logs.specs.Silent.{IsSilent}
 use Rattle.stack_vm.specs.declared.meter.MeterRow.{MeterRow}
 use Rattle.sim_run.proofs.AnswerLemmas.{AcceptedLaw, moved_answer, moved_shown}
 use Rattle.sim_run.proofs.CommandLemmas.{one_asked}
+use Rattle.sim_run.specs.Inside.Sources.{first_nodes}
 use Rattle.sim_run.specs.Answer.{IsAnswer, IsAnsweredOn, IsShown}
 use Rattle.sim_run.specs.Command.{IsCommand, show_of}
 use Rattle.sim_run.specs.Logs.{IsRecorded, IsReplayedBySilent}
@@ -84,7 +84,7 @@ recorded_log law loggable contents words name bytes rows is answer =
     let labels : Labels = labels_of scenario done.sources done.replay in
     let seen = done.answers in
     let replay_at = done.accepted.replay_at in
-    let spaced = law (interface_of labels) scenario.bit done.replay.epoch scenario.until (first_source_nodes done.base scenario.turns (map (λ source. source.program) done.sources)) scenario.keys.items done.replay.list
+    let spaced = law (interface_of labels) scenario.bit done.replay.epoch scenario.until (first_nodes done.base scenario.turns done.sources) scenario.keys.items done.replay.list
     seen.rounds seen.run.end scenario.picks.items (loggable replay_at.log scenario.interface scenario.bit scenario.epoch done.replay replay_at.is) seen.run.is in
     record {
       scenario = scenario;
@@ -121,10 +121,10 @@ HasSilent source = IsSilent source.program
 abbrev HasSilentProgram : NodeState SourceMemory → Type 0
 HasSilentProgram node = IsSilent node.memory.program
 
-silent_nodes : (base : List DbcMessage) (turns : ℕ) (sources : List NodeSource) → All HasSilent sources → All HasSilentProgram (first_source_nodes base turns (map (λ source. source.program) sources))
+silent_nodes : (base : List DbcMessage) (turns : ℕ) (sources : List NodeSource) → All HasSilent sources → All HasSilentProgram (first_nodes base turns sources)
 silent_nodes base turns [] all = All-nil HasSilentProgram
 silent_nodes base turns (source ∷ sources) all =
-    All-cons HasSilentProgram (first_source_node base source.program turns) (first_source_nodes base turns (map (λ s. s.program) sources)) (All-head HasSilent source sources all)
+    All-cons HasSilentProgram (first_source_node base source.program turns) (first_nodes base turns sources) (All-head HasSilent source sources all)
     (silent_nodes base turns sources (All-tail HasSilent source sources all))
 
 -- what is shown of silent sources is the log that they are given
@@ -139,7 +139,7 @@ shown_again law named epoch contents name log bytes rows is seen =
     let replayed : IsReplay log scenario.interface scenario.bit scenario.epoch is.replay = subst (λ l. IsReplay l scenario.interface scenario.bit scenario.epoch is.replay) same replay_at.is in
     seen.shows ∙ log_shown scenario is.base is.sources is.replay (steps seen.rounds scenario.picks.items)
     ∙ law (interface_of (labels_of scenario is.sources is.replay)) scenario.bit is.replay.epoch scenario.until log scenario.epoch is.replay
-    (first_source_nodes is.base scenario.turns (map (λ source. source.program) is.sources)) scenario.keys.items seen.rounds seen.run.end scenario.picks.items
+    (first_nodes is.base scenario.turns is.sources) scenario.keys.items seen.rounds seen.run.end scenario.picks.items
     within.some_bit (omega (arith, until)) (epoch scenario within log scenario.interface scenario.bit is.replay replayed) (named scenario within)
     (silent_nodes is.base scenario.turns is.sources is.silent) is.is_log replayed refl seen.run.is
 

@@ -7,7 +7,6 @@ use Rattle.capl_include.specs.Expansion.{Contents}
 use Rattle.dbc_reader.specs.declared.message.DbcMessage.{DbcMessage}
 use Rattle.node_rounds.specs.Entries.{line_entries}
 use Rattle.replay_node.specs.declared.replay.Replay.{Replay}
-use Rattle.run_laws.specs.Sources.{first_source_nodes}
 use Rattle.run_meaning.specs.Counts.{row_then}
 use Rattle.run_meaning.specs.Run.{Passed, new_run}
 use Rattle.run_meaning.specs.Steps.{Step, entries, frame_ended, steps, task_done}
@@ -27,6 +26,7 @@ use Rattle.task_orders.specs.Values.{frames_in}
 use Rattle.task_orders.proofs.SameSteps.{differ}
 use Rattle.sim_run.proofs.AnswerLemmas.{AcceptedLaw, OneRunLaw, moved_shown}
 use Rattle.sim_run.proofs.LogLemmas.{command_done}
+use Rattle.sim_run.specs.Inside.Sources.{first_nodes}
 use Rattle.sim_run.specs.Answer.{IsAnswer, IsAnswerOf, IsAnsweredOn, IsShown}
 use Rattle.sim_run.specs.Command.{IsCommand, show_of}
 use Rattle.sim_run.specs.Orders.{AreAnswered, AreReordered, DifferInPicks}
@@ -123,7 +123,7 @@ twice : OneRunLaw → (shows : Show) (scenario changed : Scenario) (base : List 
     → IsShown shows scenario base sources replay bytes rows → IsShown shows changed base sources replay more counts → ShownTwice shows bytes more rows counts
 twice law shows scenario changed base sources replay bytes more rows counts differs one other =
     let also = moved_shown shows changed (record scenario { picks = changed.picks }) base sources replay more counts differs other in
-    let first = new_run (first_source_nodes base scenario.turns (map (λ source. source.program) sources)) (new_bus scenario.bit) scenario.keys.items replay.list in
+    let first = new_run (first_nodes base scenario.turns sources) (new_bus scenario.bit) scenario.keys.items replay.list in
     let same : also.rounds ≡ one.rounds = (law scenario.until first also.run.end one.run.end also.rounds one.rounds also.run.is one.run.is).0 in
     let list = ap (λ (r : List Passed). steps r changed.picks.items) same in
     record {

@@ -47,6 +47,7 @@ use Rattle.source_laws.specs.Code.{IsEntryOf, HasSourceTables}
 use Rattle.source_laws.specs.Source.{SourceMemory, by_source_reaction}
 use Rattle.stack_vm.specs.declared.meter.MeterRow.{MeterRow}
 use Rattle.sim_run.proofs.LoadedLemmas.{TablesLaw}
+use Rattle.sim_run.proofs.SourceLemmas.{nodes_of_programs}
 use Rattle.sim_run.specs.Inside.Loaded.{AreLoaded, loaded_nodes, no_run, rows_of_code}
 use Rattle.sim_run.specs.Inside.Played.{IsCut, IsPlayed, labels_with}
 use Rattle.sim_run.specs.Run.{IsRunOf, first_rows, procedures_in, rows_in}
@@ -207,7 +208,10 @@ run_there runs scenario base sources replay codes rounds end codes_are run =
     let own =
     runs base scenario.turns (map (λ source. source.program) sources) (loaded_nodes scenario.turns 0 codes) (all_loaded_for base scenario.turns 0 sources codes codes_are)
     scenario.until (new_bus scenario.bit) scenario.keys.items replay.list rounds end run in
-    record { end = with_nodes end own.0; is = own.1 }
+    let last = with_nodes end own.0 in
+    let is = subst (λ (nodes : List (NodeState SourceMemory)). IsRun by_source_reaction one_channel scenario.until (new_run nodes (new_bus scenario.bit) scenario.keys.items replay.list) rounds last)
+    (nodes_of_programs base scenario.turns sources) own.1 in
+    record { end = last; is = is }
 
 -- ---- the rows
 

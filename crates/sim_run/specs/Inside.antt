@@ -2,3 +2,4 @@
 pub mod Answer
 pub mod Loaded
 pub mod Played
+pub mod Sources

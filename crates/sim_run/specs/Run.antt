@@ -11,8 +11,7 @@ use Rattle.node_rounds.specs.Reaction.{NodeState}
 use Rattle.run_meaning.specs.Counts.{row_then}
 use Rattle.run_meaning.specs.Run.{IsRun, Passed, RunState, new_run}
 use Rattle.run_meaning.specs.Steps.{Step}
-use Rattle.source_laws.specs.Source.{SourceMemory, by_source_reaction}
-use Rattle.run_laws.specs.Sources.{first_source_nodes}
+use Rattle.source_laws.specs.Source.{SourceMemory, by_source_reaction, first_source_node}
 use Rattle.sim_inputs.specs.Nodes.{NodeSource}
 
 -- These are the rounds of the run of a scenario whose nodes have these sources, with these messages of a
@@ -22,7 +21,7 @@ pub record IsRunOf (scenario : Scenario) (base : List DbcMessage) (sources : Lis
     (replay : Replay) (rounds : List Passed) : Type 0 where
   pub end : RunState (NodeState SourceMemory) BusState
   pub is : IsRun by_source_reaction one_channel scenario.until
-      (new_run (first_source_nodes base scenario.turns (map (λ source. source.program) sources))
+      (new_run (map (λ source. first_source_node base source.program scenario.turns) sources)
       (new_bus scenario.bit) scenario.keys.items replay.list) rounds end
 
 -- how many event procedures a source has

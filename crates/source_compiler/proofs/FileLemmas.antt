@@ -21,7 +21,7 @@ use Rattle.capl_parser.proofs.Whole.{only_parsed}
 use Rattle.capl_tree.specs.declared.file.FileTree.{FileTree}
 use Rattle.capl_tree.specs.declared.file.Program.{Program}
 use Rattle.capl_include.specs.declared.expanded.SourceFile.{SourceFile}
-use Rattle.source_compiler.specs.Program.{AreTreesOf, HasTree, IsFirstFile, IsParsed, IsParseBlame, IsScreenBlame, IsScreened, IsTokenBlame, IsTreeBlame, wrong_blame}
+use Rattle.source_compiler.specs.Program.{AreTreesOf, HasTree, IsFirstFile, IsParsed, IsScreened, IsTokenBlame, IsTreeBlame, wrong_blame}
 use Rattle.source_compiler.proofs.WrongLemmas.{one_wrong}
 
 -- ---- the first file
@@ -158,11 +158,11 @@ screened_or_token : (blame : Blame) (file : SourceFile) → IsScreened file → 
 screened_or_token blame file right wrong = right wrong.place wrong.rule wrong.breaks
 
 -- the tokens of files have one blame
-pub one_screen_blame : (files : List SourceFile) (blame other : Blame) → IsScreenBlame files blame → IsScreenBlame files other → blame ≡ other
+pub one_screen_blame : (files : List SourceFile) (blame other : Blame) → IsFirstFile IsScreened (IsTokenBlame blame) files → IsFirstFile IsScreened (IsTokenBlame other) files → blame ≡ other
 one_screen_blame files blame other one two = one_first_blame IsScreened IsTokenBlame screened_or_token one_token files blame other one two
 
 -- or none
-pub screened_or_blame : (files : List SourceFile) (blame : Blame) → All IsScreened files → IsScreenBlame files blame → ⊥
+pub screened_or_blame : (files : List SourceFile) (blame : Blame) → All IsScreened files → IsFirstFile IsScreened (IsTokenBlame blame) files → ⊥
 screened_or_blame files blame right first = no_first IsScreened (IsTokenBlame blame) (screened_or_token blame) files right first
 
 -- ---- trees
@@ -182,7 +182,7 @@ parsed_or_tree blame file (tree, (flat, spelled)) (inl (deep, also)) = absurd (o
 parsed_or_tree blame file (tree, (flat, spelled)) (inr wrong) = wrong.no_tree tree spelled
 
 -- the trees of files have one blame
-pub one_parse_blame : (files : List SourceFile) (blame other : Blame) → IsParseBlame files blame → IsParseBlame files other → blame ≡ other
+pub one_parse_blame : (files : List SourceFile) (blame other : Blame) → IsFirstFile IsParsed (IsTreeBlame blame) files → IsFirstFile IsParsed (IsTreeBlame other) files → blame ≡ other
 one_parse_blame files blame other one two = one_first_blame IsParsed IsTreeBlame parsed_or_tree one_tree_blame files blame other one two
 
 all_parsed : (files : List SourceFile) (trees : List FileTree) → AllZip HasTree files trees → All IsParsed files
@@ -191,7 +191,7 @@ all_parsed (file ∷ files) [] zipped = absurd zipped
 all_parsed (file ∷ files) (tree ∷ trees) zipped = All-cons IsParsed file files (tree, zipped.0) (all_parsed files trees zipped.1)
 
 -- or none
-pub parsed_or_blame : (files : List SourceFile) (program : Program) (blame : Blame) → AreTreesOf files program → IsParseBlame files blame → ⊥
+pub parsed_or_blame : (files : List SourceFile) (program : Program) (blame : Blame) → AreTreesOf files program → IsFirstFile IsParsed (IsTreeBlame blame) files → ⊥
 parsed_or_blame files program blame trees first = no_first IsParsed (IsTreeBlame blame) (parsed_or_tree blame) files (all_parsed files program.files trees) first
 
 one_zip : (files : List SourceFile) (trees others : List FileTree) → AllZip HasTree files trees → AllZip HasTree files others → trees ≡ others

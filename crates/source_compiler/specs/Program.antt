@@ -17,7 +17,7 @@ use Rattle.capl_tree.specs.declared.file.Program.{Program}
 use Rattle.capl_parser.specs.Refusal.{nesting_limit}
 use Rattle.viable_prefixes.specs.Prefix.{IsFirstWrong}
 use Rattle.capl_include.specs.Blame.{file_blame, place_blame}
-use Rattle.capl_include.specs.Expansion.{Contents, Expansion, Went, Stopped, IsExpansion}
+use Rattle.capl_include.specs.Expansion.{Contents, Expansion, Went, IsExpansion}
 use Rattle.capl_include.specs.declared.expanded.SourceFile.{SourceFile}
 use Rattle.capl_meaning.specs.Offences.{IsFirstOffence, offences_of}
 use Rattle.capl_meaning.specs.Size.{cells_of_program}
@@ -29,10 +29,6 @@ use Rattle.capl_meaning.specs.declared.offence.Offence.{Offence}
 abbrev pub FilesAt : Contents → List ℕ → List SourceFile → Type 0
 FilesAt contents name files =
     (end : Expansion) × IsExpansion contents name (Went end) × (files ≡ end.files)
-
--- the expansion stopped at its first blame, E01, E04, E07, E08, E29 or F02
-abbrev pub IsFilesBlame : Contents → List ℕ → Blame → Type 0
-IsFilesBlame contents name blame = IsExpansion contents name (Stopped blame)
 
 -- a file has this, and all files before it are right
 pub record IsFirstFile (IsRight IsWrong : SourceFile → Type 0) (files : List SourceFile) : Type 0 where
@@ -56,10 +52,6 @@ pub record IsTokenBlame (blame : Blame) (file : SourceFile) : Type 0 where
   pub breaks : Breaks file.tokens place rule
   pub first : (earlier : ℕ) (other : Rule) → earlier < place → Breaks file.tokens earlier other → ⊥
   pub is : blame ≡ place_blame file.name breaks.token.line breaks.token.column rule
-
--- the first such token of the first file that has one
-abbrev pub IsScreenBlame : List SourceFile → Blame → Type 0
-IsScreenBlame files blame = IsFirstFile IsScreened (IsTokenBlame blame) files
 
 -- ---- trees
 
@@ -104,10 +96,6 @@ abbrev pub IsTreeBlame : Blame → SourceFile → Type 0
 IsTreeBlame blame file =
     ((nesting_limit < nesting (toks file.tokens)) × (blame ≡ file_blame file.name (source_rule 3)))
     ⊎ IsSpellingBlame blame file
-
--- the first file whose tokens do so
-abbrev pub IsParseBlame : List SourceFile → Blame → Type 0
-IsParseBlame files blame = IsFirstFile IsParsed (IsTreeBlame blame) files
 
 -- ---- meaning
 

@@ -19,7 +19,7 @@ ghost use Rattle.typed_tree.specs.Sound.{IsSound};
 ghost use Rattle.source_compiler.specs.Source.{IsProgramBlame};
 ghost use Rattle.input_refusals.specs.Agreement.{IsBlamedOrNoMemory, Judges};
 ghost use Rattle.source_compiler.specs.Compiled.{IsCompiled};
-ghost use Rattle.source_compiler.specs.Program.{AreTreesOf, HasTree, IsFirstFile, IsOffenceBlame, IsParseBlame, IsScreenBlame, IsScreened, IsSizeBlame, IsTokenBlame, IsTreeBlame, column_past, end_blame, lines_of, most, name_in, offence_blame, wrong_blame};
+ghost use Rattle.source_compiler.specs.Program.{AreTreesOf, HasTree, IsFirstFile, IsOffenceBlame, IsParsed, IsScreened, IsSizeBlame, IsTokenBlame, IsTreeBlame, column_past, end_blame, lines_of, most, name_in, offence_blame, wrong_blame};
 
 use crate::compiled::Compiled;
 use crate::rules::{NOT_SPELLED, TOO_DEEP, TOO_LARGE, source_rule};
@@ -77,7 +77,8 @@ pub(crate) fn code_of(
 
 /// Blames the first token of the first file that has one which a program may not have.
 fn screen_files(alloc: Global, files: &[SourceFile]) -> Result<(), InputRefusal>
-    ensures { Judges (λ done. All IsScreened files.now) (IsScreenBlame files.now) result }
+    ensures { Judges (λ done. All IsScreened files.now)
+        (λ blame. IsFirstFile IsScreened (IsTokenBlame blame) files.now) result }
 {
     for file in files {
         screen_file(alloc, file)?;
@@ -103,7 +104,8 @@ fn screen_file(alloc: Global, file: &SourceFile) -> Result<(), InputRefusal>
 fn parse_files(alloc: Global, files: &[SourceFile]) -> Result<Program, InputRefusal>
     requires few { token_count files.now ≤ token_limit }
     requires texts { AreOfTexts files.now }
-    ensures { Judges (AreTreesOf files.now) (IsParseBlame files.now) result }
+    ensures { Judges (AreTreesOf files.now)
+        (λ blame. IsFirstFile IsParsed (IsTreeBlame blame) files.now) result }
 {
     let mut trees = Vec::new(alloc);
     for file in files {

@@ -2,7 +2,7 @@
 
 ghost use Rattle.std.specs.Prelude.{◌≡◌, ◌≤◌, IfOk, IfSome, IsErrOf, length};
 ghost use Rattle.capl_include.specs.Answer.{token_count};
-ghost use Rattle.capl_include.specs.Expansion.{file_limit};
+ghost use Rattle.capl_include.specs.Expansion.{IsExpansion, Stopped, file_limit};
 ghost use Rattle.capl_include.specs.Text.{AreOfTexts};
 ghost use Rattle.capl_lexer.specs.Reading.{token_limit};
 ghost use Rattle.check_names.specs.Names.{messages_of};
@@ -10,7 +10,7 @@ ghost use Rattle.texts.specs.Fault.{HasRisen};
 ghost use Rattle.source_compiler.specs.Source.{IsSourceBlame};
 ghost use Rattle.input_refusals.specs.Agreement.{Agrees};
 ghost use Rattle.source_compiler.specs.Compiled.{IsCoded, IsCompiledSource};
-ghost use Rattle.source_compiler.specs.Program.{FilesAt, IsFilesBlame, most};
+ghost use Rattle.source_compiler.specs.Program.{FilesAt, most};
 
 use crate::compiled::Compiled;
 use crate::program::code_of;
@@ -53,7 +53,7 @@ fn read_files<F: Files>(
     files: &mut F,
 ) -> Result<Items<SourceFile>, InputRefusal>
     ensures told { IfSome (F.held files.old) (λ contents.
-        Agrees (FilesAt contents name.now) (IsFilesBlame contents name.now) result) }
+        Agrees (FilesAt contents name.now) (λ blame. IsExpansion contents name.now (Stopped blame)) result) }
     ensures few_files { IfOk result (λ sources. length sources ≤ file_limit) }
     ensures few { IfOk result (λ sources. token_count sources ≤ token_limit) }
     ensures texts { IfOk result (λ sources. AreOfTexts sources) }

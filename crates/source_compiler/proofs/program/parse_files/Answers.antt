@@ -4,7 +4,7 @@ use Rattle.std.proofs.lemmas.List.{take_all}
 use Rattle.std.specs.List.{AllZip}
 use Rattle.capl_include.specs.declared.expanded.SourceFile.{SourceFile}
 use Rattle.capl_tree.specs.declared.file.FileTree.{FileTree}
-use Rattle.source_compiler.specs.Program.{AreTreesOf, HasTree, IsParseBlame, IsParsed, IsTreeBlame}
+use Rattle.source_compiler.specs.Program.{AreTreesOf, HasTree, IsFirstFile, IsParsed, IsTreeBlame}
 use Rattle.source_compiler.proofs.FileLemmas.{few_in_each, first_at, zip_more, zip_parsed}
 use Rattle.input_refusals.proofs.Passing.{judged_on}
 use Rattle.source_compiler.proofs.program.parse_files.Goals as goal
@@ -18,7 +18,8 @@ returns-in_err-tree c =
     let files = c.args.files.now in
     let file = c.file-item.result in
     let index = c.loop-file.file-index in
-    judged_on (HasTree file) (λ blame. IsTreeBlame blame file) (AreTreesOf files) (IsParseBlame files)
+    judged_on (HasTree file) (λ blame. IsTreeBlame blame file) (AreTreesOf files)
+    (λ blame. IsFirstFile IsParsed (IsTreeBlame blame) files)
     c.in_err-tree.field-0.0 c.from_residual.result c.from_residual.ensures.1
     (λ blame wrong. first_at IsParsed (IsTreeBlame blame) files index file c.loop-file-test.true c.file-item.is
     (zip_parsed (take index files) c.loop-file.trees.items c.loop-file.invariant) wrong)

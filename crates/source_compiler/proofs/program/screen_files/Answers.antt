@@ -1,7 +1,7 @@
 -- A file more, and one that is to blame.
 use Rattle.std.proofs.Common.{All, subst}
 use Rattle.std.proofs.lemmas.List.{take_all}
-use Rattle.source_compiler.specs.Program.{IsScreenBlame, IsScreened, IsTokenBlame}
+use Rattle.source_compiler.specs.Program.{IsFirstFile, IsScreened, IsTokenBlame}
 use Rattle.source_compiler.proofs.FileLemmas.{all_more, first_at}
 use Rattle.input_refusals.proofs.Passing.{judged_on}
 use Rattle.source_compiler.proofs.program.screen_files.Goals as goal
@@ -10,7 +10,8 @@ pub returns-in_err-screen_file : goal.returns-in_err-screen_file
 returns-in_err-screen_file c =
     let files = c.args.files.now in
     let file = c.file-item.result in
-    judged_on {A = Unit {0}} {B = Unit {0}} (λ done. IsScreened file) (λ blame. IsTokenBlame blame file) (λ done. All IsScreened files) (IsScreenBlame files)
+    judged_on {A = Unit {0}} {B = Unit {0}} (λ done. IsScreened file) (λ blame. IsTokenBlame blame file) (λ done. All IsScreened files)
+    (λ blame. IsFirstFile IsScreened (IsTokenBlame blame) files)
     c.in_err-screen_file.field-0.0 c.from_residual.result c.from_residual.ensures.1
     (λ blame wrong. first_at IsScreened (IsTokenBlame blame) files c.loop-file.file-index file c.loop-file-test.true c.file-item.is c.loop-file.invariant wrong)
     c.in_err-screen_file.ensures
