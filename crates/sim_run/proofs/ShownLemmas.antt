@@ -42,6 +42,7 @@ use Rattle.sim_play.specs.declared.labels.Labels.{Labels}
 use Rattle.sim_play.specs.declared.labels.Show.{Show}
 use Rattle.sim_play.specs.declared.labels.Show.TheVariants.{Window, Log, Both, Profile, Summary}
 use Rattle.sim_text.specs.Profile.{profile_line}
+use Rattle.source_compiler.proofs.LineLemmas.{line_told}
 use Rattle.source_compiler.specs.Program.{lines_of}
 use Rattle.source_laws.specs.Code.{IsEntryOf, HasSourceTables}
 use Rattle.source_laws.specs.Source.{SourceMemory, by_source_reaction}
@@ -119,7 +120,7 @@ lines_same name of row number (handler ∷ handlers) [] zip = elim zip [ ]
 lines_same name of row number (handler ∷ handlers) (entry ∷ entries) zip =
     let is : IsEntryOf (lines_of of.files) handler entry = zip.0 in
     let file = is.file in
-    let line = is.line in
+    let line = is.line ∙ line_told of.files handler.file handler.token in
     let event = is.event in
     let rest = lines_same name of row (number + 1) handlers entries zip.1 in
     (λ i. profile_line name (file_of (file_names of) (file i)) (line i) (event i) (row number) ++ rest i)

@@ -1,5 +1,6 @@
 -- What a command shows of a run of sources.
 use Rattle.std.specs.Prelude.{ℕ, ◌+◌, List, [], ◌∷◌, ◌++◌, length, map}
+use Rattle.std.specs.Option.{option_map_or}
 use Rattle.stack_vm.specs.declared.meter.MeterRow.{MeterRow}
 use Rattle.replay_node.specs.declared.replay.Replay.{Replay}
 use Rattle.scenario.specs.declared.scenario.NodeItem.{NodeItem}
@@ -8,8 +9,7 @@ use Rattle.dbc_reader.specs.declared.message.DbcMessage.{DbcMessage}
 use Rattle.capl_meaning.specs.Procedure as source
 use Rattle.run_meaning.specs.Counts.{row_then}
 use Rattle.run_meaning.specs.Steps.{Step, entries}
-use Rattle.check_types.specs.Lines.{line_in}
-use Rattle.source_compiler.specs.Program.{lines_of}
+use Rattle.source_compiler.specs.Program.{token_in}
 use Rattle.sim_inputs.specs.Nodes.{NodeSource, file_names}
 use Rattle.sim_play.specs.Files.{file_of}
 use Rattle.sim_play.specs.Show.{shown, shown_first}
@@ -37,7 +37,8 @@ abbrev pub procedure_lines : List ℕ → NodeSource → (ℕ → MeterRow) → 
 procedure_lines name of row number [] = []
 procedure_lines name of row number (handler ∷ handlers) =
     profile_line name (file_of (file_names of) handler.file)
-    (line_in (lines_of of.files) handler.file handler.token) handler.event (row number)
+    (option_map_or (λ token. token.line) (token_in of.files handler.file handler.token) 0)
+    handler.event (row number)
     ++ procedure_lines name of row (number + 1) handlers
 
 -- the lines of nodes in a profile, the first of which has the rows from a number on

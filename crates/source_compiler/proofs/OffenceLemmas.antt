@@ -1,15 +1,18 @@
 -- A program has one first offence.
-use Rattle.std.proofs.Common.{◌≡◌, List, [], sym, subst, ◌∙◌, arith, inl, inr}
-use Rattle.std.specs.Prelude.{Contains}
+use Rattle.std.proofs.Common.{◌≡◌, ℕ, List, [], sym, subst, ◌∙◌, arith, inl, inr}
+use Rattle.std.specs.Prelude.{Contains, slice_get}
+use Rattle.std.specs.Option.{option_map_or}
 use Rattle.std.proofs.lemmas.List.Elements.{All-contains}
 use Rattle.texts.specs.declared.blame.Blame.{Blame}
 use Rattle.texts.specs.Rule.{source_rule}
+use Rattle.capl_lexer.specs.declared.token.Token.{Token}
+use Rattle.capl_include.specs.Blame.{place_blame}
 use Rattle.capl_include.specs.declared.expanded.SourceFile.{SourceFile}
 use Rattle.capl_meaning.specs.Offences.{IsFirst, IsNoLater, offences_of}
 use Rattle.capl_meaning.specs.declared.offence.Offence.{Offence}
 use Rattle.capl_tree.specs.declared.file.Program.{Program}
 use Rattle.dbc_reader.specs.declared.message.DbcMessage.{DbcMessage}
-use Rattle.source_compiler.specs.Program.{IsOffenceBlame, name_in, offence_blame, token_blame, token_in}
+use Rattle.source_compiler.specs.Program.{IsOffenceBlame, offence_blame, token_in}
 
 -- two offences of which none is later are at one place, by rules of one number
 record AreAtOnePlace (a b : Offence) : Type 0 where
@@ -31,9 +34,15 @@ one_place : (offences : List Offence) (a b : Offence) → IsFirst a offences →
 one_place offences a b one two =
     at_one_place a b (All-contains (IsNoLater a) offences b one.earliest two.among) (All-contains (IsNoLater b) offences a two.earliest one.among)
 
+-- the blame of a rule at a place
+abbrev blame_at : List SourceFile → ℕ → ℕ → ℕ → Blame
+blame_at files file number rule =
+    place_blame (option_map_or (λ (f : SourceFile). f.name) (slice_get files file) [])
+    (option_map_or (λ (t : Token). t.line) (token_in files file number) 0)
+    (option_map_or (λ (t : Token). t.column) (token_in files file number) 0) (source_rule rule)
+
 same_blame : (files : List SourceFile) (a b : Offence) → AreAtOnePlace a b → offence_blame files a ≡ offence_blame files b
-same_blame files a b same =
-    λ i. token_blame (name_in files (same.file i)) (token_in files (same.file i) (same.token i)) (source_rule (same.number i))
+same_blame files a b same = λ i. blame_at files (same.file i) (same.token i) (same.number i)
 
 -- an offence has one blame
 pub one_offence_blame : (base : List DbcMessage) (files : List SourceFile) (program : Program) (blame other : Blame) → IsOffenceBlame base files program blame → IsOffenceBlame base files program other → blame ≡ other

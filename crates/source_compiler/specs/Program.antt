@@ -1,7 +1,7 @@
 -- The program of a node's files, and which of its rules is the first that is broken.
-use Rattle.std.specs.Prelude.{◌≡◌, ◌<◌, ◌≤◌, ◌⊎◌, ℕ, ◌+◌, ◌-◌, List, [], ◌∷◌, ◌++◌, length, map, slice_get, unwrap_or, Option, Some, None, All}
+use Rattle.std.specs.Prelude.{◌≡◌, ◌<◌, ◌≤◌, ◌⊎◌, ℕ, ◌+◌, ◌-◌, List, [], ◌∷◌, ◌++◌, length, map, slice_get, Option, Some, None, All}
 use Rattle.std.specs.List.{AllZip}
-use Rattle.std.specs.Option.{option_and_then, option_map}
+use Rattle.std.specs.Option.{option_and_then, option_map_or}
 use Rattle.texts.specs.declared.blame.Blame.{Blame}
 use Rattle.texts.specs.declared.blame.Rule.{Rule}
 use Rattle.texts.specs.Rule.{source_rule}
@@ -71,15 +71,12 @@ AreTreesOf files program = AllZip HasTree files program.files
 abbrev pub column_past : Token → ℕ
 column_past token = token.column + (token.to - token.from)
 
--- the place just past the last token is to blame; the beginning of the file where there is none
-abbrev pub end_blame : List ℕ → Option Token → Rule → Blame
-end_blame name None rule = place_blame name 1 1 rule
-end_blame name (Some last) rule = place_blame name last.line (column_past last) rule
-
--- the place of a wrong token, or where there is none the one just past the last token
+-- the place of a wrong token, or where there is none the one just past the last token; the beginning of the
+-- file where there is no token
 abbrev pub wrong_blame : List ℕ → Option Token → Option Token → Blame
 wrong_blame name (Some wrong) last = place_blame name wrong.line wrong.column (source_rule 2)
-wrong_blame name None last = end_blame name last (source_rule 2)
+wrong_blame name None (Some last) = place_blame name last.line (column_past last) (source_rule 2)
+wrong_blame name None None = place_blame name 1 1 (source_rule 2)
 
 -- the tokens of a file nest no deeper than they may and spell no tree, and to blame is the first wrong one,
 -- or the place just past the last
@@ -103,23 +100,16 @@ IsTreeBlame blame file =
 abbrev pub lines_of : List SourceFile → List (List ℕ)
 lines_of files = map (λ file. map (λ token. token.line) file.tokens) files
 
--- the name of the file of a number
-abbrev pub name_in : List SourceFile → ℕ → List ℕ
-name_in files number = unwrap_or (option_map (λ file. file.name) (slice_get files number)) []
-
 -- the token of a number in the file of a number
 abbrev pub token_in : List SourceFile → ℕ → ℕ → Option Token
 token_in files file token = option_and_then (λ f. slice_get f.tokens token) (slice_get files file)
 
--- the place of a token of a file is to blame; line and column are 0 where there is no such token
-abbrev pub token_blame : List ℕ → Option Token → Rule → Blame
-token_blame name None rule = place_blame name 0 0 rule
-token_blame name (Some token) rule = place_blame name token.line token.column rule
-
--- the blame of an offence: the place of its token in its file
+-- the blame of an offence: the place of its token in its file; line and column are 0 where there is none
 abbrev pub offence_blame : List SourceFile → Offence → Blame
 offence_blame files offence =
-    token_blame (name_in files offence.file) (token_in files offence.file offence.token)
+    let token : Option Token = token_in files offence.file offence.token in
+    place_blame (option_map_or (λ file. file.name) (slice_get files offence.file) [])
+    (option_map_or (λ t. t.line) token 0) (option_map_or (λ t. t.column) token 0)
     (source_rule offence.rule.number)
 
 -- the program breaks a rule of E09 to E28, and this is its first offence

@@ -19,7 +19,7 @@ ghost use Rattle.typed_tree.specs.Sound.{IsSound};
 ghost use Rattle.source_compiler.specs.Source.{IsProgramBlame};
 ghost use Rattle.input_refusals.specs.Agreement.{IsBlamedOrNoMemory, Judges};
 ghost use Rattle.source_compiler.specs.Compiled.{IsCompiled};
-ghost use Rattle.source_compiler.specs.Program.{AreTreesOf, HasTree, IsFirstFile, IsOffenceBlame, IsParsed, IsScreened, IsSizeBlame, IsTokenBlame, IsTreeBlame, column_past, end_blame, lines_of, most, name_in, offence_blame, wrong_blame};
+ghost use Rattle.source_compiler.specs.Program.{AreTreesOf, HasTree, IsFirstFile, IsOffenceBlame, IsParsed, IsScreened, IsSizeBlame, IsTokenBlame, IsTreeBlame, column_past, lines_of, most, offence_blame, wrong_blame};
 
 use crate::compiled::Compiled;
 use crate::rules::{NOT_SPELLED, TOO_DEEP, TOO_LARGE, source_rule};
@@ -150,7 +150,7 @@ fn blamed_wrong(alloc: Global, file: &SourceFile, number: u32) -> InputRefusal
 fn blamed_end(alloc: Global, name: &[u8], tokens: &[Token]) -> InputRefusal
     requires { IsOfText tokens.now }
     ensures { IsBlamedOrNoMemory
-        (end_blame name.now (slice_get tokens.now (length tokens.now - 1)) (source_rule 2)) result }
+        (wrong_blame name.now None (slice_get tokens.now (length tokens.now - 1))) result }
 {
     match tokens.get(tokens.len().saturating_sub(1)) {
         Some(last) => blamed_place(alloc, name, last.line, column_past(last), NOT_SPELLED),
