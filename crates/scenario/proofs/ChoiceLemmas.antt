@@ -1,7 +1,6 @@
--- Choices by tests, and the first of some tests that holds.
-use Rattle.std.proofs.Common.{◌≡◌, ℕ, suc, zero, ◌+◌, Bool, true, false, List, [], ◌∷◌, get_or, None, refl}
+-- Choices by tests, and what holds where no rule is told.
+use Rattle.std.proofs.Common.{◌≡◌, ℕ, Bool, true, false, Option, Some, None, refl}
 use Rattle.std.specs.Prelude.{if◌then◌else◌}
-use Rattle.std.specs.List.{position_from}
 
 -- the choice where the test holds
 pub taken : {X : Type 0} (b : Bool) (x y : X) → b ≡ true → x ≡ (if b then x else y)
@@ -11,9 +10,9 @@ taken b x y holds = rw holds refl
 pub passed : {X : Type 0} (b : Bool) (x y z : X) → b ≡ false → z ≡ y → z ≡ (if b then x else y)
 passed b x y z fails same = rw fails same
 
--- where no test holds, none at a place does
-pub none_holds : (n : ℕ) (tests : List Bool) (k : ℕ) → position_from (λ b. b) n tests ≡ None → get_or tests k false ≡ false
-none_holds n [] k none = refl
-none_holds n (true ∷ tests) k none = absurd (cc)
-none_holds n (false ∷ tests) zero none = refl
-none_holds n (false ∷ tests) (suc k) none = none_holds (n + 1) tests k none
+-- where no rule is told, neither test holds, and no other rule is told
+pub none_told : (first second : Bool) (one two : ℕ) (other : Option ℕ) → (if first then Some one else if second then Some two else other) ≡ None
+    → (first ≡ false) × (second ≡ false) × (other ≡ None)
+none_told true second one two other none = absurd (cc)
+none_told false true one two other none = absurd (cc)
+none_told false false one two other none = (refl, refl, none)

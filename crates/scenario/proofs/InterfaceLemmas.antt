@@ -1,30 +1,44 @@
 -- The interface of a scenario is one, since no line breaks the rule on interfaces.
 use Rattle.std.proofs.Common.{◌≡◌, ◌<◌, ℕ, suc, Bool, true, false, List, [], ◌∷◌, length, take, refl, sym, subst, arith}
-use Rattle.std.specs.Prelude.{All, None, codes, if◌then◌else◌, not, slice_index_or, unwrap_or}
+use Rattle.std.specs.Prelude.{All, None, Some, codes, if◌then◌else◌, slice_index_or, unwrap_or}
 use Rattle.std.specs.List.{flat_map}
 use Rattle.std.specs.Str.Lines.{lines}
 use Rattle.std.proofs.lemmas.List.Elements.{All-append, All-cons, All-head, All-nil, All-tail}
 use Rattle.scenario.specs.Item.{fields_of, is_passed_over, item_of, items_in, items_of}
-use Rattle.scenario.specs.Rule.{breaks_S10, broken_rules, least_of, rule_of_line}
+use Rattle.scenario.specs.Rule.{nodes_of, rule_by_kind, rule_of_item, rule_of_line}
 use Rattle.scenario.specs.Scenario.{IsScenario, first_of, interface_in}
 use Rattle.scenario.specs.Value.{is_interface}
 use Rattle.scenario.specs.declared.item.Item.{Item}
 use Rattle.scenario.specs.declared.item.Item.TheVariants as item
 use Rattle.scenario.specs.declared.scenario.Scenario.{Scenario}
-use Rattle.scenario.proofs.ChoiceLemmas.{none_holds}
+use Rattle.scenario.specs.declared.scenario.NodeItem.{NodeItem}
+use Rattle.scenario.proofs.SaidLemmas.{rules_kept}
 
 -- ---- no line breaks the rule
 
--- an item does not break it
+-- it is one
+abbrev IsOne : List ℕ → Type 0
+IsOne name = is_interface name ≡ true
+
+-- the interface of an item is one
 abbrev IsKept : Item → Type 0
-IsKept here = breaks_S10 here ≡ false
+IsKept here = All IsOne (interface_in here)
+
+kept : (b : Bool) (rule : ℕ) → (if b then None else Some rule) ≡ None → b ≡ true
+kept true rule none = refl
+kept false rule none = absurd (cc)
+
+item_kept : (nodes : List NodeItem) (here : Item) → rule_by_kind nodes here ≡ None → IsKept here
+item_kept nodes (item.Interface name) none = All-cons IsOne name [] (kept (is_interface name) 10 none) (All-nil _)
+item_kept nodes _ none = All-nil _
 
 line_kept : (before : List (List ℕ)) (line : List ℕ) → rule_of_line before line ≡ None → All IsKept (items_in line)
 line_kept before line = go (is_passed_over line) (item_of (fields_of line))
   where
-    go : (passed : Bool) (here : Item) → (if passed then None else least_of (broken_rules (items_of before) here)) ≡ None → All IsKept (if passed then [] else here ∷ [])
+    go : (passed : Bool) (here : Item) → (if passed then None else rule_of_item (items_of before) here) ≡ None → All IsKept (if passed then [] else here ∷ [])
     go true here none = All-nil _
-    go false here none = All-cons IsKept here [] (none_holds 1 (broken_rules (items_of before) here) 9 none) (All-nil _)
+    go false here none =
+        All-cons IsKept here [] (item_kept (nodes_of (items_of before)) here (rules_kept (items_of before) here none).2) (All-nil _)
 
 lines_kept : (all : List (List ℕ)) → ((k : ℕ) → k < length all → (before : List (List ℕ)) × (rule_of_line before (slice_index_or all k []) ≡ None)) → All IsKept (items_of all)
 lines_kept [] right = All-nil _
@@ -34,22 +48,10 @@ lines_kept (line ∷ all) right =
 
 -- ---- the interface
 
--- it is one
-abbrev IsOne : List ℕ → Type 0
-IsOne name = is_interface name ≡ true
-
-kept : (b : Bool) → not b ≡ false → b ≡ true
-kept true is = refl
-kept false is = absurd (cc)
-
-own_interface : (here : Item) → IsKept here → All IsOne (interface_in here)
-own_interface (item.Interface name) is = All-cons IsOne name [] (kept (is_interface name) is) (All-nil _)
-own_interface _ is = All-nil _
-
 interfaces : (items : List Item) → All IsKept items → All IsOne (flat_map interface_in items)
 interfaces [] all = All-nil _
 interfaces (here ∷ items) all =
-    All-append IsOne (interface_in here) (flat_map interface_in items) (own_interface here (All-head IsKept here items all)) (interfaces items (All-tail IsKept here items all))
+    All-append IsOne (interface_in here) (flat_map interface_in items) (All-head IsKept here items all) (interfaces items (All-tail IsKept here items all))
 
 first_one : (names : List (List ℕ)) (default : List ℕ) → All IsOne names → IsOne default → IsOne (unwrap_or (first_of names) default)
 first_one [] default all holds = holds

@@ -11,10 +11,10 @@ use Rattle.scenario.specs.declared.item.Item.{Item}
 use Rattle.scenario.specs.declared.item.Item.TheVariants as item
 use Rattle.scenario.specs.declared.scenario.Scenario.{Scenario}
 use Rattle.scenario.specs.Item.{is_passed_over, is_gap, fields_of, item_of, items_in, items_of}
-use Rattle.scenario.specs.Rule.{broken_rules, least_of, nodes_of, rule_of_line, rule_at, AreRightBefore, IsFirstBroken, HasNoItem, HasNoNode}
+use Rattle.scenario.specs.Rule.{nodes_of, rule_of_item, rule_of_line, rule_at, AreRightBefore, IsFirstBroken, HasNoItem, HasNoNode}
 use Rattle.scenario.specs.Scenario.{IsScenario}
 use Rattle.scenario.specs.Inside.Draft.{Said, said_by, is_scenario, rule_of_next, with_item, with_line, IsScenarioOf}
-use Rattle.scenario.proofs.SaidLemmas.{IsSound, none_first, rules_told, said_more, sound_more}
+use Rattle.scenario.proofs.SaidLemmas.{IsSound, none_first, rule_told, said_more, sound_more}
 
 -- the rest of a text is left, after so many lines that break no rule and say this
 pub record Reached (text rest : List ℕ) (place : ℕ) (s : Said) : Type 0 where
@@ -56,11 +56,11 @@ next_rule : (text rest : List ℕ) (place : ℕ) (s : Said) (line : List ℕ) �
 next_rule text rest place s line reached is =
     let items = items_of (take place (lines text)) in
     ap (rule_of_line (take place (lines text))) is
-    ∙ ap (λ rule. if is_passed_over line then None else rule) (ap least_of (rules_told items reached.sound (item_of (fields_of line))))
+    ∙ ap (λ rule. if is_passed_over line then None else rule) (rule_told items reached.sound (item_of (fields_of line)))
     ∙ ap (λ s. rule_of_next s line) (sym reached.said)
 
 -- what one more line says, where it breaks no rule
-line_more : (b : Bool) (items : List Item) (here : Item) → IsSound items → (if b then None else least_of (broken_rules items here)) ≡ None
+line_more : (b : Bool) (items : List Item) (here : Item) → IsSound items → (if b then None else rule_of_item items here) ≡ None
     → (said_by (items ++ (if b then [] else here ∷ [])) ≡ (if b then said_by items else with_item (said_by items) here))
     × IsSound (items ++ (if b then [] else here ∷ []))
 line_more true items here sound none = (ap said_by (append-nil items), subst IsSound (sym (append-nil items)) sound)

@@ -1,6 +1,6 @@
 -- What items say, against what is said so far and one more item.
 use Rattle.std.proofs.Common.{◌≡◌, ℕ, Bool, true, false, not, ◌&&◌, ◌||◌, List, [], ◌∷◌, ◌++◌, Option, Some, None, refl, sym, ap, ◌∙◌, All}
-use Rattle.std.specs.Prelude.{is_some}
+use Rattle.std.specs.Prelude.{if◌then◌else◌, is_some}
 use Rattle.std.specs.Option.{option_to_list}
 use Rattle.std.specs.List.{list_any, flat_map}
 use Rattle.std.proofs.lemmas.Bool.{false≢true}
@@ -11,10 +11,11 @@ use Rattle.std.proofs.lemmas.List.Elements.{All-nil, All-cons, All-head, All-tai
 use Rattle.scenario.specs.declared.item.Item.{Item}
 use Rattle.scenario.specs.declared.item.Item.TheVariants as item
 use Rattle.scenario.specs.declared.scenario.Epoch.{Epoch}
-use Rattle.scenario.specs.Rule.{breaks_S01, breaks_S02, breaks_S03, breaks_S04, breaks_S05, breaks_S06, breaks_S07, breaks_S08, breaks_S09, breaks_S10, breaks_S11, is_repeated, node_in, nodes_of, broken_rules, least_of}
+use Rattle.scenario.specs.declared.scenario.NodeItem.{NodeItem}
+use Rattle.scenario.specs.Rule.{breaks_S01, is_repeated, node_in, nodes_of, rule_by_kind, rule_of_item}
 use Rattle.scenario.specs.Scenario.{first_of, database_in, bit_in, until_in, turns_in, epoch_in, interface_in, picks_in, key_in, replay_in}
-use Rattle.scenario.specs.Inside.Draft.{said_by, is_scenario, is_start, is_said, broken_behind, with_item, started_with, database_with, nodes_with, bit_with, until_with, turns_with, epoch_with, interface_with, picks_with, keys_with, replay_with}
-use Rattle.scenario.proofs.ChoiceLemmas.{none_holds}
+use Rattle.scenario.specs.Inside.Draft.{said_by, is_scenario, is_start, is_said, rule_behind, with_item, started_with, database_with, nodes_with, bit_with, until_with, turns_with, epoch_with, interface_with, picks_with, keys_with, replay_with}
+use Rattle.scenario.proofs.ChoiceLemmas.{none_told}
 
 -- the item has a value, where it may lack one
 abbrev pub has_value : Item → Bool
@@ -92,7 +93,7 @@ replay_told file (item.Replay other) ok = refl
 replay_told file _ ok = refl
 
 -- S03 is broken where the item was said
-said_told : (items : List Item) → IsSound items → (here : Item) → breaks_S03 items here ≡ is_said (said_by items) here
+said_told : (items : List Item) → IsSound items → (here : Item) → list_any (is_repeated here) items ≡ is_said (said_by items) here
 said_told items sound (item.Scenario version) = any_same (is_repeated (item.Scenario version)) is_scenario (scenario_same version) items
 said_told items sound (item.Database file) = any_is_some (is_repeated (item.Database file)) database_in (database_told file) items sound.valued
 said_told items sound (item.Bitrate value) = any_is_some (is_repeated (item.Bitrate value)) bit_in (bit_told value) items sound.valued
@@ -117,12 +118,13 @@ first_told [] begun (item.Scenario version) = refl
 first_told [] begun _ = refl
 first_told (first ∷ items) begun here = behind_first (list_any is_scenario (first ∷ items)) (not (is_start here)) begun
 
--- the rules that an item breaks behind others are those that it breaks behind what they say
-pub rules_told : (items : List Item) → IsSound items → (here : Item) → broken_rules items here ≡ broken_behind (said_by items) here
-rules_told items sound here =
+-- the rule that an item breaks behind others is that which it breaks behind what they say
+pub rule_told : (items : List Item) → IsSound items → (here : Item) → rule_of_item items here ≡ rule_behind (said_by items) here
+rule_told items sound here =
     λ i.
-    first_told items sound.begun here i ∷ breaks_S02 here ∷ said_told items sound here i ∷ breaks_S04 (nodes_of items) here
-    ∷ breaks_S05 (nodes_of items) here ∷ breaks_S06 here ∷ breaks_S07 here ∷ breaks_S08 here ∷ breaks_S09 here ∷ breaks_S10 here ∷ breaks_S11 here ∷ []
+    if first_told items sound.begun here i then Some 1
+    else if said_told items sound here i then Some 3
+    else rule_by_kind (nodes_of items) here
 
 -- an item that says nothing of a kind adds nothing
 more_none : {X : Type 0} (f : Item → List X) (items : List Item) (here : Item) → f here ≡ [] → flat_map f (items ++ here ∷ []) ≡ flat_map f items
@@ -155,7 +157,7 @@ started_more : (items : List Item) (here : Item) → list_any is_scenario (items
 started_more items (item.Scenario version) = list_any-append is_scenario items (item.Scenario version ∷ []) ∙ or_true (list_any is_scenario items)
 started_more items other = list_any-append is_scenario items (other ∷ []) ∙ or_false (list_any is_scenario items)
 
-database_more : (items : List Item) → IsSound items → (here : Item) → breaks_S03 items here ≡ false
+database_more : (items : List Item) → IsSound items → (here : Item) → list_any (is_repeated here) items ≡ false
     → first_of (flat_map database_in (items ++ here ∷ [])) ≡ database_with (first_of (flat_map database_in items)) here
 database_more items sound (item.Database file) once =
     ap first_of (more_first database_in items (item.Database file) (unsaid (is_repeated (item.Database file)) database_in (database_told file) items sound once))
@@ -165,31 +167,31 @@ nodes_more : (items : List Item) (here : Item) → nodes_of (items ++ here ∷ [
 nodes_more items (item.Node node) = flat_map-append node_in items (item.Node node ∷ [])
 nodes_more items other = more_none node_in items other refl
 
-bit_more : (items : List Item) → IsSound items → (here : Item) → breaks_S03 items here ≡ false
+bit_more : (items : List Item) → IsSound items → (here : Item) → list_any (is_repeated here) items ≡ false
     → first_of (flat_map bit_in (items ++ here ∷ [])) ≡ bit_with (first_of (flat_map bit_in items)) here
 bit_more items sound (item.Bitrate value) once =
     ap first_of (more_first bit_in items (item.Bitrate value) (unsaid (is_repeated (item.Bitrate value)) bit_in (bit_told value) items sound once)) ∙ first_of_option value
 bit_more items sound other once = ap first_of (more_none bit_in items other refl)
 
-until_more : (items : List Item) → IsSound items → (here : Item) → breaks_S03 items here ≡ false
+until_more : (items : List Item) → IsSound items → (here : Item) → list_any (is_repeated here) items ≡ false
     → first_of (flat_map until_in (items ++ here ∷ [])) ≡ until_with (first_of (flat_map until_in items)) here
 until_more items sound (item.Until value) once =
     ap first_of (more_first until_in items (item.Until value) (unsaid (is_repeated (item.Until value)) until_in (until_told value) items sound once)) ∙ first_of_option value
 until_more items sound other once = ap first_of (more_none until_in items other refl)
 
-turns_more : (items : List Item) → IsSound items → (here : Item) → breaks_S03 items here ≡ false
+turns_more : (items : List Item) → IsSound items → (here : Item) → list_any (is_repeated here) items ≡ false
     → first_of (flat_map turns_in (items ++ here ∷ [])) ≡ turns_with (first_of (flat_map turns_in items)) here
 turns_more items sound (item.Turns value) once =
     ap first_of (more_first turns_in items (item.Turns value) (unsaid (is_repeated (item.Turns value)) turns_in (turns_told value) items sound once)) ∙ first_of_option value
 turns_more items sound other once = ap first_of (more_none turns_in items other refl)
 
-epoch_more : (items : List Item) → IsSound items → (here : Item) → breaks_S03 items here ≡ false
+epoch_more : (items : List Item) → IsSound items → (here : Item) → list_any (is_repeated here) items ≡ false
     → first_of (flat_map epoch_in (items ++ here ∷ [])) ≡ epoch_with (first_of (flat_map epoch_in items)) here
 epoch_more items sound (item.Epoch value) once =
     ap first_of (more_first epoch_in items (item.Epoch value) (unsaid (is_repeated (item.Epoch value)) epoch_in (epoch_told value) items sound once)) ∙ first_of_option value
 epoch_more items sound other once = ap first_of (more_none epoch_in items other refl)
 
-interface_more : (items : List Item) → IsSound items → (here : Item) → breaks_S03 items here ≡ false
+interface_more : (items : List Item) → IsSound items → (here : Item) → list_any (is_repeated here) items ≡ false
     → first_of (flat_map interface_in (items ++ here ∷ [])) ≡ interface_with (first_of (flat_map interface_in items)) here
 interface_more items sound (item.Interface name) once =
     ap first_of (more_first interface_in items (item.Interface name) (unsaid (is_repeated (item.Interface name)) interface_in (interface_told name) items sound once))
@@ -206,17 +208,22 @@ keys_more items (item.Key (Some key)) = flat_map-append key_in items (item.Key (
 keys_more items (item.Key None) = more_none key_in items (item.Key None) refl
 keys_more items other = more_none key_in items other refl
 
-replay_more : (items : List Item) → IsSound items → (here : Item) → breaks_S03 items here ≡ false
+replay_more : (items : List Item) → IsSound items → (here : Item) → list_any (is_repeated here) items ≡ false
     → first_of (flat_map replay_in (items ++ here ∷ [])) ≡ replay_with (first_of (flat_map replay_in items)) here
 replay_more items sound (item.Replay file) once =
     ap first_of (more_first replay_in items (item.Replay file) (unsaid (is_repeated (item.Replay file)) replay_in (replay_told file) items sound once))
 replay_more items sound other once = ap first_of (more_none replay_in items other refl)
 
+-- an item that breaks no rule keeps S01 and S03, and the rules of its kind
+pub rules_kept : (items : List Item) (here : Item) → rule_of_item items here ≡ None
+    → (breaks_S01 items here ≡ false) × (list_any (is_repeated here) items ≡ false) × (rule_by_kind (nodes_of items) here ≡ None)
+rules_kept items here none = none_told (breaks_S01 items here) (list_any (is_repeated here) items) 1 3 (rule_by_kind (nodes_of items) here) none
+
 -- what items and one more say, where that one breaks no rule
-pub said_more : (items : List Item) → IsSound items → (here : Item) → least_of (broken_rules items here) ≡ None
+pub said_more : (items : List Item) → IsSound items → (here : Item) → rule_of_item items here ≡ None
     → said_by (items ++ here ∷ []) ≡ with_item (said_by items) here
 said_more items sound here none =
-    let once : breaks_S03 items here ≡ false = none_holds 1 (broken_rules items here) 2 none in
+    let once = (rules_kept items here none).1 in
     λ i.
     record {
       is_started = started_more items here i;
@@ -232,16 +239,16 @@ said_more items sound here none =
       replay = replay_more items sound here once i;
     }
 
-valued_here : (items : List Item) (here : Item) → least_of (broken_rules items here) ≡ None → has_value here ≡ true
-valued_here items (item.Bitrate None) none = absurd (false≢true (sym (none_holds 1 (broken_rules items (item.Bitrate None)) 5 none)))
-valued_here items (item.Bitrate (Some value)) none = refl
-valued_here items (item.Until None) none = absurd (false≢true (sym (none_holds 1 (broken_rules items (item.Until None)) 6 none)))
-valued_here items (item.Until (Some value)) none = refl
-valued_here items (item.Turns None) none = absurd (false≢true (sym (none_holds 1 (broken_rules items (item.Turns None)) 7 none)))
-valued_here items (item.Turns (Some value)) none = refl
-valued_here items (item.Epoch None) none = absurd (false≢true (sym (none_holds 1 (broken_rules items (item.Epoch None)) 8 none)))
-valued_here items (item.Epoch (Some value)) none = refl
-valued_here items _ none = refl
+valued_here : (nodes : List NodeItem) (here : Item) → rule_by_kind nodes here ≡ None → has_value here ≡ true
+valued_here nodes (item.Bitrate None) none = absurd (cc)
+valued_here nodes (item.Bitrate (Some value)) none = refl
+valued_here nodes (item.Until None) none = absurd (cc)
+valued_here nodes (item.Until (Some value)) none = refl
+valued_here nodes (item.Turns None) none = absurd (cc)
+valued_here nodes (item.Turns (Some value)) none = refl
+valued_here nodes (item.Epoch None) none = absurd (cc)
+valued_here nodes (item.Epoch (Some value)) none = refl
+valued_here nodes _ none = refl
 
 all_more : (items : List Item) (here : Item) → All (λ i. has_value i ≡ true) items → has_value here ≡ true → All (λ i. has_value i ≡ true) (items ++ here ∷ [])
 all_more [] here all last = All-cons (λ i. has_value i ≡ true) here [] last (All-nil (λ i. has_value i ≡ true))
@@ -263,9 +270,10 @@ begun_more [] here begun right = begins_here here right
 begun_more (first ∷ items) here begun right = started_stays (list_any is_scenario (first ∷ items)) here begun ∙ sym (started_more (first ∷ items) here)
 
 -- items stay sound with one that breaks no rule
-pub sound_more : (items : List Item) → IsSound items → (here : Item) → least_of (broken_rules items here) ≡ None → IsSound (items ++ here ∷ [])
+pub sound_more : (items : List Item) → IsSound items → (here : Item) → rule_of_item items here ≡ None → IsSound (items ++ here ∷ [])
 sound_more items sound here none =
+    let kept = rules_kept items here none in
     record {
-      valued = all_more items here sound.valued (valued_here items here none);
-      begun = begun_more items here sound.begun (none_holds 1 (broken_rules items here) 0 none);
+      valued = all_more items here sound.valued (valued_here (nodes_of items) here kept.2);
+      begun = begun_more items here sound.begun kept.0;
     }

@@ -3,10 +3,10 @@
 ghost use Rattle.std.specs.Prelude.{◌≡◌, ◌==◌, ◌||◌, not, [], length, nat_lt, codes, unwrap_or, IfOk, OnOk};
 ghost use Rattle.std.specs.List.{list_any};
 ghost use Rattle.std.specs.Str.{bytes_eq};
-ghost use Rattle.scenario.specs.Rule.{breaks_S04};
+ghost use Rattle.scenario.specs.Rule.{rule_by_kind, rule_of_node};
 ghost use Rattle.scenario.specs.Value.{is_node_name};
 ghost use Rattle.scenario.specs.Scenario.{AreByMoment};
-ghost use Rattle.scenario.specs.Inside.Draft.{said_by, is_said, rule_of_value, rule_behind, with_item, IsScenarioOf};
+ghost use Rattle.scenario.specs.Inside.Draft.{said_by, is_said, rule_behind, with_item, IsScenarioOf};
 
 use crate::item::Item;
 use crate::scenario::{Epoch, KeyItem, NodeItem, Scenario};
@@ -107,13 +107,10 @@ impl Draft {
         if !self.is_started && !matches!(item, Item::Scenario(true)) {
             return Some(1);
         }
-        if matches!(item, Item::Unknown) {
-            return Some(2);
-        }
         if self.is_said(item) {
             return Some(3);
         }
-        self.rule_of_value(item)
+        self.rule_by_kind(item)
     }
 
     /// Whether the item is one that stands at most once, and stood.
@@ -133,11 +130,12 @@ impl Draft {
         }
     }
 
-    /// The number of the least rule from S04 on that the item breaks behind these.
-    fn rule_of_value(&self, item: &Item) -> Option<u8>
-        ensures { result ≡ rule_of_value self.now item.now }
+    /// The number of the least rule but S01 and S03 that the item breaks behind these.
+    fn rule_by_kind(&self, item: &Item) -> Option<u8>
+        ensures { result ≡ rule_by_kind self.now.nodes item.now }
     {
         match item {
+            Item::Unknown => Some(2),
             Item::Node(node) => self.rule_of_node(node),
             Item::Bitrate(None) => Some(6),
             Item::Until(None) => Some(7),
@@ -152,7 +150,7 @@ impl Draft {
 
     /// The number of the least rule from S04 on that a node breaks behind these.
     fn rule_of_node(&self, node: &NodeItem) -> Option<u8>
-        ensures { result ≡ rule_of_value self.now (Item.Node node.now) }
+        ensures { result ≡ rule_of_node self.now.nodes node.now }
     {
         if self.refuses_name_of(node) {
             Some(4)
@@ -167,7 +165,8 @@ impl Draft {
 
     /// Whether the node may not have its name behind these.
     fn refuses_name_of(&self, node: &NodeItem) -> bool
-        ensures { result ≡ breaks_S04 self.now.nodes (Item.Node node.now) }
+        ensures { result ≡ (not (is_node_name node.now.name)
+            || list_any (λ other. bytes_eq node.now.name other.name) self.now.nodes) }
     {
         self.refuses_name(node.name.bytes())
     }

@@ -1,6 +1,6 @@
 -- What the items so far say, and what one more item adds.
 use Rattle.std.specs.Prelude.{◌≡◌, ℕ, Bool, true, false, not, List, [], ◌∷◌, ◌++◌, ◌&&◌, if◌then◌else◌, codes, Option, Some, None, is_some, unwrap_or}
-use Rattle.std.specs.List.{list_any, flat_map, position_from}
+use Rattle.std.specs.List.{list_any, flat_map}
 use Rattle.scenario.specs.declared.item.Item.{Item}
 use Rattle.scenario.specs.declared.item.Item.TheVariants as item
 use Rattle.scenario.specs.declared.scenario.Epoch.{Epoch}
@@ -9,7 +9,7 @@ use Rattle.scenario.specs.declared.scenario.KeyItem.{KeyItem}
 use Rattle.scenario.specs.declared.scenario.NodeItem.{NodeItem}
 use Rattle.scenario.specs.declared.scenario.Scenario.{Scenario}
 use Rattle.scenario.specs.Item.{is_passed_over, fields_of, item_of}
-use Rattle.scenario.specs.Rule.{breaks_S02, breaks_S04, breaks_S05, breaks_S06, breaks_S07, breaks_S08, breaks_S09, breaks_S10, breaks_S11, nodes_of, least_of}
+use Rattle.scenario.specs.Rule.{nodes_of, rule_by_kind}
 use Rattle.scenario.specs.Scenario.{first_of, database_in, bit_in, until_in, turns_in, epoch_in, interface_in, picks_in, key_in, replay_in, AreByMoment}
 
 -- what some items say
@@ -65,23 +65,12 @@ is_said s (item.Interface _) = is_some s.interface
 is_said s (item.Replay _) = is_some s.replay
 is_said s _ = false
 
--- of each rule S01 to S11, whether the item breaks it behind what was said
-abbrev pub broken_behind : Said → Item → List Bool
-broken_behind s here =
-    (not s.is_started && not (is_start here)) ∷ breaks_S02 here ∷ is_said s here ∷ breaks_S04 s.nodes here
-    ∷ breaks_S05 s.nodes here ∷ breaks_S06 here ∷ breaks_S07 here ∷ breaks_S08 here ∷ breaks_S09 here
-    ∷ breaks_S10 here ∷ breaks_S11 here ∷ []
-
--- the least rule from S04 on that the item breaks behind what was said
-abbrev pub rule_of_value : Said → Item → Option ℕ
-rule_of_value s here =
-    position_from (λ is_broken. is_broken) 4
-    (breaks_S04 s.nodes here ∷ breaks_S05 s.nodes here ∷ breaks_S06 here ∷ breaks_S07 here ∷
-    breaks_S08 here ∷ breaks_S09 here ∷ breaks_S10 here ∷ breaks_S11 here ∷ [])
-
 -- the least rule that the item breaks behind what was said
 abbrev pub rule_behind : Said → Item → Option ℕ
-rule_behind s here = least_of (broken_behind s here)
+rule_behind s here =
+    if not s.is_started && not (is_start here) then Some 1
+    else if is_said s here then Some 3
+    else rule_by_kind s.nodes here
 
 -- whether a `scenario` item stood, with one more item
 abbrev pub started_with : Bool → Item → Bool
