@@ -1,12 +1,12 @@
 -- The interface of a scenario is one, since no line breaks the rule on interfaces.
 use Rattle.std.proofs.Common.{◌≡◌, ◌<◌, ℕ, suc, Bool, true, false, List, [], ◌∷◌, length, take, refl, sym, subst, arith}
-use Rattle.std.specs.Prelude.{All, None, Some, codes, if◌then◌else◌, slice_index_or, unwrap_or}
+use Rattle.std.specs.Prelude.{All, None, Some, codes, if◌then◌else◌, slice_get, slice_index_or, unwrap_or}
 use Rattle.std.specs.List.{flat_map}
 use Rattle.std.specs.Str.Lines.{lines}
 use Rattle.std.proofs.lemmas.List.Elements.{All-append, All-cons, All-head, All-nil, All-tail}
 use Rattle.scenario.specs.Item.{fields_of, is_passed_over, item_of, items_in, items_of}
 use Rattle.scenario.specs.Rule.{nodes_of, rule_by_kind, rule_of_item, rule_of_line}
-use Rattle.scenario.specs.Scenario.{IsScenario, first_of, interface_in}
+use Rattle.scenario.specs.Scenario.{IsScenario, interface_in}
 use Rattle.scenario.specs.Value.{is_interface}
 use Rattle.scenario.specs.declared.item.Item.{Item}
 use Rattle.scenario.specs.declared.item.Item.TheVariants as item
@@ -53,7 +53,7 @@ interfaces [] all = All-nil _
 interfaces (here ∷ items) all =
     All-append IsOne (interface_in here) (flat_map interface_in items) (All-head IsKept here items all) (interfaces items (All-tail IsKept here items all))
 
-first_one : (names : List (List ℕ)) (default : List ℕ) → All IsOne names → IsOne default → IsOne (unwrap_or (first_of names) default)
+first_one : (names : List (List ℕ)) (default : List ℕ) → All IsOne names → IsOne default → IsOne (unwrap_or (slice_get names 0) default)
 first_one [] default all holds = holds
 first_one (name ∷ names) default all holds = All-head IsOne name names all
 

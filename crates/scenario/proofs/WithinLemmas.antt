@@ -1,6 +1,6 @@
 -- The numbers of a scenario are within their bounds, and its interface is one.
 use Rattle.std.proofs.Common.{◌≡◌, ◌≤◌, ◌*◌, ◌/◌, ◌==◌, ℕ, zero, suc, Bool, true, false, List, [], ◌∷◌, length, Option, Some, None, refl, sym, subst, arith}
-use Rattle.std.specs.Prelude.{All, if◌then◌else◌, unwrap_or, codes, nat_le, ◌&&◌, ◌||◌}
+use Rattle.std.specs.Prelude.{All, if◌then◌else◌, slice_get, unwrap_or, codes, nat_le, ◌&&◌, ◌||◌}
 use Rattle.std.specs.List.{flat_map, list_any}
 use Rattle.std.specs.Option.{option_and_then, option_map, option_to_list}
 use Rattle.std.specs.Str.{bytes_eq}
@@ -11,7 +11,7 @@ use Rattle.std.proofs.lemmas.List.Sorted.{All-permutation, IsNonDecreasingBy-fro
 use Rattle.text_parts.proofs.NumberLemmas.{number_up_to-some}
 use Rattle.text_parts.specs.Number.{number_up_to}
 use Rattle.scenario.specs.Item.{fields_of, is_passed_over, item_of, item_of_one, item_of_picks, item_of_two, item_of_values, items_in, items_of}
-use Rattle.scenario.specs.Scenario.{IsScenario, bit_in, epoch_in, first_of, key_in, turns_in, until_in}
+use Rattle.scenario.specs.Scenario.{IsScenario, bit_in, epoch_in, key_in, turns_in, until_in}
 use Rattle.scenario.specs.Value.{bit_of, bit_rates, epoch_of, key_byte_of, key_of, moment_of, number_of, turns_of}
 use Rattle.scenario.specs.declared.item.Item.{Item}
 use Rattle.scenario.specs.declared.item.Item.TheVariants as item
@@ -208,7 +208,7 @@ all_of P f each (i ∷ items) within =
     All-append P (f i) (flat_map f items) (each i (within 0 i (omega arith)))
     (all_of P f each items (λ k d short. within (suc k) d (omega arith)))
 
-first_within : {X : Type 0} (P : X → Type 0) (xs : List X) (d : X) → All P xs → P d → P (unwrap_or (first_of xs) d)
+first_within : {X : Type 0} (P : X → Type 0) (xs : List X) (d : X) → All P xs → P d → P (unwrap_or (slice_get xs 0) d)
 first_within P [] d all holds = holds
 first_within P (x ∷ xs) d all holds = all 0 x (omega arith)
 

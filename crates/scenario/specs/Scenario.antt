@@ -1,5 +1,5 @@
 -- What a scenario file says, and what is wrong with a text that is none. The form is this project's own.
-use Rattle.std.specs.Prelude.{◌≡◌, ◌<◌, ℕ, List, [], ◌∷◌, codes, length, Option, Some, None, unwrap_or}
+use Rattle.std.specs.Prelude.{◌≡◌, ◌<◌, ℕ, List, [], ◌∷◌, codes, length, slice_get, Some, unwrap_or}
 use Rattle.std.specs.Option.{option_to_list}
 use Rattle.std.specs.List.{flat_map}
 use Rattle.std.specs.List.Sorted.{IsPermutation, IsSortedByKey, IsStableByKey}
@@ -15,11 +15,6 @@ use Rattle.scenario.specs.declared.refusal.ScenarioRefusal.{ScenarioRefusal}
 use Rattle.scenario.specs.declared.refusal.ScenarioRefusal.TheVariants as refusal
 use Rattle.scenario.specs.Item.{items_of}
 use Rattle.scenario.specs.Rule.{AreRightBefore, nodes_of, IsBroken}
-
--- the first of a list, if it has one
-abbrev pub first_of : {X : Type 0} → List X → Option X
-first_of [] = None
-first_of (x ∷ xs) = Some x
 
 -- the file of a `database` item
 abbrev pub database_in : Item → List (List ℕ)
@@ -74,16 +69,16 @@ pub record AreByMoment (keys ordered : List KeyItem) : Type 0 where
 
 -- the scenario of these items: what each says, or its default
 pub record IsSaidBy (items : List Item) (scenario : Scenario) : Type 0 where
-  pub database : scenario.database ≡ first_of (flat_map database_in items)
+  pub database : scenario.database ≡ slice_get (flat_map database_in items) 0
   pub nodes : scenario.nodes.items ≡ nodes_of items
-  pub bit : scenario.bit ≡ unwrap_or (first_of (flat_map bit_in items)) 2
-  pub until : scenario.until ≡ unwrap_or (first_of (flat_map until_in items)) 10000000
-  pub turns : scenario.turns ≡ unwrap_or (first_of (flat_map turns_in items)) 100000
-  pub epoch : scenario.epoch ≡ unwrap_or (first_of (flat_map epoch_in items)) (At 0)
-  pub interface : scenario.interface ≡ unwrap_or (first_of (flat_map interface_in items)) (codes "can0")
+  pub bit : scenario.bit ≡ unwrap_or (slice_get (flat_map bit_in items) 0) 2
+  pub until : scenario.until ≡ unwrap_or (slice_get (flat_map until_in items) 0) 10000000
+  pub turns : scenario.turns ≡ unwrap_or (slice_get (flat_map turns_in items) 0) 100000
+  pub epoch : scenario.epoch ≡ unwrap_or (slice_get (flat_map epoch_in items) 0) (At 0)
+  pub interface : scenario.interface ≡ unwrap_or (slice_get (flat_map interface_in items) 0) (codes "can0")
   pub picks : scenario.picks.items ≡ flat_map picks_in items
   pub keys : AreByMoment (flat_map key_in items) scenario.keys.items
-  pub replay : scenario.replay ≡ first_of (flat_map replay_in items)
+  pub replay : scenario.replay ≡ slice_get (flat_map replay_in items) 0
 
 -- no line of the text breaks a rule, it has a node, and this is what its items say
 pub record IsScenario (text : List ℕ) (scenario : Scenario) : Type 0 where

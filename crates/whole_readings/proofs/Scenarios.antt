@@ -1,6 +1,6 @@
 -- Each text is a scenario, or breaks a rule.
 use Rattle.std.proofs.Common.{◌≡◌, ◌≢◌, ◌<◌, ◌≤◌, ◌+◌, ◌-◌, ◌^◌, ℕ, zero, suc, Bool, true, false, not, cond, List, [], ◌∷◌, length, take, filter, Option, Some, None, unwrap_or, inl, inr, refl, ap, ◌∙◌, arith, le_refl, length-append, flat_map}
-use Rattle.std.specs.Prelude.{◌⊎◌, ◌==◌, if◌then◌else◌, codes, slice_index}
+use Rattle.std.specs.Prelude.{◌⊎◌, ◌==◌, if◌then◌else◌, codes, slice_get, slice_index}
 use Rattle.std.specs.List.{slice_split, onto_first}
 use Rattle.std.specs.Option.{option_map, option_and_then, option_to_list}
 use Rattle.std.specs.Str.{bytes_eq}
@@ -19,7 +19,7 @@ use Rattle.scenario.specs.declared.refusal.ScenarioRefusal.TheVariants.{Broken}
 use Rattle.scenario.specs.Item.{is_passed_over, is_gap, fields_of, item_of, item_of_one, item_of_two, item_of_picks, item_of_values, items_in, items_of}
 use Rattle.scenario.specs.Value.{picks_of, number_of, key_of}
 use Rattle.scenario.specs.Rule.{nodes_of, node_in, rule_at, AreRightBefore, IsFirstBroken, IsBroken}
-use Rattle.scenario.specs.Scenario.{first_of, database_in, bit_in, until_in, turns_in, epoch_in, interface_in, picks_in, key_in, replay_in, IsScenario, IsScenarioRefusal}
+use Rattle.scenario.specs.Scenario.{database_in, bit_in, until_in, turns_in, epoch_in, interface_in, picks_in, key_in, replay_in, IsScenario, IsScenarioRefusal}
 use Rattle.whole_readings.proofs.Sorting.{sort_by, sort_same, sort_sorted, sort_stable, sort_long}
 
 -- ---- a list in memory
@@ -188,16 +188,16 @@ scenario_of text small right some =
     let few = text_total text in
     let keys = flat_map key_in items in (
       record {
-        database = first_of (flat_map database_in items);
+        database = slice_get (flat_map database_in items) 0;
         nodes = vec_of (nodes_of items) (omega (arith, all, few, small));
-        bit = unwrap_or (first_of (flat_map bit_in items)) 2;
-        until = unwrap_or (first_of (flat_map until_in items)) 10000000;
-        turns = unwrap_or (first_of (flat_map turns_in items)) 100000;
-        epoch = unwrap_or (first_of (flat_map epoch_in items)) (At 0);
-        interface = unwrap_or (first_of (flat_map interface_in items)) (codes "can0");
+        bit = unwrap_or (slice_get (flat_map bit_in items) 0) 2;
+        until = unwrap_or (slice_get (flat_map until_in items) 0) 10000000;
+        turns = unwrap_or (slice_get (flat_map turns_in items) 0) 100000;
+        epoch = unwrap_or (slice_get (flat_map epoch_in items) 0) (At 0);
+        interface = unwrap_or (slice_get (flat_map interface_in items) 0) (codes "can0");
         picks = vec_of (flat_map picks_in items) (omega (arith, all, few, small));
         keys = vec_of (sort_by (λ (key : KeyItem). key.at) keys) (let long = sort_long (λ (key : KeyItem). key.at) keys in omega (arith, all, few, small, long));
-        replay = first_of (flat_map replay_in items);
+        replay = slice_get (flat_map replay_in items) 0;
       },
       record {
         right = right;

@@ -1,5 +1,5 @@
 -- What the items so far say, and what one more item adds.
-use Rattle.std.specs.Prelude.{◌≡◌, ℕ, Bool, true, false, not, List, [], ◌∷◌, ◌++◌, ◌&&◌, if◌then◌else◌, codes, Option, Some, None, is_some, unwrap_or}
+use Rattle.std.specs.Prelude.{◌≡◌, ℕ, Bool, true, false, not, List, [], ◌∷◌, ◌++◌, ◌&&◌, if◌then◌else◌, codes, Option, Some, None, is_some, slice_get, unwrap_or}
 use Rattle.std.specs.List.{list_any, flat_map}
 use Rattle.scenario.specs.declared.item.Item.{Item}
 use Rattle.scenario.specs.declared.item.Item.TheVariants as item
@@ -10,7 +10,7 @@ use Rattle.scenario.specs.declared.scenario.NodeItem.{NodeItem}
 use Rattle.scenario.specs.declared.scenario.Scenario.{Scenario}
 use Rattle.scenario.specs.Item.{is_passed_over, fields_of, item_of}
 use Rattle.scenario.specs.Rule.{nodes_of, rule_by_kind}
-use Rattle.scenario.specs.Scenario.{first_of, database_in, bit_in, until_in, turns_in, epoch_in, interface_in, picks_in, key_in, replay_in, AreByMoment}
+use Rattle.scenario.specs.Scenario.{database_in, bit_in, until_in, turns_in, epoch_in, interface_in, picks_in, key_in, replay_in, AreByMoment}
 
 -- what some items say
 pub record Said : Type 0 where
@@ -36,16 +36,16 @@ abbrev pub said_by : List Item → Said
 said_by items =
     record {
       is_started = list_any is_scenario items;
-      database = first_of (flat_map database_in items);
+      database = slice_get (flat_map database_in items) 0;
       nodes = nodes_of items;
-      bit = first_of (flat_map bit_in items);
-      until = first_of (flat_map until_in items);
-      turns = first_of (flat_map turns_in items);
-      epoch = first_of (flat_map epoch_in items);
-      interface = first_of (flat_map interface_in items);
+      bit = slice_get (flat_map bit_in items) 0;
+      until = slice_get (flat_map until_in items) 0;
+      turns = slice_get (flat_map turns_in items) 0;
+      epoch = slice_get (flat_map epoch_in items) 0;
+      interface = slice_get (flat_map interface_in items) 0;
       picks = flat_map picks_in items;
       keys = flat_map key_in items;
-      replay = first_of (flat_map replay_in items);
+      replay = slice_get (flat_map replay_in items) 0;
     }
 
 -- the item begins a scenario
