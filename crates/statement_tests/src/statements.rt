@@ -71,12 +71,12 @@ fn check_write(
 }
 
 /// What is made by the tables of a program without names of its own.
-fn check_tables(
+fn check_tables<'t>(
     rt: &impl Abort,
     alloc: Global,
     names: &Names,
-    constants: &Constants,
-    layout: &Layout,
+    constants: &'t Constants,
+    layout: &'t Layout,
 ) -> Result<(), Fail>
     requires constants { AreConstantsOf names.now constants.now }
     requires layout { IsLaidOut names.now (Some layout.now) }
