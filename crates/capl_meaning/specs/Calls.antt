@@ -19,7 +19,7 @@ use Rattle.capl_tree.specs.Forms as tree
 use Rattle.capl_meaning.specs.Names.{Callee, Function, Names, OfProgram, callee}
 
 abbrev mutual
-  -- the names that are called in an expression
+  -- the names that are called in an expression; one without parts calls nothing
   pub calls_in : Expr → List (List ℕ)
   calls_in (expr.Call' name shape args at) = name ∷ calls_in_row args
   calls_in (tree.Paren inner at) = calls_in inner
@@ -31,11 +31,7 @@ abbrev mutual
   calls_in (tree.Binary op left right at) = calls_in left ++ calls_in right
   calls_in (tree.Cond test one other at) = calls_in test ++ (calls_in one ++ calls_in other)
   calls_in (tree.Assign op left right at) = calls_in left ++ calls_in right
-  calls_in (expr.Num value extended at) = []
-  calls_in (expr.Char value at) = []
-  calls_in (expr.Str text at) = []
-  calls_in (expr.This at) = []
-  calls_in (expr.Name name at) = []
+  calls_in _ = []
 
   -- in the index of a field
   pub calls_in_field : Field → List (List ℕ)
@@ -70,9 +66,8 @@ abbrev pub calls_in_labels : List Label → List (List ℕ)
 calls_in_labels labels = flat_map (λ label. calls_in_part label.value) labels
 
 abbrev mutual
-  -- the names that are called in a statement
+  -- the names that are called in a statement; one without parts calls nothing
   pub names_called : Stmt → List (List ℕ)
-  names_called stmt.Empty = []
   names_called (stmt.Block' shape body) = calls_of_row body
   names_called (stmt.Decl declaration) = flat_map calls_in_declarator declaration.items
   names_called (stmt.Expr e) = calls_in e
@@ -82,9 +77,8 @@ abbrev mutual
   names_called (tree.For init test step body) =
       calls_in_part init ++ (calls_in_part test ++ (calls_in_part step ++ names_called body))
   names_called (stmt.Switch' on shape groups) = calls_in on ++ calls_of_groups groups
-  names_called (stmt.Break at) = []
-  names_called (stmt.Continue at) = []
   names_called (stmt.Return value at) = calls_in_part value
+  names_called _ = []
 
   -- in statements in a row
   pub calls_of_row : {m : _} → Row_of-Stmt m → List (List ℕ)

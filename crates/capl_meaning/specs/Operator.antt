@@ -17,5 +17,4 @@ prefix_value prefix.Minus k n = negated k n
 prefix_value prefix.Plus k n = wrap k n
 prefix_value prefix.Not k n = truth (int_eq n (pos 0))
 prefix_value prefix.Inv k n = inverted k n
-prefix_value prefix.Up k n = n
-prefix_value prefix.Down k n = n
+prefix_value _ k n = n

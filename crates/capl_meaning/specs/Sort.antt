@@ -24,7 +24,7 @@ use Rattle.capl_meaning.specs.Variable.{Form, Number, Array, Message, Timer, Mis
 use Rattle.capl_meaning.specs.Names.{Callee, Function, OfLanguage, OfProgram, Unknown, Scope, ThisForm, NoThis, ThisFrame, ThisKey, callee, direction, means}
 use Rattle.capl_meaning.specs.Calls.{reaches}
 use Rattle.capl_meaning.specs.Format.{first_text, format_codes, show_all}
-use Rattle.capl_meaning.specs.Message.{NamedMember, IsField, IsSignal, IsUnusable, IsUnknown, first_kind, is_message_place, is_number_place, kind_of_field, kind_of_signal, member_named, message_in, signals_of}
+use Rattle.capl_meaning.specs.Message.{NamedMember, IsField, IsSignal, first_kind, is_message_place, is_number_place, kind_of_field, kind_of_signal, member_named, message_in, signals_of}
 
 -- a sort is a number
 abbrev pub is_number : Sort → Bool
@@ -133,8 +133,7 @@ sort_of_assignment _ _ _ _ _ = sort.Bad
 abbrev pub sort_of_member : NamedMember → Sort
 sort_of_member (IsField f) = sort.Number (kind_of_field f)
 sort_of_member (IsSignal layout) = sort.Number (kind_of_signal layout)
-sort_of_member IsUnusable = sort.Bad
-sort_of_member (IsUnknown by_name) = sort.Bad
+sort_of_member _ = sort.Bad
 
 -- a function of the language that is given expressions of these sorts; of `write` also the text of the first
 abbrev pub sort_of_builtin : Builtin → Option (List ℕ) → List Sort → Sort

@@ -76,8 +76,7 @@ with_field Id n m = record m { id = pos (written_id n) }
 with_field Dlc n m = record m { dlc = pos (written_dlc n) }
 with_field Rtr n m = record m { rtr = pos (written_rtr n) }
 with_field Can n m = record m { can = pos (written_can n) }
-with_field Dir n m = m
-with_field Time n m = m
+with_field _ n m = m
 
 -- payload bytes as a number of a kind, the least significant first
 abbrev pub read_bytes : Kind → ℕ → MessageRecord → ℤ

@@ -49,7 +49,7 @@ abbrev pub parts_of : Program → List Part
 parts_of program = parts_of_files 0 program.files 1
 
 abbrev mutual
-  -- the declarations in a statement, whatever block they stand in
+  -- the declarations in a statement, whatever block they stand in; one without statements has none
   pub declarations_in : Stmt → List Decl
   declarations_in (stmt.Decl declaration) = declaration ∷ []
   declarations_in (stmt.Block' shape body) = declarations_of body
@@ -58,11 +58,7 @@ abbrev mutual
   declarations_in (form.Do body test) = declarations_in body
   declarations_in (form.For init test step body) = declarations_in body
   declarations_in (stmt.Switch' on shape groups) = declarations_of_groups groups
-  declarations_in stmt.Empty = []
-  declarations_in (stmt.Expr e) = []
-  declarations_in (stmt.Break at) = []
-  declarations_in (stmt.Continue at) = []
-  declarations_in (stmt.Return value at) = []
+  declarations_in _ = []
 
   -- those in statements in a row
   pub declarations_of : {m : _} → Row_of-Stmt m → List Decl

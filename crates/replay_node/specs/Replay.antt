@@ -15,8 +15,7 @@ use Rattle.replay_node.specs.declared.replay.Request.{Request}
 -- the entry of a line, where it is of this interface
 abbrev pub entry_on : List ℕ → Line → List declared.Entry
 entry_on interface (Entry entry) = if bytes_eq entry.interface interface then entry ∷ [] else []
-entry_on interface Skip = []
-entry_on interface Empty = []
+entry_on interface _ = []
 
 -- the entries of the interface, in order
 abbrev pub entries_on : List ℕ → List Line → List declared.Entry

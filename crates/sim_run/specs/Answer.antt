@@ -19,7 +19,7 @@ use Rattle.sim_run.specs.Command.{IsAsked, IsNoCommand}
 use Rattle.sim_run.specs.Run.{IsRunOf, first_rows, rows_in}
 use Rattle.sim_run.specs.Shown.{labels_of, shown_of}
 use Rattle.sim_run.specs.declared.status.Status.{Status}
-use Rattle.sim_run.specs.declared.status.Status.TheVariants.{Done, Refused, Usage, ReadFault, WriteFault, OutOfMemory}
+use Rattle.sim_run.specs.declared.status.Status.TheVariants.{Done, Refused, Usage}
 
 -- These are the rounds of the run of accepted inputs; the bytes are what is to be shown of its steps, in the
 -- order that the picks give them, and the rows say how often each event procedure ran.
@@ -54,14 +54,11 @@ pub record IsRefused (held : Contents) (name : List ℕ) (bytes : List ℕ) (row
   pub line : bytes ≡ blame_line blame
   pub no_rows : rows ≡ []
 
--- the answer over the inputs of a name is this status with these bytes and these rows
+-- the answer over the inputs of a name is this status, which is done or refused, with these bytes and rows
 abbrev pub IsAnswerOn : Option Show → Contents → List ℕ → Status → List ℕ → List MeterRow → Type 0
 IsAnswerOn what held name Done bytes rows = IsAnsweredOn what held name bytes rows
 IsAnswerOn what held name Refused bytes rows = IsRefused held name bytes rows
-IsAnswerOn what held name Usage bytes rows = ⊥
-IsAnswerOn what held name ReadFault bytes rows = ⊥
-IsAnswerOn what held name WriteFault bytes rows = ⊥
-IsAnswerOn what held name OutOfMemory bytes rows = ⊥
+IsAnswerOn what held name _ bytes rows = ⊥
 
 -- the words ask for something over the inputs of a name, and this is the answer over them
 pub record IsAnswered (contents : Contents) (words : List (List ℕ)) (status : Status) (bytes : List ℕ)
