@@ -8,8 +8,7 @@ use Rattle.std.proofs.lemmas.List.Elements.{All-same, All-append, All-take, All-
 use Rattle.can_bus.specs.declared.waiting.Waiting.{Waiting}
 use Rattle.can_bus.specs.declared.transmission.Transmission.{Transmission}
 use Rattle.can_bus.specs.Waiting.{Requests, request_name, members, requests_of, winner}
-use Rattle.can_bus.specs.Transmission.{time_on_wire, intermission}
-use Rattle.can_bus.specs.Bus.{BusState, moment_by, is_free, after_arbitration}
+use Rattle.can_bus.specs.Bus.{time_on_wire, intermission, BusState, moment_by, is_free, after_arbitration}
 use Rattle.can_bus.proofs.Requests.{len-requests_of, members-requests_of}
 use Rattle.can_bus.proofs.Winner.{NoneBefore, winner-from, IsWinner-from}
 use Rattle.can_bus.proofs.Arbitration.{after_arbitration-winner}

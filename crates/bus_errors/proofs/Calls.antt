@@ -7,9 +7,8 @@ use Rattle.std.proofs.lemmas.Bool.Decides.{nat_tests, eqb_tells}
 use Rattle.can_frame.specs.Frame.{FrameFields}
 use Rattle.can_bus.specs.declared.waiting.Waiting.{Waiting}
 use Rattle.can_bus.specs.declared.transmission.Transmission.{Transmission}
-use Rattle.can_bus.specs.Transmission.{time_on_wire}
+use Rattle.can_bus.specs.Bus.{time_on_wire, BusState}
 use Rattle.can_bus.specs.Waiting.{RequestName, Requests, request_name}
-use Rattle.can_bus.specs.Bus.{BusState}
 use Rattle.can_bus.specs.Bus as channel
 use Rattle.can_bus.proofs.Requests.{name_cmp_total, name_cmp-IsAntisymmetric, ties}
 use Rattle.bus_heap.specs.Retransmission.{after_longer_arbitration, waiting_again, with_wire_waiting, without_waiting_of}

@@ -9,8 +9,7 @@ use Rattle.std.proofs.lemmas.List.Sorted.{Contains-permutation, IsPermutation-sy
 use Rattle.can_bus.specs.declared.waiting.Waiting.{Waiting}
 use Rattle.can_bus.specs.declared.transmission.Transmission.{Transmission}
 use Rattle.can_bus.specs.Waiting.{request_name, requests_of, winner}
-use Rattle.can_bus.specs.Transmission.{time_on_wire, intermission}
-use Rattle.can_bus.specs.Bus.{BusState, moment_by, is_free, winner_at, with_transmission}
+use Rattle.can_bus.specs.Bus.{time_on_wire, intermission, BusState, moment_by, is_free, winner_at, with_transmission}
 use Rattle.can_bus.proofs.Requests.{Contains-first}
 use Rattle.can_bus.proofs.Winner.{winner-nil}
 use Rattle.bus_heap.specs.Retransmission.{after_longer_arbitration}

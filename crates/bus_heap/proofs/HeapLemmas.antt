@@ -7,7 +7,7 @@ use Rattle.std.proofs.lemmas.List.{get_or_default}
 use Rattle.std.proofs.lemmas.List.MinMax.{ranks_by}
 use Rattle.std.proofs.lemmas.Bool.Decides.{eqb_tells}
 use Rattle.can_bus.specs.declared.waiting.Waiting.{Waiting}
-use Rattle.can_bus.specs.Order.{goes_before}
+use Rattle.can_bus.specs.Waiting.{goes_before}
 use Rattle.can_bus.proofs.Precedence.{goes_before-precedence, goes_before-self, precedence_total}
 use Rattle.bus_heap.specs.Inside.Heap.{IsBelow, Stays, IsHeapUpTo, IsHeap, IsHeapFrom, IsHeapBehind, IsFirstBelow}
 

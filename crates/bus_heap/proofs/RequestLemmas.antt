@@ -11,13 +11,11 @@ use Rattle.std.proofs.lemmas.Bool.Decides.{nat_tests, eqb_tells}
 use Rattle.std.proofs.lemmas.List.{get_or-map, length-map}
 use Rattle.std.proofs.lemmas.List.Elements.{All-cons, All-map, All-weaker, All-contains_itself}
 use Rattle.std.proofs.lemmas.List.Sorted.{IsPermutation-sym, IsPermutation-map, All-permutation, sum_by-IsPermutation}
-use Rattle.can_frame.specs.Frame.{FrameFields}
-use Rattle.can_frame.specs.Arbitration.{arbitration_key}
+use Rattle.can_frame.specs.Frame.{FrameFields, arbitration_key}
 use Rattle.can_bus.specs.declared.waiting.Waiting.{Waiting}
 use Rattle.can_bus.specs.declared.transmission.Transmission.{Transmission}
-use Rattle.can_bus.specs.Order.{goes_before}
+use Rattle.can_bus.specs.Waiting.{goes_before, name_cmp, request_name, entry_of, requests_of, members}
 use Rattle.can_bus.specs.Ranks.{IsBelowNext, rank_in, with_rank_in, transmission_with_rank_in}
-use Rattle.can_bus.specs.Waiting.{name_cmp, request_name, entry_of, requests_of, members}
 use Rattle.can_bus.specs.Bus.{BusState, next_number, last_number, rank, with_rank, transmission_with_rank, with_ranks, with_request, after_request}
 use Rattle.can_bus.proofs.Precedence.{key_of, goes_before-keys}
 use Rattle.can_bus.proofs.Requests.{from_T, map-forth}

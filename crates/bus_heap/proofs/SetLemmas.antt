@@ -14,8 +14,7 @@ use Rattle.std.proofs.lemmas.List.Sums.{sum_by-cons}
 use Rattle.std.proofs.lemmas.List.Sorted.{IsPermutation-refl, IsPermutation-sym, IsPermutation-trans, IsPermutation-cons, IsPermutation-swap, Contains-permutation, length_permutation, sum_by-IsPermutation}
 use Rattle.can_frame.specs.Frame.{FrameFields}
 use Rattle.can_bus.specs.declared.waiting.Waiting.{Waiting}
-use Rattle.can_bus.specs.Order.{goes_before}
-use Rattle.can_bus.specs.Waiting.{RequestName, name_cmp, Requests, request_name, entry_of, request_at, Waits, requests_of, members, winner}
+use Rattle.can_bus.specs.Waiting.{goes_before, RequestName, name_cmp, Requests, request_name, entry_of, request_at, Waits, requests_of, members, winner}
 use Rattle.can_bus.proofs.Precedence.{goes_before-decides, one_goes_first}
 use Rattle.can_bus.proofs.Requests.{name_cmp_total, name_cmp-IsAntisymmetric, both_true, equal_from, Contains-cons, Contains-map, not_Contains-nil, member_found, map-back, members-requests_of, length-map}
 use Rattle.can_bus.proofs.Winner.{winner-from}

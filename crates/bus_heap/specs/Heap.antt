@@ -2,7 +2,7 @@
 use Rattle.std.specs.Prelude.{ℕ, ◌-◌, ◌/◌, ◌<◌, List, length}
 use Rattle.std.specs.List.{slice_index_or}
 use Rattle.can_bus.specs.declared.waiting.Waiting.{Waiting}
-use Rattle.can_bus.specs.Order.{GoesBefore}
+use Rattle.can_bus.specs.Waiting.{GoesBefore}
 
 -- the request at (place - 1) / 2 goes before the one at the place, for each place but the first
 abbrev pub IsInHeapOrder : List Waiting → Type 0

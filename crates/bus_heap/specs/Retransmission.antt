@@ -4,9 +4,8 @@ use Rattle.std.specs.Prelude.{ℕ, ◌+◌, ◌*◌, ◌==◌, not, None}
 use Rattle.std.specs.Option.{option_map_or}
 use Rattle.std.specs.FinMap.{insert, retain_keys}
 use Rattle.can_bus.specs.declared.waiting.Waiting.{Waiting}
-use Rattle.can_bus.specs.Transmission.{time_on_wire}
+use Rattle.can_bus.specs.Bus.{time_on_wire, BusState, winner_at, with_transmission}
 use Rattle.can_bus.specs.Waiting.{request_name}
-use Rattle.can_bus.specs.Bus.{BusState, winner_at, with_transmission}
 
 -- the bus after arbitration: a request that begins now takes the time of its frame and of so many bits more
 abbrev pub after_longer_arbitration : BusState → ℕ → ℕ → BusState

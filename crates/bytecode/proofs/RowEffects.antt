@@ -8,8 +8,8 @@ use Rattle.int_kinds.specs.declared.kinds.Kind.{Kind}
 use Rattle.int_kinds.specs.declared.operators.BinOp.{BinOp}
 use Rattle.int_kinds.specs.declared.operators.BinOp.TheVariants.{OrElse, AndAlso}
 use Rattle.int_kinds.specs.Arithmetic.{value}
-use Rattle.write_format.specs.Format.{FormatText, char_arrays, numbers_taken, rendered}
-use Rattle.run_effects.specs.Effect.{Effect}
+use Rattle.write_format.specs.Line.{FormatText, char_arrays, numbers_taken, rendered}
+use Rattle.run_effects.specs.Effect.{Effect, micros}
 use Rattle.run_effects.specs.Effect as effect
 use Rattle.bytecode.specs.declared.code.Code.{Code}
 use Rattle.bytecode.specs.declared.instr.Instr.{Instr}
@@ -17,7 +17,6 @@ use Rattle.bytecode.specs.declared.instr.Instr.TheVariants.{Push, Load, Store, C
 use Rattle.bytecode.specs.Laws.{BeginsWith}
 use Rattle.bytecode.specs.Machine.{Machine, Next, Goes, Ends, Stuck}
 use Rattle.message_cells.specs.Message.{frame_of, message_at, size, write_rules}
-use Rattle.run_effects.specs.Duration.{micros}
 use Rattle.bytecode.specs.Step.{after_cancel, after_effect, after_set, gives_or_traps, goes_on, indexing, needing, operates, returns_to, row, stores, taking_one, taking_turn, taking_two, unless, writes}
 
 -- a list begins with itself

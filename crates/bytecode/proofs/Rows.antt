@@ -13,8 +13,7 @@ use Rattle.int_kinds.specs.Kind.{Holds, IsNumber, wrap}
 use Rattle.int_kinds.specs.Arithmetic.{inverted, negated, truth}
 use Rattle.int_kinds.proofs.Values.{IsNumber-held, IsNumber-wrap}
 use Rattle.signal_codec.specs.Signal.{payload_with, signal_value}
-use Rattle.write_format.specs.Arrays.{IsCharArray}
-use Rattle.write_format.specs.Format.{FormatText, char_arrays, numbers_taken, rendered}
+use Rattle.write_format.specs.Line.{IsCharArray, FormatText, char_arrays, numbers_taken, rendered}
 use Rattle.run_effects.specs.Effect as effect
 use Rattle.bytecode.specs.declared.code.Code.{Code}
 use Rattle.bytecode.specs.declared.instr.Instr.{Instr}
@@ -23,7 +22,7 @@ use Rattle.bytecode.specs.Machine.{Machine, Next, Stuck}
 use Rattle.message_cells.specs.Message.{IsMessage, bytes_of, frame_of, message_at, message_kinds, number_at, payload_of, size, write_rules, written_can, written_dlc, written_id, written_rtr}
 use Rattle.bytecode.specs.Rule.{IsReached, KeepsRule, Target, aim, next}
 use Rattle.bytecode.specs.Shape.{given_by_call, numbers_given, shape_of, taken_by_line}
-use Rattle.run_effects.specs.Duration.{micros}
+use Rattle.run_effects.specs.Effect.{micros}
 use Rattle.bytecode.specs.Step.{needing, after_cancel, after_effect, after_set, goes_on, row, writes}
 use Rattle.bytecode.specs.Verified.{IsVerified}
 use Rattle.bytecode.proofs.Calls.{IsSafeStep-call, IsSafeStep-return}

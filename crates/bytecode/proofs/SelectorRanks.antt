@@ -5,7 +5,7 @@ use Rattle.std.specs.List.Sorted.{IsNonDecreasingBy}
 use Rattle.std.proofs.lemmas.Bool.{cases_eq, cases_lt}
 use Rattle.std.proofs.lemmas.List.{get_or-take, get_or_default}
 use Rattle.bytecode.specs.Inside.Distinct.{AreApartIn}
-use Rattle.run_effects.specs.Event.{AreApart}
+use Rattle.run_effects.specs.Effect.{AreApart}
 use Rattle.run_effects.specs.declared.event.Selector.{Selector}
 use Rattle.bytecode.proofs.ListPairs.{AllPairs-take_more}
 

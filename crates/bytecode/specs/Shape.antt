@@ -1,7 +1,7 @@
 -- The table of the instructions: how many numbers each takes and gives, where it goes, and what it names.
 use Rattle.std.specs.Prelude.{ℕ, if◌then◌else◌, slice_get}
 use Rattle.std.specs.Option.{option_map_or}
-use Rattle.write_format.specs.Format.{numbers_taken}
+use Rattle.write_format.specs.Line.{numbers_taken}
 use Rattle.bytecode.specs.declared.code.Code.{Code}
 use Rattle.bytecode.specs.declared.code.Fun.{Fun}
 use Rattle.bytecode.specs.declared.instr.Instr.{Instr}

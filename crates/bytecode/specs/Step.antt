@@ -9,10 +9,9 @@ use Rattle.int_kinds.specs.declared.operators.BinOp.TheVariants.{OrElse, AndAlso
 use Rattle.int_kinds.specs.Kind.{wrap}
 use Rattle.int_kinds.specs.Arithmetic.{inverted, negated, truth, value}
 use Rattle.signal_codec.specs.Signal.{payload_with, signal_value}
-use Rattle.write_format.specs.Format.{FormatText, char_arrays, numbers_taken, rendered}
-use Rattle.run_effects.specs.Effect.{Effect}
+use Rattle.write_format.specs.Line.{FormatText, char_arrays, numbers_taken, rendered}
+use Rattle.run_effects.specs.Effect.{Effect, micros}
 use Rattle.run_effects.specs.Effect as effect
-use Rattle.run_effects.specs.Duration.{micros}
 use Rattle.run_effects.specs.declared.outcome.Outcome.TheVariants.{Done, Trapped, Cut}
 use Rattle.run_effects.specs.declared.outcome.TrapKind.TheVariants.{ZeroDivisor, Index}
 use Rattle.bytecode.specs.declared.code.Code.{Code}

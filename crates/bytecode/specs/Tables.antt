@@ -1,15 +1,13 @@
 -- The verifier's rules of the tables of code.
 use Rattle.std.specs.Prelude.{◌≡◌, ◌≢◌, ℕ, false, List, length, All, AllPairs, slice_get, Option, IsSomeAnd}
 use Rattle.std.specs.List.{flat_map, filter_map}
-use Rattle.write_format.specs.Arrays.{IsCharArray}
-use Rattle.write_format.specs.Format.{char_arrays}
+use Rattle.write_format.specs.Line.{IsCharArray, char_arrays}
 use Rattle.run_effects.specs.declared.event.Selector.{Selector}
 use Rattle.bytecode.specs.declared.code.Code.{Code}
 use Rattle.bytecode.specs.declared.code.Fun.{Fun}
 use Rattle.bytecode.specs.declared.code.Handler.{Handler}
 use Rattle.message_cells.specs.Cells.{BeginWithEvent, IsHeldStart}
-use Rattle.run_effects.specs.Duration.{IsUnit}
-use Rattle.run_effects.specs.Event.{KeepsSelectors, KeepsTimers, key_of, selectors_of, timer_of}
+use Rattle.run_effects.specs.Effect.{IsUnit, KeepsSelectors, KeepsTimers, key_of, selectors_of, timer_of}
 
 -- all selectors of the handlers
 abbrev pub all_selectors : List Handler → List Selector

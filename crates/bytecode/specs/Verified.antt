@@ -1,11 +1,11 @@
 -- Verified code.
 use Rattle.std.specs.Prelude.{◌≡◌, ℕ, ◌<◌, ◌^◌, List, [], ◌∷◌, length, All, slice_get, Some}
-use Rattle.write_format.specs.Format.{IsShort}
+use Rattle.write_format.specs.Line.{IsShort}
 use Rattle.bytecode.specs.declared.code.Code.{Code}
 use Rattle.bytecode.specs.declared.code.Fun.{Fun}
 use Rattle.bytecode.specs.declared.instr.Instr.{Instr}
 use Rattle.bytecode.specs.Rule.{IsIn, KeepsRule}
-use Rattle.run_effects.specs.Event.{selectors_of}
+use Rattle.run_effects.specs.Effect.{selectors_of}
 use Rattle.bytecode.specs.Tables.{KeepsTables}
 
 -- functions that cover the places from one up to an end, in order and without a gap, and none of them empty

@@ -3,7 +3,7 @@
 ghost use Rattle.std.specs.Prelude.{◌≡◌, ◌≢◌, ◌↔◌, ◌≤◌, AllPairs, All, IsSomeAnd, IsTrue};
 ghost use Rattle.std.specs.List.Sorted.{IsNonDecreasing, IsNonDecreasingBy};
 ghost use Rattle.bytecode.specs.Inside.Distinct.{AreApartIn};
-ghost use Rattle.run_effects.specs.Event.{AreApart};
+ghost use Rattle.run_effects.specs.Effect.{AreApart};
 
 use run_effects::Selector;
 

@@ -2,11 +2,9 @@
 
 ghost use Rattle.std.specs.Prelude.{◌≡◌, ◌≢◌, ◌⊎◌, ◌↔◌, ◌<◌, ◌≤◌, All, AllPairs, IfOk, IsSomeAnd, IsTrue, length, slice_get, take, false};
 ghost use Rattle.int_kinds.specs.Kind.{Holds};
-ghost use Rattle.write_format.specs.Arrays.{IsCharArray};
-ghost use Rattle.write_format.specs.Format.{char_arrays};
+ghost use Rattle.write_format.specs.Line.{IsCharArray, char_arrays};
 ghost use Rattle.message_cells.specs.Cells.{IsHeldStart};
-ghost use Rattle.run_effects.specs.Duration.{IsUnit};
-ghost use Rattle.run_effects.specs.Event.{AreApart, KeepsSelectors, KeepsTimers, key_of, selectors_of, timer_of};
+ghost use Rattle.run_effects.specs.Effect.{IsUnit, AreApart, KeepsSelectors, KeepsTimers, key_of, selectors_of, timer_of};
 ghost use Rattle.bytecode.specs.Tables.{GivesNothing, KeepsHandlers, KeepsTables, all_keys, all_selectors, all_timers};
 
 use crate::code::{Code, Fun, Handler};

@@ -5,8 +5,7 @@ use Rattle.std.specs.Option.{option_map_or}
 use Rattle.std.specs.FinMap.{len}
 use Rattle.can_bus.specs.declared.waiting.Waiting.{Waiting}
 use Rattle.can_bus.specs.Waiting.{winner}
-use Rattle.can_bus.specs.Transmission.{time_on_wire}
-use Rattle.can_bus.specs.Bus.{BusState, is_free, with_transmission, after_arbitration}
+use Rattle.can_bus.specs.Bus.{time_on_wire, BusState, is_free, with_transmission, after_arbitration}
 use Rattle.can_bus.proofs.Winner.{winner-nil}
 
 after_arbitration-by : (s : BusState) (now : ℕ) (free : Bool) (won : Option Waiting) → is_free s now ≡ free → winner s.waiting ≡ won

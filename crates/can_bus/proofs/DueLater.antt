@@ -13,8 +13,7 @@ use Rattle.can_bus.specs.declared.waiting.Waiting.{Waiting}
 use Rattle.can_bus.specs.declared.transmission.Transmission.{Transmission}
 use Rattle.can_bus.specs.declared.bus.Ended.{Ended}
 use Rattle.can_bus.specs.Waiting.{Requests, name_cmp, winner, IsWinner}
-use Rattle.can_bus.specs.Transmission.{time_on_wire}
-use Rattle.can_bus.specs.Bus.{BusState, BitTakesTime, next_moment, moment_by, next_number, last_number, after_request, with_ranks, with_request, transmission_with_rank, after_finish, winner_at, with_transmission, after_arbitration, one_channel}
+use Rattle.can_bus.specs.Bus.{time_on_wire, BusState, BitTakesTime, next_moment, moment_by, next_number, last_number, after_request, with_ranks, with_request, transmission_with_rank, after_finish, winner_at, with_transmission, after_arbitration, one_channel}
 use Rattle.can_bus.specs.Laws.{Follows, DueLater, DueLaterFromNothing}
 use Rattle.can_bus.specs.Laws.Follows.{nothing, request, finish}
 use Rattle.can_bus.proofs.Winner.{winner_law}

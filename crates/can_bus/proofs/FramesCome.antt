@@ -10,8 +10,7 @@ use Rattle.can_bus.specs.declared.waiting.Waiting.{Waiting}
 use Rattle.can_bus.specs.declared.transmission.Transmission.{Transmission}
 use Rattle.can_bus.specs.declared.bus.Ended.{Ended}
 use Rattle.can_bus.specs.Waiting.{RequestName, Requests, name_cmp, request_name, entry_of, requests_of, members, Waits}
-use Rattle.can_bus.specs.Transmission.{time_on_wire}
-use Rattle.can_bus.specs.Bus.{BusState, Carries, next_number, last_number, rank, with_rank, transmission_with_rank, with_ranks, with_request, after_request, ended, ended_on, after_finish, is_free, winner_at, with_transmission, after_arbitration, new_bus, one_channel}
+use Rattle.can_bus.specs.Bus.{time_on_wire, BusState, Carries, next_number, last_number, rank, with_rank, transmission_with_rank, with_ranks, with_request, after_request, ended, ended_on, after_finish, is_free, winner_at, with_transmission, after_arbitration, new_bus, one_channel}
 use Rattle.can_bus.specs.Laws.{FramesCome}
 use Rattle.can_bus.proofs.Requests.{name_cmp_total, Contains-first, Contains-later, Waits-members}
 use Rattle.can_bus.proofs.RankLemmas.{with_ranks-is}

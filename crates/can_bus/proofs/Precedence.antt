@@ -6,12 +6,10 @@ use Rattle.std.specs.Cmp.{IsTotalOrder, tied_itself, on_total, then_total, nat_c
 use Rattle.std.specs.declared.cmp.Ordering.{Ordering}
 use Rattle.std.specs.declared.cmp.Ordering.TheVariants.{Less, Equal, Greater}
 use Rattle.std.proofs.lemmas.Bool.Decides.{same_from_decides, Decides-like, Decides-ltb, Decides-eqb, Decides-and, Decides-or, nat_tests}
-use Rattle.can_frame.specs.Arbitration.{Wins, arbitration_field, arbitration_key}
-use Rattle.can_frame.specs.Frame.{FrameFields}
+use Rattle.can_frame.specs.Frame.{Wins, arbitration_field, arbitration_key, FrameFields}
 use Rattle.can_frame.proofs.Fields.{KeysOrderFields-all}
 use Rattle.can_bus.specs.declared.waiting.Waiting.{Waiting}
-use Rattle.can_bus.specs.Waiting.{request_name}
-use Rattle.can_bus.specs.Order.{arbitration_of, ComesFirst, GoesBefore, wins, comes_first, goes_before}
+use Rattle.can_bus.specs.Waiting.{request_name, arbitration_of, ComesFirst, GoesBefore, wins, comes_first, goes_before}
 
 -- the arbitration key of a request's frame
 abbrev pub key_of : Waiting → ℕ

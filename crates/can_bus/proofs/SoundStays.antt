@@ -3,8 +3,7 @@ use Rattle.std.proofs.Common.{◌≡◌, ℕ, ◌≤◌, true, false, cond, eqb,
 use Rattle.std.specs.Prelude.{None, Some, is_some}
 use Rattle.std.specs.Option.{option_map_or}
 use Rattle.can_frame.specs.Frame.{FrameFields}
-use Rattle.can_bus.specs.Transmission.{time_on_wire}
-use Rattle.can_bus.specs.Bus.{BusState, BitTakesTime, next_number, last_number, with_ranks, with_request, after_request, ended, after_finish, winner_at, with_transmission, after_arbitration, one_channel}
+use Rattle.can_bus.specs.Bus.{time_on_wire, BusState, BitTakesTime, next_number, last_number, with_ranks, with_request, after_request, ended, after_finish, winner_at, with_transmission, after_arbitration, one_channel}
 use Rattle.can_bus.specs.Laws.{SoundStays, NodesStay}
 use Rattle.can_bus.proofs.RankLemmas.{with_ranks-is}
 

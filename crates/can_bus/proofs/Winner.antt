@@ -7,8 +7,7 @@ use Rattle.can_frame.specs.Frame.{FrameFields}
 use Rattle.std.proofs.lemmas.List.Elements.{All-contains, All-nil, All-cons, All-more, at_read}
 use Rattle.std.proofs.lemmas.List.Sums.{AllPass-from_list_all, list_all-from_AllPass}
 use Rattle.can_bus.specs.declared.waiting.Waiting.{Waiting}
-use Rattle.can_bus.specs.Order.{goes_before}
-use Rattle.can_bus.specs.Waiting.{Requests, name_cmp, request_name, entry_of, Waits, IsWinner, members, winner}
+use Rattle.can_bus.specs.Waiting.{goes_before, Requests, name_cmp, request_name, entry_of, Waits, IsWinner, members, winner}
 use Rattle.can_bus.proofs.Precedence.{goes_before-decides, goes_before-trans, goes_before-self, one_goes_first}
 use Rattle.can_bus.proofs.Requests.{Contains-first, Contains-later, Contains-cons, not_Contains-nil, Contains-members, Waits-members, map-forth}
 

@@ -1,16 +1,29 @@
 -- The bus of ISO 11898-1 (arbitration, interframe space) with requests that wait: its state, and what
 -- each call makes of it.
-use Rattle.std.specs.Prelude.{ℕ, ◌+◌, ◌-◌, ◌^◌, ◌≤◌, ◌==◌, nat_lt, nat_le, Bool, false, ◌&&◌, if◌then◌else◌, ◌≡◌, ◌⊎◌, map, Option, None, Some, MatchOption, is_none, is_some, unwrap_or}
+use Rattle.std.specs.Prelude.{ℕ, ◌*◌, ◌+◌, ◌-◌, ◌^◌, ◌≤◌, ◌==◌, nat_lt, nat_le, Bool, false, ◌&&◌, if◌then◌else◌, ◌≡◌, ◌⊎◌, map, Option, None, Some, MatchOption, is_none, is_some, unwrap_or}
+use Rattle.can_frame.specs.Frame.{FrameFields}
+use Rattle.frame_bits.specs.Length.{frame_length}
 use Rattle.std.specs.Option.{option_map, option_map_or}
 use Rattle.std.specs.Ordering.{nat_cmp}
 use Rattle.std.specs.FinMap.{FinMap, get, insert, remove, retain_keys, len, empty}
-use Rattle.can_frame.specs.Frame.{FrameFields}
 use Rattle.can_bus.specs.declared.waiting.Waiting.{Waiting}
 use Rattle.can_bus.specs.declared.transmission.Transmission.{Transmission}
 use Rattle.can_bus.specs.declared.bus.Ended.{Ended}
 use Rattle.can_bus.specs.Meaning.{BusMeaning}
-use Rattle.can_bus.specs.Transmission.{time_on_wire, intermission}
 use Rattle.can_bus.specs.Waiting.{RequestName, Requests, request_name, requests_of, members, winner}
+
+-- ---- How long a frame and the intermission behind it take (ISO 11898-1, data frame, remote frame and
+-- interframe space).
+
+-- the microseconds that a frame is on the wire, where a bit takes so many
+abbrev pub time_on_wire : FrameFields → ℕ → ℕ
+time_on_wire frame bit = frame_length frame * bit
+
+-- the microseconds of the three bits after the end of a frame in which no other begins
+abbrev pub intermission : ℕ → ℕ
+intermission bit = 3 * bit
+
+-- ---- The bus.
 
 -- the waiting requests, the one on the wire, the moment from which the bus is free, the number of
 -- each node's next request (0 where there is none), and the microseconds that a bit takes

@@ -1,9 +1,7 @@
 -- The definitions of this crate.
-pub mod Order
 pub mod Waiting
-pub mod Transmission
-pub mod Meaning
 pub mod Bus
+pub mod Meaning
 pub mod Ranks
 pub mod Codes
 pub mod Laws

@@ -1,12 +1,48 @@
--- The set of waiting requests.
-use Rattle.std.specs.Prelude.{◌≡◌, ℕ, ◌⊎◌, not, List, map, find, Option, Some}
+-- The requests that wait for the bus: which of two goes first, and the set of them (ISO 11898-1,
+-- arbitration).
+use Rattle.std.specs.Prelude.{◌≡◌, ◌<◌, ◌⊎◌, Bool, true, false, ◌&&◌, ◌||◌, ◌==◌, nat_lt, if◌then◌else◌, List, [], ◌∷◌, ℕ, not, map, find, Option, Some}
+use Rattle.can_frame.specs.Frame.{Wins, arbitration_field, FrameFields}
+use Rattle.can_bus.specs.declared.waiting.Waiting.{Waiting}
 use Rattle.std.specs.List.{list_all}
 use Rattle.std.specs.Ordering.{nat_cmp, ordering_then}
 use Rattle.std.specs.declared.cmp.Ordering.{Ordering}
 use Rattle.std.specs.FinMap.{FinMap, get, entries, from_entries}
-use Rattle.can_frame.specs.Frame.{FrameFields}
-use Rattle.can_bus.specs.declared.waiting.Waiting.{Waiting}
-use Rattle.can_bus.specs.Order.{GoesBefore, goes_before}
+
+-- ---- Which of two requests goes first (ISO 11898-1, arbitration).
+
+-- the arbitration field of the request's frame
+abbrev pub arbitration_of : Waiting → List Bool
+arbitration_of r = arbitration_field r.frame
+
+-- of one node the earlier request comes first, and of two nodes the lesser
+abbrev pub ComesFirst : Waiting → Waiting → Type 0
+ComesFirst a b = (a.node < b.node) ⊎ ((a.node ≡ b.node) × (a.number < b.number))
+
+-- a's field wins the bus, or the fields are equal and a comes first
+abbrev pub GoesBefore : Waiting → Waiting → Type 0
+GoesBefore a b =
+    Wins (arbitration_of a) (arbitration_of b) ⊎ ((arbitration_of a ≡ arbitration_of b) × ComesFirst a b)
+
+-- the same as tests: whether the first field wins
+abbrev pub wins : List Bool → List Bool → Bool
+wins [] b = false
+wins (x ∷ a) [] = false
+wins (false ∷ a) (true ∷ b) = true
+wins (true ∷ a) (false ∷ b) = false
+wins (false ∷ a) (false ∷ b) = wins a b
+wins (true ∷ a) (true ∷ b) = wins a b
+
+-- whether a comes first
+abbrev pub comes_first : Waiting → Waiting → Bool
+comes_first a b = nat_lt a.node b.node || ((a.node == b.node) && nat_lt a.number b.number)
+
+-- whether a goes before b
+unfoldable pub goes_before : Waiting → Waiting → Bool
+goes_before a b =
+    if wins (arbitration_of a) (arbitration_of b) then true
+    else (if wins (arbitration_of b) (arbitration_of a) then false else comes_first a b)
+
+-- ---- The set of waiting requests.
 
 -- a request is named by its node and the node's own number for it
 abbrev pub RequestName : Type 0

@@ -1,7 +1,7 @@
 // The order in which requests go.
 
 ghost use Rattle.std.specs.Prelude.{◌≡◌};
-ghost use Rattle.can_bus.specs.Order.{goes_before};
+ghost use Rattle.can_bus.specs.Waiting.{goes_before};
 
 use crate::Waiting;
 use can_frame::arb_key;

@@ -1,7 +1,7 @@
 // What is on the wire, and how long.
 
 ghost use Rattle.std.specs.Prelude.{◌≡◌, ◌*◌, ◌≤◌};
-ghost use Rattle.can_bus.specs.Transmission.{time_on_wire, intermission};
+ghost use Rattle.can_bus.specs.Bus.{time_on_wire, intermission};
 
 use crate::Waiting;
 use can_frame::Frame;

@@ -6,8 +6,7 @@ use Rattle.std.proofs.lemmas.Nat.Bits.{bit_at_lowest, bit_at-suc, bit_at_cat_low
 use Rattle.std.proofs.lemmas.Nat.{shr_split, shr_high, mod_low, mod-pow-add, pow-add}
 use Rattle.std.proofs.lemmas.Bool.Decides.{nat_tests}
 use Rattle.std.proofs.Math.ListN.{length-replicate}
-use Rattle.can_frame.specs.Bits.{field_bits, number_of}
-use Rattle.can_frame.specs.Arbitration.{filled}
+use Rattle.can_frame.specs.Frame.{field_bits, number_of, filled}
 
 -- a field has as many bits as it says
 pub length-field_bits : (k n : ℕ) → length (field_bits k n) ≡ k

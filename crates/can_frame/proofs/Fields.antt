@@ -3,9 +3,7 @@ use Rattle.std.proofs.Common.{◌≡◌, ◌≢◌, ℕ, pred, ◌-◌, ◌/◌,
 use Rattle.std.proofs.lemmas.List.{append-nil}
 use Rattle.can_frame.specs.declared.Ident.{Ident}
 use Rattle.can_frame.specs.declared.Ident.TheVariants.{Std, Ext}
-use Rattle.can_frame.specs.Bits.{field_bits, number_of}
-use Rattle.can_frame.specs.Frame.{FrameFields}
-use Rattle.can_frame.specs.Arbitration.{Wins, filled, arbitration_bits, arbitration_key, KeysOrderFields}
+use Rattle.can_frame.specs.Frame.{field_bits, number_of, FrameFields, Wins, filled, arbitration_bits, arbitration_key, KeysOrderFields}
 use Rattle.can_frame.proofs.BitLists.{length-field_bits, number_of-one, number_of-zero, number_of-lt, length-filled}
 
 -- ---- lists of one length: to win is to spell the lesser number

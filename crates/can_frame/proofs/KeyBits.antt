@@ -3,9 +3,7 @@ use Rattle.std.proofs.Common.{◌≡◌, ℕ, ◌+◌, ◌*◌, ◌/◌, ◌%◌
 use Rattle.std.proofs.lemmas.Nat.{or_shifted, and_mask}
 use mir.Val.{bool_byte}
 use Rattle.can_frame.specs.declared.Ident.TheVariants.{Std, Ext}
-use Rattle.can_frame.specs.Bits.{number_of}
-use Rattle.can_frame.specs.Frame.{FrameFields, IsIdent}
-use Rattle.can_frame.specs.Arbitration.{filled, arbitration_bits, arbitration_key}
+use Rattle.can_frame.specs.Frame.{number_of, FrameFields, IsIdent, filled, arbitration_bits, arbitration_key}
 use Rattle.can_frame.proofs.BitLists.{length-field_bits, number_of-append, number_of-field_bits, number_of-filled, number_of-one, number_of-zero, number_of-nil}
 use Rattle.can_frame.proofs.Fields.{length-arbitration_std, length-arbitration_ext}
 

@@ -1,7 +1,7 @@
 // The keys that order frames and name identifiers.
 
 ghost use Rattle.std.specs.Prelude.{◌≡◌};
-ghost use Rattle.can_frame.specs.Arbitration.{arbitration_key, selection_key};
+ghost use Rattle.can_frame.specs.Frame.{arbitration_key, selection_key};
 
 use crate::{Frame, Ident};
 

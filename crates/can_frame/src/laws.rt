@@ -1,8 +1,7 @@
 //! Laws of the two keys. Each call does nothing: its contract is the law.
 
 ghost use Rattle.can_frame.specs.declared.Ident.{Ident};
-ghost use Rattle.can_frame.specs.Frame.{FrameFields};
-ghost use Rattle.can_frame.specs.Arbitration.{KeysOrderFields, NamesIdents};
+ghost use Rattle.can_frame.specs.Frame.{FrameFields, KeysOrderFields, NamesIdents};
 
 /// Arbitration keys order frames as their arbitration fields do as lists of bits: the key is less
 /// exactly where the field has the dominant bit at the first difference, and equal exactly where

@@ -15,8 +15,7 @@ use Rattle.capl_tree.specs.Spelling as spelled
 use Rattle.capl_tree.specs.Placed.{IsAt, EachBefore}
 use Rattle.capl_tree.specs.FileSpelling as spelled_file
 use Rattle.capl_tree.specs.FilePlaced.{EachPlaced}
-use Rattle.capl_grammar.specs.Piece.{Piece, Token, At, When, Spells}
-use Rattle.capl_grammar.specs.Expression.{further, separated}
+use Rattle.capl_grammar.specs.Expression.{Piece, Token, At, When, Spells, further, separated}
 use Rattle.capl_grammar.specs.File.{each, braced}
 
 -- the tokens, the last of a file of so many, are what the pieces say

@@ -13,10 +13,9 @@ use Rattle.capl_tree.specs.declared.declaration.Init.{Init}
 use Rattle.capl_tree.specs.declared.declaration.Init.TheVariants.{One, Many}
 use Rattle.capl_tree.specs.declared.declaration.Item.{Item}
 use Rattle.capl_tree.specs.declared.declaration.Item.TheVariants.{Plain, Set}
-use Rattle.capl_tree.specs.Binding.{choice_level}
+use Rattle.capl_tree.specs.Binding.{choice_level, kind_word}
 use Rattle.capl_tree.specs.Grammar.{IsValue, IsInitialItem, IsInitialiser, IsDeclared, IsDeclaration}
 use Rattle.capl_tree.specs.Spelling as spelled
-use Rattle.capl_tree.specs.Signs.{kind_word}
 use Rattle.capl_tree.specs.Placed.{IsPlaced, IsItemPlaced, IsInitialiserPlaced, IsSizePlaced, IsFirstPlaced, IsDeclaratorPlaced, IsTypePlaced, IsDeclarationPlaced}
 use Rattle.capl_grammar.specs.Expression.{value, item, initialiser, size_part, initialiser_part, declarator, declared_type, declaration}
 use Rattle.capl_grammar.proofs.Same.{Same, ItemSame, token, only, both, ended, became, placed, asked, missing, present, some_items, separated_same}

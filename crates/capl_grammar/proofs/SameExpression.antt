@@ -12,13 +12,11 @@ use Rattle.capl_tree.specs.declared.expr.Expr.TheVariants as expr
 use Rattle.capl_tree.specs.declared.expr.Field.{Field}
 use Rattle.capl_tree.specs.declared.expr.Field.TheVariants.{Named}
 use Rattle.capl_tree.specs.Forms as form
-use Rattle.capl_tree.specs.Binding.{operator_level, assignment_level, choice_level, binary_level, prefix_level, postfix_level, operand_level, level}
+use Rattle.capl_tree.specs.Binding.{operator_level, assignment_level, choice_level, binary_level, prefix_level, postfix_level, operand_level, level, kind_word, prefix_sign, postfix_sign, operator_sign, assignment_sign}
 use Rattle.capl_tree.specs.Grammar.{IsExpression, IsField, AreExpressions, IsCompound}
 use Rattle.capl_tree.specs.Spelling as spelled
-use Rattle.capl_tree.specs.Signs.{kind_word, prefix_sign, postfix_sign, operator_sign, assignment_sign}
 use Rattle.capl_tree.specs.Placed.{IsPlaced, IsFieldPlaced, ArePlaced}
-use Rattle.capl_grammar.specs.Piece.{a_sign}
-use Rattle.capl_grammar.specs.Expression.{assignment, expression, field, arguments, further_arguments}
+use Rattle.capl_grammar.specs.Expression.{a_sign, assignment, expression, field, arguments, further_arguments}
 use Rattle.capl_grammar.proofs.Same.{Same, ItemSame, nothing, token, only, both, ended, became, placed, asked, never, enough}
 
 -- a binary operator binds more strongly than `?:`, and less than a prefix operator. The clause for one makes

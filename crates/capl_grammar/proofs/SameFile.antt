@@ -24,13 +24,13 @@ use Rattle.capl_tree.specs.declared.file.TopItem.TheVariants as top
 use Rattle.capl_tree.specs.declared.file.FileTree.{FileTree}
 use Rattle.capl_tree.specs.Grammar.{IsNumeral, IsSelection, IsSelector, IsHead, IsProcedure, IsTopItem}
 use Rattle.capl_tree.specs.Spelling as spelled
-use Rattle.capl_tree.specs.Signs.{kind_word}
+use Rattle.capl_tree.specs.Binding.{kind_word}
 use Rattle.capl_tree.specs.Placed.{IsAt, IsPlaced, EachBefore}
 use Rattle.capl_tree.specs.FileSpelling as spelled_file
 use Rattle.capl_tree.specs.FileSpelling.{Voids}
 use Rattle.capl_tree.specs.FilePlaced.{IsPartPlaced, EachPlaced, IsSelectionPlaced, IsSelectorPlaced, IsParameterPlaced, IsHeadPlaced, IsProcedurePlaced, IsTopItemPlaced}
 use Rattle.capl_tree.specs.Tree.{AreInPlace, IsTreeOf}
-use Rattle.capl_grammar.specs.Piece.{Piece, VoidOrNothing, Spells}
+use Rattle.capl_grammar.specs.Expression.{Piece, VoidOrNothing, Spells}
 use Rattle.capl_grammar.specs.File.{each, numeral, range_end, selection, channel, selector, key, parameter, gives, parameters, signature, procedure_head, procedure, included, top_item, IsSourceOf}
 use Rattle.capl_grammar.proofs.Same.{Written, Chosen, Same, ItemSame, again, nothing, token, only, both, ended, became, placed, asked, never, free, missing, present, some_items, separated_same, braced_same}
 use Rattle.capl_grammar.proofs.SameDeclaration.{declaration_same}

@@ -16,8 +16,7 @@ use Rattle.capl_tree.specs.Grammar.{IsExpression, IsValue, IsOptional, IsLabel, 
 use Rattle.capl_tree.specs.Spelling as spelled
 use Rattle.capl_tree.specs.FileSpelling as spelled_file
 use Rattle.capl_tree.specs.FilePlaced.{IsPartPlaced, IsLabelPlaced, IsStatementPlaced, AreStatementsPlaced, AreArmsPlaced, IsElsePlaced, AreGroupsPlaced}
-use Rattle.capl_grammar.specs.Piece.{a_sign}
-use Rattle.capl_grammar.specs.Expression.{expression}
+use Rattle.capl_grammar.specs.Expression.{a_sign, expression}
 use Rattle.capl_grammar.specs.File.{optional, label_part, label, is_if, has_statement, has_no_group, statement, statements, first_arm, further_arms, last_else, label_groups, body_part}
 use Rattle.capl_grammar.proofs.Same.{Same, ItemSame, nothing, token, only, both, ended, became, placed, asked, never, missing, present, some_items, each_same}
 use Rattle.capl_grammar.proofs.SameExpression.{any_same}

@@ -3,28 +3,64 @@
 -- A part is written out before a rest, as the pieces that it is and then the rest. So a whole is its parts,
 -- each written out before what stands behind it. The place of a part is that of its first token; that of a
 -- message's type is that of its number or name.
-use Rattle.std.specs.Prelude.{ℕ, suc, true, false, nat_le, nat_lt, length, List, [], ◌∷◌, Option, Some, None}
+use Rattle.std.specs.Prelude.{◌≡◌, ◌⊎◌, ℕ, suc, Bool, true, List, [], ◌∷◌, false, nat_le, nat_lt, length, Option, Some, None}
+use Rattle.capl_lexer.specs.declared.token.Tok.{Tok}
+use Rattle.capl_lexer.specs.declared.token.Word.{Word}
+use Rattle.capl_lexer.specs.declared.token.Sign.{Sign}
 use Rattle.int_kinds.specs.declared.operators.BinOp.{BinOp}
-use Rattle.int_kinds.specs.declared.operators.BinOp.TheVariants as op
-use Rattle.capl_lexer.specs.declared.token.Tok.TheVariants as tok
-use Rattle.capl_lexer.specs.declared.token.Word.TheVariants as word
-use Rattle.capl_lexer.specs.declared.token.Sign.TheVariants as sign
 use Rattle.capl_tree.specs.declared.expr.Expr.{Expr, Row_of-Expr, end_of-Expr, more_of-Expr}
-use Rattle.capl_tree.specs.declared.expr.Expr.TheVariants as expr
 use Rattle.capl_tree.specs.declared.expr.Field.{Field}
 use Rattle.capl_tree.specs.declared.expr.Field.TheVariants.{Named}
 use Rattle.capl_tree.specs.declared.declaration.Decl.{Decl}
 use Rattle.capl_tree.specs.declared.declaration.DeclType.{DeclType}
-use Rattle.capl_tree.specs.declared.declaration.DeclType.TheVariants as type
 use Rattle.capl_tree.specs.declared.declaration.Declr.{Declr}
 use Rattle.capl_tree.specs.declared.declaration.Init.{Init}
 use Rattle.capl_tree.specs.declared.declaration.Init.TheVariants.{One, Many}
 use Rattle.capl_tree.specs.declared.declaration.Item.{Item}
 use Rattle.capl_tree.specs.declared.declaration.Item.TheVariants.{Plain, Set}
+use Rattle.capl_tree.specs.Binding.{operator_level, assignment_level, choice_level, binary_level, prefix_level, postfix_level, kind_word, prefix_sign, postfix_sign, operator_sign}
+use Rattle.capl_lexer.specs.declared.token.Tok.TheVariants as tok
+use Rattle.capl_lexer.specs.declared.token.Word.TheVariants as word
+use Rattle.int_kinds.specs.declared.operators.BinOp.TheVariants as op
+use Rattle.capl_lexer.specs.declared.token.Sign.TheVariants as sign
+use Rattle.capl_tree.specs.declared.expr.Expr.TheVariants as expr
+use Rattle.capl_tree.specs.declared.declaration.DeclType.TheVariants as type
 use Rattle.capl_tree.specs.Forms as form
-use Rattle.capl_tree.specs.Binding.{operator_level, assignment_level, choice_level, binary_level, prefix_level, postfix_level}
-use Rattle.capl_tree.specs.Signs.{kind_word, prefix_sign, postfix_sign, operator_sign}
-use Rattle.capl_grammar.specs.Piece.{Piece, Token, At, When, a_sign, a_word, a_name}
+
+-- ---- What a part of a tree is written out as, and which tokens that is.
+
+-- a piece: a token; `void` or nothing; the place of a part, which is the number of the next token; or a
+-- condition, which has to hold
+pub data Piece : Type 0 where
+  Token : Tok → Piece
+  VoidOrNothing : Piece
+  At : ℕ → Piece
+  When : Bool → Piece
+
+-- a sign
+abbrev pub a_sign : Sign → Piece
+a_sign sign = Token (tok.Sign sign)
+
+-- a reserved word
+abbrev pub a_word : Word → Piece
+a_word word = Token (tok.Word word)
+
+-- a name
+abbrev pub a_name : List ℕ → Piece
+a_name name = Token (tok.Name name)
+
+-- these tokens, the first of which has this number, are what the pieces say
+abbrev pub Spells : ℕ → List Piece → List Tok → Type 0
+Spells number [] tokens = tokens ≡ []
+Spells number (Token token ∷ rest) tokens =
+    (behind : List Tok) × (tokens ≡ token ∷ behind) × Spells (suc number) rest behind
+Spells number (VoidOrNothing ∷ rest) tokens =
+    Spells number rest tokens
+    ⊎ ((behind : List Tok) × (tokens ≡ tok.Word word.Void ∷ behind) × Spells (suc number) rest behind)
+Spells number (At place ∷ rest) tokens = (place ≡ number) × Spells number rest tokens
+Spells number (When holds ∷ rest) tokens = (holds ≡ true) × Spells number rest tokens
+
+-- ---- Expressions and declarations.
 
 -- the sign of an assignment; some operators have none with `=`
 abbrev pub assignment : Option BinOp → List Piece → List Piece

@@ -27,10 +27,8 @@ use Rattle.capl_tree.specs.declared.file.TopItem.{TopItem}
 use Rattle.capl_tree.specs.declared.file.TopItem.TheVariants as top
 use Rattle.capl_tree.specs.declared.file.FileTree.{FileTree}
 use Rattle.capl_tree.specs.Forms as form
-use Rattle.capl_tree.specs.Binding.{assignment_level, takes_else}
-use Rattle.capl_tree.specs.Signs.{kind_word}
-use Rattle.capl_grammar.specs.Piece.{Piece, Token, VoidOrNothing, At, When, a_sign, a_word, a_name, Spells}
-use Rattle.capl_grammar.specs.Expression.{expression, value, separated, some_of, declaration}
+use Rattle.capl_tree.specs.Binding.{assignment_level, takes_else, kind_word}
+use Rattle.capl_grammar.specs.Expression.{Piece, Token, VoidOrNothing, At, When, a_sign, a_word, a_name, Spells, expression, value, separated, some_of, declaration}
 
 -- an expression that may be missing
 abbrev pub optional : Option Expr → List Piece → List Piece

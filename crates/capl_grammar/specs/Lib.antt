@@ -1,4 +1,3 @@
 -- The definitions of this crate.
 pub mod Expression
 pub mod File
-pub mod Piece

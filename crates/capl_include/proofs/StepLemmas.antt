@@ -5,8 +5,7 @@ use Rattle.capl_lexer.specs.declared.token.Tok.{Tok}
 use Rattle.capl_lexer.specs.declared.token.Tok.TheVariants as tok
 use Rattle.capl_lexer.specs.declared.token.Token.{Token}
 use Rattle.capl_include.specs.Blame.{place_blame}
-use Rattle.capl_include.specs.Name.{included_name, is_included_name}
-use Rattle.capl_include.specs.Expansion.{Include, includes_of, include_then}
+use Rattle.capl_include.specs.Expansion.{included_name, is_included_name, Include, includes_of, include_then}
 use Rattle.capl_include.specs.Inside.Step.{Refused, Passed, Visited, has_met}
 use Rattle.capl_include.specs.Inside.Visit.{HasStep, StepAgrees}
 use Rattle.capl_include.specs.Inside.Refusal.{IsBlamedOrNoMemory}

@@ -7,9 +7,8 @@ use Rattle.capl_lexer.specs.Reading.{line_at, column_at, token_limit}
 use Rattle.capl_lexer.specs.declared.token.Token.{Token}
 use Rattle.capl_lexer.proofs.ReadingLemmas.{reading-unique, bad_place-reading, bad_place-unique}
 use Rattle.capl_include.specs.Blame.{too_long_rule, file_blame, place_blame}
-use Rattle.capl_include.specs.Name.{included_name, is_included_name}
+use Rattle.capl_include.specs.Expansion.{included_name, is_included_name, Contents, Expansion, Outcome, Include, Went, Stopped, Visits, GoesOn, IsIncluded, AreIncluded, StopsIf, VisitsTokens, VisitsText, VisitsHeld, IsVisit, includes_of, meeting, appending, file_limit, byte_limit}
 use Rattle.capl_include.specs.Inside.Step.{GoesPast, has_met}
-use Rattle.capl_include.specs.Expansion.{Contents, Expansion, Outcome, Include, Went, Stopped, Visits, GoesOn, IsIncluded, AreIncluded, StopsIf, VisitsTokens, VisitsText, VisitsHeld, IsVisit, includes_of, meeting, appending, file_limit, byte_limit}
 
 -- the visit of a file comes to one outcome
 abbrev pub AreOnce : Visits → Type 0

@@ -10,8 +10,7 @@ use Rattle.capl_lexer.specs.declared.token.Tok.{Tok}
 use Rattle.capl_lexer.specs.declared.token.Tok.TheVariants as tok
 use Rattle.capl_lexer.specs.declared.token.Token.{Token}
 use Rattle.capl_include.specs.Blame.{too_long_rule, file_blame, place_blame}
-use Rattle.capl_include.specs.Name.{included_name, is_included_name}
-use Rattle.capl_include.specs.Expansion.{Contents, Expansion, Outcome, Include, Went, Stopped, Visits, IsIncluded, AreIncluded, StopsIf, VisitsText, VisitsHeld, IsVisit, includes_of, include_then, meeting, appending, file_limit, byte_limit}
+use Rattle.capl_include.specs.Expansion.{included_name, is_included_name, Contents, Expansion, Outcome, Include, Went, Stopped, Visits, IsIncluded, AreIncluded, StopsIf, VisitsText, VisitsHeld, IsVisit, includes_of, include_then, meeting, appending, file_limit, byte_limit}
 use Rattle.capl_include.specs.Inside.Step.{Inclusion, Refused, Passed, Visited, GoesBy, GoesPast, has_met, step_of}
 use Rattle.capl_include.specs.Inside.Visit.{IsRead, IsReadBlame, ReadAgrees, HasStep, StepAgrees, IsVisitAt, IsVisitRefusal}
 use Rattle.capl_include.specs.Inside.Refusal.{IsBlamedOrNoMemory}

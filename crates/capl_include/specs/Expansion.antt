@@ -1,17 +1,38 @@
 -- The expansion of a file over what the files hold: a recursion on the names that it names (CAPL manual,
 -- includes). It ends at the first rule that is broken.
-use Rattle.std.specs.Prelude.{◌≡◌, ◌+◌, ◌^◌, ◌⊎◌, ℕ, zero, suc, Bool, true, false, List, [], ◌∷◌, ◌++◌, length, MatchBool, Option, Some, None, nat_lt, nat_le, not}
-use Rattle.std.specs.List.{list_any}
+use Rattle.std.specs.Prelude.{ℕ, Bool, not, List, length, map, ◌==◌, ◌&&◌, nat_le, if◌then◌else◌, ◌≡◌, ◌+◌, ◌^◌, ◌⊎◌, zero, suc, true, false, [], ◌∷◌, ◌++◌, MatchBool, Option, Some, None, nat_lt}
+use Rattle.std.specs.List.{list_all, list_any}
+use Rattle.sim_outside.specs.Files.{beside}
 use Rattle.std.specs.Str.{bytes_eq}
 use Rattle.texts.specs.declared.blame.Blame.{Blame}
 use Rattle.texts.specs.Rule.{source_rule}
 use Rattle.capl_lexer.specs.Reading.{IsReading, IsBadPlace, line_at, column_at, token_limit}
 use Rattle.capl_lexer.specs.declared.token.Tok.{Tok}
-use Rattle.capl_lexer.specs.declared.token.Tok.TheVariants as tok
 use Rattle.capl_lexer.specs.declared.token.Token.{Token}
 use Rattle.capl_include.specs.Blame.{too_long_rule, file_blame, place_blame}
-use Rattle.capl_include.specs.Name.{included_name, is_included_name}
 use Rattle.capl_include.specs.declared.expanded.SourceFile.{SourceFile}
+use Rattle.capl_lexer.specs.declared.token.Tok.TheVariants as tok
+
+-- ---- The names of included files (CAPL manual, includes).
+
+-- the bytes with `/` for each `\`
+abbrev pub with_slashes : List ℕ → List ℕ
+with_slashes bytes = map (λ byte. if byte == 92 then 47 else byte) bytes
+
+-- the name of the file that a file includes by this name of its own
+abbrev pub included_name : List ℕ → List ℕ → List ℕ
+included_name naming own = beside naming (with_slashes own)
+
+-- whether the byte is one of 32 to 126
+abbrev pub is_shown : ℕ → Bool
+is_shown byte = nat_le 32 byte && nat_le byte 126
+
+-- a file's own name is not empty, and its joined name has at most 255 bytes, each from 32 to 126
+abbrev pub is_included_name : List ℕ → List ℕ → Bool
+is_included_name own name =
+    not (length own == 0) && nat_le (length name) 255 && list_all is_shown name
+
+-- ---- The expansion of a file.
 
 -- what each name holds, or that it holds nothing
 abbrev pub Contents : Type 0

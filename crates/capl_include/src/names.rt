@@ -2,7 +2,7 @@
 
 ghost use Rattle.std.specs.Prelude.{◌≡◌, IfOk};
 ghost use Rattle.std.specs.List.{list_all};
-ghost use Rattle.capl_include.specs.Name.{with_slashes, included_name, is_shown, is_included_name};
+ghost use Rattle.capl_include.specs.Expansion.{with_slashes, included_name, is_shown, is_included_name};
 
 use sim_outside::beside;
 use std::alloc::Global;

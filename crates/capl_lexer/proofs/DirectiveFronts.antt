@@ -3,8 +3,7 @@ use Rattle.std.proofs.Common.{◌≡◌, ◌<◌, ◌≤◌, ◌+◌, ℕ, zero,
 use Rattle.std.specs.Prelude.{◌⊎◌, codes}
 use Rattle.std.proofs.lemmas.List.{append_assoc, take_at, drop_at, drop_more, take-append-drop, append_cancel_left, length-take-le}
 use Rattle.std.proofs.lemmas.List.Elements.{All-head}
-use Rattle.capl_lexer.specs.Bytes.{IsLetter, IsBlankInLine}
-use Rattle.capl_lexer.specs.Spelling.{IsNameByte, IsInclude, IsDirective, Spells}
+use Rattle.capl_lexer.specs.Spelling.{IsLetter, IsBlankInLine, IsNameByte, IsInclude, IsDirective, Spells}
 use Rattle.capl_lexer.specs.Inside.ByteClass.{IsFirstInClass, IsRun}
 use Rattle.capl_lexer.specs.Inside.Directive.{HasNoInclude}
 use Rattle.capl_lexer.specs.Inside.Front.{IsTokenFront, HasNoToken}

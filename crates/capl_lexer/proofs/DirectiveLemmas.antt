@@ -3,8 +3,7 @@ use Rattle.std.proofs.Common.{◌≡◌, ◌≢◌, ◌<◌, ◌≤◌, ℕ, Lis
 use Rattle.std.specs.Prelude.{codes}
 use Rattle.std.proofs.lemmas.Bool.{cases_lt}
 use Rattle.std.proofs.lemmas.List.{append_cancel_left, append-nil, get_or_at, get_or_append_left}
-use Rattle.capl_lexer.specs.Bytes.{IsLetter, IsBlankInLine}
-use Rattle.capl_lexer.specs.Spelling.{IsNameByte, IsInclude, IsDirective}
+use Rattle.capl_lexer.specs.Spelling.{IsLetter, IsBlankInLine, IsNameByte, IsInclude, IsDirective}
 use Rattle.capl_lexer.proofs.SplitLemmas.{before-unique}
 
 -- a quote is no blank

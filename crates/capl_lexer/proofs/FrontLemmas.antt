@@ -1,8 +1,7 @@
 -- The token at the front of a text by its first byte, and names and reserved words.
 use Rattle.std.proofs.Common.{◌≡◌, ◌≢◌, ◌<◌, ◌≤◌, ◌+◌, ℕ, zero, suc, List, [], ◌∷◌, ◌++◌, length, get_or, take, drop, All, inl, inr, refl, sym, ap, subst, ◌∙◌, arith}
 use Rattle.std.proofs.lemmas.List.{length-take-le}
-use Rattle.capl_lexer.specs.Bytes.{IsNamePart}
-use Rattle.capl_lexer.specs.Spelling.{word_spelling, Spells}
+use Rattle.capl_lexer.specs.Spelling.{IsNamePart, word_spelling, Spells}
 use Rattle.capl_lexer.specs.Inside.ByteClass.{IsInClass, IsFirstInClass, IsRun}
 use Rattle.capl_lexer.specs.Reading.{IsLongest}
 use Rattle.capl_lexer.specs.Inside.Front.{IsTokenFront, HasNoToken}

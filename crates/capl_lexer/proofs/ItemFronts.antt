@@ -1,7 +1,6 @@
 -- The byte or the escape at the front of a text, as the code finds it.
 use Rattle.std.proofs.Common.{◌≡◌, ℕ, List, [], ◌∷◌, MatchOption, Option, Some, None, inl, inr, sym, subst, arith}
-use Rattle.capl_lexer.specs.Bytes.{IsHexDigitFront}
-use Rattle.capl_lexer.specs.Spelling.{IsItem}
+use Rattle.capl_lexer.specs.Spelling.{IsHexDigitFront, IsItem}
 use Rattle.capl_lexer.specs.Inside.ByteClass.{IsInClass}
 use Rattle.capl_lexer.specs.Inside.Item.{IsItemFront, HasNoItem, IsEscapeFront, HasNoEscape}
 use Rattle.capl_lexer.specs.declared.byte_class.ByteClass.{ByteClass}

@@ -4,8 +4,7 @@ use Rattle.std.specs.Prelude.{◌⊎◌}
 use Rattle.std.proofs.lemmas.List.{append_cancel_left}
 use Rattle.std.proofs.lemmas.List.Elements.{All-cons, All-nil}
 use Rattle.text_parts.specs.Number.{IsHexDigit, digit_value, number_in}
-use Rattle.capl_lexer.specs.Bytes.{IsHexDigitFront}
-use Rattle.capl_lexer.specs.Spelling.{escaped, IsEscape, IsPlain, IsPlainInChar, IsItem, AreItems}
+use Rattle.capl_lexer.specs.Spelling.{IsHexDigitFront, escaped, IsEscape, IsPlain, IsPlainInChar, IsItem, AreItems}
 use Rattle.capl_lexer.proofs.SplitLemmas.{front_injective}
 
 -- one value and one rest

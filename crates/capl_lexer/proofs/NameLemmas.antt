@@ -3,9 +3,8 @@ use Rattle.std.proofs.Common.{refl, ◌≡◌, ◌≢◌, ◌≤◌, ℕ, List, 
 use Rattle.std.specs.Prelude.{Bool, true, false, not, Option, Some, None, IsTrue, is_none, is_some}
 use Rattle.std.proofs.lemmas.Bool.{false≢true}
 use Rattle.items.specs.Search.{Finds}
-use Rattle.capl_lexer.specs.Bytes.{IsNameFront}
+use Rattle.capl_lexer.specs.Spelling.{IsNameFront, IsName, word_spelling}
 use Rattle.capl_lexer.specs.Inside.ByteClass.{IsFirstInClass, IsRun}
-use Rattle.capl_lexer.specs.Spelling.{IsName, word_spelling}
 use Rattle.capl_lexer.specs.declared.byte_class.ByteClass.TheVariants as class
 use Rattle.capl_lexer.specs.declared.token.Word.{Word}
 use Rattle.capl_lexer.proofs.ByteClassLemmas.{run-whole, whole-run}

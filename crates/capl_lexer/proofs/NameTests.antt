@@ -9,8 +9,7 @@ use Rattle.std.proofs.lemmas.Bool.Decides.{nat_tests}
 use Rattle.std.proofs.lemmas.List.Sums.{AllPass-from_list_all, list_all-from_AllPass}
 use Rattle.std.proofs.lemmas.List.Folds.{list_any_none}
 use Rattle.std.proofs.lemmas.Slice.Eq.{bytes_eq-Decides}
-use Rattle.capl_lexer.specs.Bytes.{IsNameStart, IsNamePart}
-use Rattle.capl_lexer.specs.Spelling.{IsName, word_spelling}
+use Rattle.capl_lexer.specs.Spelling.{IsNameStart, IsNamePart, IsName, word_spelling}
 use Rattle.capl_lexer.specs.Name.{is_name_start, is_name_part, reserved_words, is_reserved, is_name}
 use Rattle.capl_lexer.specs.declared.token.Word.{Word}
 use Rattle.capl_lexer.specs.declared.token.Word.TheVariants as word

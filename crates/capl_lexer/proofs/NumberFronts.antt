@@ -4,8 +4,7 @@ use Rattle.std.specs.Prelude.{◌⊎◌}
 use Rattle.std.proofs.lemmas.Bool.{cases_lt}
 use Rattle.std.proofs.lemmas.List.{append_assoc, take_more, drop_more, drop_at, take-append-drop, get_or_append_left, length-take-le}
 use Rattle.text_parts.specs.Number.{IsDigit, IsHexDigit, number_in, number_of_64_bits}
-use Rattle.capl_lexer.specs.Bytes.{IsMark}
-use Rattle.capl_lexer.specs.Spelling.{IsMarked, IsDecimal, IsHexadecimal, IsFloat, Spells}
+use Rattle.capl_lexer.specs.Spelling.{IsMark, IsMarked, IsDecimal, IsHexadecimal, IsFloat, Spells}
 use Rattle.capl_lexer.specs.Inside.ByteClass.{IsInClass, IsFirstInClass, IsRun}
 use Rattle.capl_lexer.specs.Reading.{IsLongest}
 use Rattle.capl_lexer.specs.Inside.Base.{IsBaseOf, IsHexadecimalFront, radix_of, prefix_of, digits_of}

@@ -4,8 +4,7 @@ use Rattle.std.specs.Prelude.{◌⊎◌}
 use Rattle.std.proofs.lemmas.List.{take_at, get_or_at, get_or_append_left}
 use Rattle.std.proofs.lemmas.List.Elements.{All-append, All-cons, All-weaker}
 use Rattle.text_parts.specs.Number.{IsDigit, IsHexDigit, number_in}
-use Rattle.capl_lexer.specs.Bytes.{IsMark}
-use Rattle.capl_lexer.specs.Spelling.{IsMarked, IsDecimal, IsHexadecimal, IsFloat}
+use Rattle.capl_lexer.specs.Spelling.{IsMark, IsMarked, IsDecimal, IsHexadecimal, IsFloat}
 
 -- no hexadecimal digit is a mark
 pub hex_digit-mark : (byte : ℕ) → IsHexDigit byte → IsMark byte → ⊥

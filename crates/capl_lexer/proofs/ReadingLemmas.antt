@@ -3,8 +3,7 @@ use Rattle.std.proofs.Common.{◌≡◌, ◌<◌, ◌≤◌, ◌+◌, ℕ, List,
 use Rattle.std.specs.Prelude.{◌⊎◌}
 use Rattle.std.proofs.lemmas.Bool.Decides.{nat_tests}
 use Rattle.std.proofs.lemmas.List.{append_cancel_left}
-use Rattle.capl_lexer.specs.Bytes.{IsBlank}
-use Rattle.capl_lexer.specs.Spelling.{Spells}
+use Rattle.capl_lexer.specs.Spelling.{IsBlank, Spells}
 use Rattle.capl_lexer.specs.Reading.{Piece, Blank, Comment, Lexeme, IsFront, AreFront, OpensComment, IsLineComment, IsBlockComment, first_place, tokens_at, IsReading, IsBadPlace}
 use Rattle.capl_lexer.specs.Inside.Step.{HasNoPiece}
 use Rattle.capl_lexer.specs.declared.token.Sign.{Sign}

@@ -6,8 +6,7 @@ use Rattle.std.proofs.lemmas.Bool.{and_parts}
 use Rattle.std.proofs.lemmas.Bool.Decides.{nat_tests}
 use Rattle.std.proofs.lemmas.List.Elements.{All-cons, All-nil}
 use Rattle.text_parts.specs.Number.{IsDigit, IsHexDigit, number_in, number_of_64_bits}
-use Rattle.capl_lexer.specs.Bytes.{IsNameStart, IsNameFront, IsNamePart}
-use Rattle.capl_lexer.specs.Spelling.{word_spelling, sign_spelling, IsMarked, IsDecimal, IsHexadecimal, IsFloat, IsItem, AreItems, IsPlainInChar, IsInclude, IsDirective, Spells}
+use Rattle.capl_lexer.specs.Spelling.{IsNameStart, IsNameFront, IsNamePart, word_spelling, sign_spelling, IsMarked, IsDecimal, IsHexadecimal, IsFloat, IsItem, AreItems, IsPlainInChar, IsInclude, IsDirective, Spells}
 use Rattle.capl_lexer.specs.declared.token.Word.{Word}
 use Rattle.capl_lexer.specs.declared.token.Word.TheVariants as word
 use Rattle.capl_lexer.specs.declared.token.Sign.{Sign}

@@ -1,7 +1,7 @@
 -- The piece at the front of a text, from the blank, the comment or the token there.
 use Rattle.std.proofs.Common.{◌≡◌, ◌≢◌, ◌≤◌, ℕ, List, [], ◌∷◌, ◌++◌, length, take, drop, inl, inr, Option, Some, None, refl, sym, ap, subst, ◌∙◌, arith}
 use Rattle.std.proofs.lemmas.List.{take-append-drop, length-take-le}
-use Rattle.capl_lexer.specs.Bytes.{IsBlank}
+use Rattle.capl_lexer.specs.Spelling.{IsBlank}
 use Rattle.capl_lexer.specs.Reading.{Piece, Blank, Comment, Lexeme, IsFront, IsLongest, OpensComment}
 use Rattle.capl_lexer.specs.Inside.ByteClass.{IsFirstInClass}
 use Rattle.capl_lexer.specs.Inside.Front.{IsTokenFront, HasNoToken}

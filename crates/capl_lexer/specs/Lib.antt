@@ -1,5 +1,4 @@
 -- The definitions of this crate.
-pub mod Bytes
 pub mod Spelling
 pub mod Name
 pub mod Reading

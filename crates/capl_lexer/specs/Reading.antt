@@ -1,8 +1,7 @@
 -- The reading of a whole text into pieces: blanks, comments and tokens (CAPL manual, lexical elements).
 use Rattle.std.specs.Prelude.{◌≡◌, ◌≢◌, ◌+◌, ◌<◌, ◌≤◌, ◌⊎◌, ⊤, ℕ, List, [], ◌∷◌, ◌++◌, All, length, take, drop, count_by, nat_eq, ◌==◌, if◌then◌else◌}
 use Rattle.std.specs.List.{after_last, starts_with}
-use Rattle.capl_lexer.specs.Bytes.{IsBlank}
-use Rattle.capl_lexer.specs.Spelling.{Spells}
+use Rattle.capl_lexer.specs.Spelling.{IsBlank, Spells}
 use Rattle.capl_lexer.specs.declared.token.Tok.{Tok}
 use Rattle.capl_lexer.specs.declared.token.Token.{Token}
 

@@ -1,13 +1,51 @@
--- How each token is spelled (CAPL manual, lexical elements: keywords, operators, constants).
-use Rattle.std.specs.Prelude.{◌≡◌, ◌≢◌, ◌==◌, ◌||◌, ◌≤◌, ℕ, Bool, true, false, List, [], ◌∷◌, ◌++◌, length, All, Option, Some, None, ◌⊎◌, if◌then◌else◌, codes}
+-- How each token is spelled, and of which bytes (CAPL manual, lexical elements: keywords, operators,
+-- constants).
+use Rattle.std.specs.Prelude.{◌≡◌, ◌≢◌, ◌≤◌, ℕ, List, [], ◌∷◌, ◌⊎◌, ◌==◌, ◌||◌, Bool, true, false, ◌++◌, length, All, Option, Some, None, if◌then◌else◌, codes}
 use Rattle.text_parts.specs.Number.{IsDigit, IsHexDigit, number_in, number_of_64_bits}
-use Rattle.capl_lexer.specs.Bytes.{IsLetter, IsNameFront, IsNamePart, IsMark, IsHexDigitFront, IsBlankInLine}
 use Rattle.capl_lexer.specs.declared.token.Word.{Word}
-use Rattle.capl_lexer.specs.declared.token.Word.TheVariants as word
 use Rattle.capl_lexer.specs.declared.token.Sign.{Sign}
-use Rattle.capl_lexer.specs.declared.token.Sign.TheVariants as sign
 use Rattle.capl_lexer.specs.declared.token.Tok.{Tok}
+use Rattle.capl_lexer.specs.declared.token.Word.TheVariants as word
+use Rattle.capl_lexer.specs.declared.token.Sign.TheVariants as sign
 use Rattle.capl_lexer.specs.declared.token.Tok.TheVariants as tok
+
+-- ---- The classes of bytes that tokens are made of (CAPL manual, lexical elements).
+
+-- a tab, a line end, a vertical tab, a form feed, a carriage return or a space
+abbrev pub IsBlank : ℕ → Type 0
+IsBlank byte = ((9 ≤ byte) × (byte ≤ 13)) ⊎ (byte ≡ 32)
+
+-- a blank other than LF
+abbrev pub IsBlankInLine : ℕ → Type 0
+IsBlankInLine byte = IsBlank byte × (byte ≢ 10)
+
+-- A to Z or a to z
+abbrev pub IsLetter : ℕ → Type 0
+IsLetter byte = ((65 ≤ byte) × (byte ≤ 90)) ⊎ ((97 ≤ byte) × (byte ≤ 122))
+
+-- a letter or `_`
+abbrev pub IsNameStart : ℕ → Type 0
+IsNameStart byte = IsLetter byte ⊎ (byte ≡ 95)
+
+-- a letter, a digit or `_`
+abbrev pub IsNamePart : ℕ → Type 0
+IsNamePart byte = IsNameStart byte ⊎ IsDigit byte
+
+-- the first byte begins a name
+abbrev pub IsNameFront : List ℕ → Type 0
+IsNameFront [] = ⊥
+IsNameFront (byte ∷ bytes) = IsNameStart byte
+
+-- the first byte is a hexadecimal digit
+abbrev pub IsHexDigitFront : List ℕ → Type 0
+IsHexDigitFront [] = ⊥
+IsHexDigitFront (byte ∷ bytes) = IsHexDigit byte
+
+-- `x` or `X`
+abbrev pub IsMark : ℕ → Type 0
+IsMark byte = (byte ≡ 120) ⊎ (byte ≡ 88)
+
+-- ---- How each token is spelled (CAPL manual, lexical elements: keywords, operators, constants).
 
 -- the bytes of a reserved word
 abbrev pub word_spelling : Word → List ℕ

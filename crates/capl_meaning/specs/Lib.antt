@@ -9,17 +9,14 @@ pub mod Sort
 pub mod Operator
 pub mod Constant
 pub mod ExpressionRules
-pub mod InitialiserRules
 pub mod DeclarationRules
 pub mod StatementRules
 pub mod ProcedureRules
 pub mod Offences
-pub mod Size
 pub mod Store
 pub mod Initial
 pub mod Expression
 pub mod Statement
-pub mod Procedure
 pub mod Example
 pub mod RunExample
 pub mod ChoiceExample

@@ -22,7 +22,7 @@ use Rattle.capl_tree.specs.Forms as tree
 use Rattle.capl_meaning.specs.Names.{names_of}
 use Rattle.capl_meaning.specs.Store.{lay}
 use Rattle.capl_meaning.specs.Initial.{first_store, plain_message}
-use Rattle.capl_meaning.specs.Procedure.{Ending, ending_of, handlers_in}
+use Rattle.capl_meaning.specs.Statement.{Ending, ending_of, handlers_in}
 use Rattle.capl_meaning.specs.Example.{declares, file_of, number, on_start, plain, procedure}
 
 -- the end of the first event procedure of a program when the measurement starts, with so many turns

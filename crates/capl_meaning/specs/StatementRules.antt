@@ -18,8 +18,7 @@ use Rattle.capl_meaning.specs.Names.{Scope}
 use Rattle.capl_meaning.specs.Sort.{sort_of}
 use Rattle.capl_meaning.specs.Constant.{constant_at}
 use Rattle.capl_meaning.specs.ExpressionRules.{broken_where, integer_offences, offence, offences}
-use Rattle.capl_meaning.specs.InitialiserRules.{constant_offences}
-use Rattle.capl_meaning.specs.DeclarationRules.{declaration_offences}
+use Rattle.capl_meaning.specs.DeclarationRules.{constant_offences, declaration_offences}
 
 -- of things, those that are the same as an earlier one, where some are known to be earlier
 abbrev pub repeated : {A : Type 0} → (A → A → Bool) → List A → List A → List A

@@ -1,5 +1,11 @@
--- What the variables of a program hold, and how that stands in cells (CAPL manual, variables, message).
-use Rattle.std.specs.Prelude.{ℕ, zero, suc, ◌+◌, ◌-◌, ◌==◌, Bool, ◌&&◌, if◌then◌else◌, nat_le, nat_lt, List, [], ◌∷◌, ◌++◌, filter, filter_map, flat_map, length, map, not, position, replicate, slice_index_or, Option, Some, None, unwrap_or, ℤ, pos}
+-- What the variables of a program hold, how that stands in cells, and how many cells they need (CAPL manual,
+-- variables, message).
+use Rattle.std.specs.Prelude.{ℕ, List, sum_by, zero, suc, ◌+◌, ◌-◌, ◌==◌, Bool, ◌&&◌, if◌then◌else◌, nat_le, nat_lt, [], ◌∷◌, ◌++◌, filter, filter_map, flat_map, length, map, not, position, replicate, slice_index_or, Option, Some, None, unwrap_or, ℤ, pos}
+use Rattle.dbc_reader.specs.declared.message.DbcMessage.{DbcMessage}
+use Rattle.capl_tree.specs.declared.file.Program.{Program}
+use Rattle.capl_meaning.specs.Variable.{Form, Number, Array, Message, Timer, Misfit, Variable, is_timer}
+use Rattle.capl_meaning.specs.Names.{Names, names_of}
+use Rattle.capl_meaning.specs.Constant.{elements_of}
 use Rattle.std.specs.Str.{bytes_eq}
 use Rattle.int_kinds.specs.declared.kinds.Kind.{Kind}
 use Rattle.int_kinds.specs.declared.kinds.Kind.TheVariants.{Byte, Char}
@@ -10,9 +16,26 @@ use Rattle.signal_codec.specs.Signal.{payload_with, signal_value}
 use Rattle.message_cells.specs.Message.{bytes_of, message_kinds, number_at, written_can, written_dlc, written_id, written_rtr, ident_of}
 use Rattle.capl_meaning.specs.declared.field.MessageField.{MessageField}
 use Rattle.capl_meaning.specs.declared.field.MessageField.TheVariants.{Id, Dlc, Rtr, Can, Dir, Time}
-use Rattle.capl_meaning.specs.Variable.{Form, Number, Array, Message, Timer, Misfit, Variable, is_timer}
-use Rattle.capl_meaning.specs.Names.{Names}
-use Rattle.capl_meaning.specs.Constant.{elements_of}
+
+-- ---- How many cells the variables of a program need, as they count towards its limit, which is this
+-- project's own: 1 for each number variable, parameter and timer, as many as it has elements for an array,
+-- and 14 for a message. The cells of the event do not count.
+
+-- the cells of a variable with so many elements
+abbrev pub size_of_form : ℕ → Form → ℕ
+size_of_form elements (Number k fixed) = 1
+size_of_form elements (Array k fixed size) = elements
+size_of_form elements (Message type_) = 14
+size_of_form elements (Timer unit) = 1
+size_of_form elements Misfit = 0
+
+-- the cells of a program
+abbrev pub cells_of_program : List DbcMessage → Program → ℕ
+cells_of_program base program =
+    let names : Names = names_of base program in
+    sum_by (λ v. size_of_form (elements_of names v) v.form) names.variables
+
+-- ---- What the variables of a program hold, and how that stands in cells (CAPL manual, variables, message).
 
 -- ---- messages
 

@@ -26,7 +26,7 @@ use Rattle.capl_tree.specs.declared.file.TopItem.{TopItem}
 use Rattle.capl_tree.specs.declared.file.TopItem.TheVariants as top
 use Rattle.capl_tree.specs.declared.file.FileTree.{FileTree}
 use Rattle.capl_tree.specs.Forms as form
-use Rattle.capl_tree.specs.Signs.{kind_word}
+use Rattle.capl_tree.specs.Binding.{kind_word}
 use Rattle.capl_tree.specs.Spelling.{expression, separated, declaration}
 
 -- an expression that may be missing

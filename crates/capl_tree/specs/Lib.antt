@@ -4,7 +4,6 @@ pub mod Weight
 pub mod Binding
 pub mod Grammar
 pub mod Place
-pub mod Signs
 pub mod Spelling
 pub mod Placed
 pub mod FileSpelling

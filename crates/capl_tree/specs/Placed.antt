@@ -20,7 +20,7 @@ use Rattle.capl_tree.specs.declared.declaration.Init.TheVariants.{One, Many}
 use Rattle.capl_tree.specs.declared.declaration.Item.{Item}
 use Rattle.capl_tree.specs.declared.declaration.Item.TheVariants.{Plain, Set}
 use Rattle.capl_tree.specs.Forms as form
-use Rattle.capl_tree.specs.Signs.{operator_sign, postfix_sign, assignment_sign}
+use Rattle.capl_tree.specs.Binding.{operator_sign, postfix_sign, assignment_sign}
 use Rattle.capl_tree.specs.Spelling.{expression, field, further_arguments, further, separated, item, initialiser, first_part, declarator, declaration}
 
 -- the number of the first of these tokens, the last of a file

@@ -20,7 +20,7 @@ use Rattle.capl_tree.specs.declared.declaration.Init.TheVariants.{One, Many}
 use Rattle.capl_tree.specs.declared.declaration.Item.{Item}
 use Rattle.capl_tree.specs.declared.declaration.Item.TheVariants.{Plain, Set}
 use Rattle.capl_tree.specs.Forms as form
-use Rattle.capl_tree.specs.Signs.{kind_word, prefix_sign, postfix_sign, operator_sign, assignment_sign}
+use Rattle.capl_tree.specs.Binding.{kind_word, prefix_sign, postfix_sign, operator_sign, assignment_sign}
 
 abbrev mutual
   -- an expression

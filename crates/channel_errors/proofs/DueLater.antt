@@ -6,8 +6,7 @@ use Rattle.std.proofs.lemmas.Bool.Decides.{eqb_tells}
 use Rattle.can_frame.specs.Frame.{FrameFields}
 use Rattle.can_bus.specs.declared.waiting.Waiting.{Waiting}
 use Rattle.can_bus.specs.declared.transmission.Transmission.{Transmission}
-use Rattle.can_bus.specs.Transmission.{time_on_wire}
-use Rattle.can_bus.specs.Bus.{BusState, BitTakesTime}
+use Rattle.can_bus.specs.Bus.{time_on_wire, BusState, BitTakesTime}
 use Rattle.can_bus.specs.Bus as channel
 use Rattle.can_bus.specs.Laws.{Follows, DueLater, DueLaterFromNothing}
 use Rattle.can_bus.specs.Laws.Follows.{nothing, request, finish}

@@ -6,8 +6,7 @@ use Rattle.std.specs.Ordering.{nat_cmp}
 use Rattle.std.specs.FinSet.{empty, contains-empty}
 use Rattle.can_bus.specs.declared.bus.Ended.{Ended}
 use Rattle.can_bus.specs.declared.transmission.Transmission.{Transmission}
-use Rattle.can_bus.specs.Transmission.{time_on_wire}
-use Rattle.can_bus.specs.Bus.{BusState}
+use Rattle.can_bus.specs.Bus.{time_on_wire, BusState}
 use Rattle.can_bus.specs.Bus as channel
 use Rattle.channel_errors.specs.Errors.{ErrorState, is_planned, error_frame, after_sent, after_disturbed, after_finish_of, with_transmission, after_arbitration}
 use Rattle.channel_errors.specs.Laws.{unplanned, ActsAsPlain}

@@ -11,9 +11,8 @@ use Rattle.can_bus.specs.declared.waiting.Waiting.{Waiting}
 use Rattle.can_bus.specs.declared.transmission.Transmission.{Transmission}
 use Rattle.can_bus.specs.declared.bus.Ended.{Ended}
 use Rattle.can_bus.specs.Meaning.{BusMeaning}
-use Rattle.can_bus.specs.Transmission.{time_on_wire}
+use Rattle.can_bus.specs.Bus.{time_on_wire, BusState, BitTakesTime}
 use Rattle.can_bus.specs.Waiting.{Requests, request_name}
-use Rattle.can_bus.specs.Bus.{BusState, BitTakesTime}
 use Rattle.can_bus.specs.Bus as channel
 
 -- the plain bus, which is the one without errors; the set of the numbers of the transmissions that are

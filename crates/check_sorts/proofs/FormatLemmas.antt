@@ -7,8 +7,7 @@ use Rattle.std.proofs.lemmas.Bool.Decides.{nat_tests}
 use Rattle.write_format.specs.declared.code.Code.{Code}
 use Rattle.write_format.specs.declared.piece.Piece.{Piece}
 use Rattle.write_format.specs.declared.piece.Piece.TheVariants.{Argument, Byte}
-use Rattle.write_format.specs.Front.{piece_at}
-use Rattle.write_format.specs.Reading.{codes_of, pieces_of, pieces_within}
+use Rattle.write_format.specs.Reading.{piece_at, codes_of, pieces_of, pieces_within}
 use Rattle.write_format.proofs.FrontLemmas.{piece_shorter}
 use Rattle.capl_meaning.specs.declared.sort.Sort.{Sort}
 use Rattle.capl_meaning.specs.Format.{format_codes, show_all, shows}

@@ -6,7 +6,7 @@ use Rattle.capl_tree.specs.declared.expr.Expr.{Expr}
 use Rattle.capl_tree.specs.declared.expr.Field.{Field}
 use Rattle.capl_tree.specs.declared.expr.Field.TheVariants as field
 use Rattle.capl_tree.proofs.FormLemmas as shape
-use Rattle.capl_meaning.specs.InitialiserRules.{field_item_rules}
+use Rattle.capl_meaning.specs.DeclarationRules.{field_item_rules}
 use Rattle.capl_meaning.specs.Names.{Scope}
 use Rattle.check_statements.specs.Item.{payload_offences}
 

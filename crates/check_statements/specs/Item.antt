@@ -6,7 +6,7 @@ use Rattle.capl_tree.specs.declared.expr.Expr.{Expr}
 use Rattle.capl_meaning.specs.declared.offence.Offence.{Offence}
 use Rattle.capl_meaning.specs.Constant.{constant_at}
 use Rattle.capl_meaning.specs.ExpressionRules.{broken_where}
-use Rattle.capl_meaning.specs.InitialiserRules.{constant_offences, is_payload_index}
+use Rattle.capl_meaning.specs.DeclarationRules.{constant_offences, is_payload_index}
 use Rattle.capl_meaning.specs.Names.{Scope}
 
 -- their index is a constant, and in range

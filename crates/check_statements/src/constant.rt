@@ -1,7 +1,7 @@
 // Expressions of which a constant is needed.
 
 ghost use Rattle.std.specs.Prelude.{◌≡◌, OnOk};
-ghost use Rattle.capl_meaning.specs.InitialiserRules.{constant_needed, constant_offences};
+ghost use Rattle.capl_meaning.specs.DeclarationRules.{constant_needed, constant_offences};
 ghost use Rattle.capl_meaning.specs.Sort.{sort_of};
 ghost use Rattle.check_names.specs.First.{noted};
 ghost use Rattle.check_statements.specs.Site.{IsReady, place_of};

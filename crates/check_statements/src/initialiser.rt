@@ -1,7 +1,7 @@
 // The rules of initialisers.
 
 ghost use Rattle.std.specs.Prelude.{◌≡◌, OnOk, flat_map, length};
-ghost use Rattle.capl_meaning.specs.InitialiserRules.{array_item_rules, initialiser_offences, is_above, item_offences, many_rules, message_item_rules, one_for_array, one_for_number, one_rules};
+ghost use Rattle.capl_meaning.specs.DeclarationRules.{array_item_rules, initialiser_offences, is_above, item_offences, many_rules, message_item_rules, one_for_array, one_for_number, one_rules};
 ghost use Rattle.capl_meaning.specs.Message.{signals_of_type};
 ghost use Rattle.capl_meaning.specs.Sort.{sort_of};
 ghost use Rattle.capl_meaning.specs.Format.{quoted_text};

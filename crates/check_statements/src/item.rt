@@ -3,7 +3,7 @@
 ghost use Rattle.std.specs.Prelude.{◌≡◌, OnOk, false, not};
 ghost use Rattle.std.specs.Option.{option_map_or};
 ghost use Rattle.capl_meaning.specs.Constant.{constant_at};
-ghost use Rattle.capl_meaning.specs.InitialiserRules.{array_item_rules, field_item_rules, is_payload_index, item_offences, message_item_rules, name_item_rules};
+ghost use Rattle.capl_meaning.specs.DeclarationRules.{array_item_rules, field_item_rules, is_payload_index, item_offences, message_item_rules, name_item_rules};
 ghost use Rattle.capl_meaning.specs.Message.{is_assignable_field, member_named};
 ghost use Rattle.message_cells.specs.Message.{size};
 ghost use Rattle.check_names.specs.First.{noted};

@@ -11,7 +11,7 @@ use Rattle.capl_meaning.specs.Names.{Names, names_of}
 use Rattle.capl_meaning.specs.Offences.{IsFirstOffence, offences_of}
 use Rattle.typed_laws.specs.Laid.{AreDistinct}
 use Rattle.typed_laws.proofs.Distinct.{distinct_without_offences}
-use Rattle.capl_meaning.specs.Size.{cells_of_program}
+use Rattle.capl_meaning.specs.Store.{cells_of_program}
 use Rattle.capl_meaning.specs.Inside.Procedure.{handlers_of}
 use Rattle.sound_programs.specs.Given.{HasShortLists, IsReadable}
 use Rattle.typed_source.specs.Program.{HasEach, HasNoOther, IsGoodOrder, formats_of_functions, formats_of_handlers, typed_program}

@@ -4,12 +4,12 @@ use Rattle.std.specs.Prelude.{flat_map, map}
 use Rattle.std.proofs.lemmas.List.{append-nil, map-append, take_more}
 use Rattle.std.proofs.lemmas.List.Concat.{flat_map-append}
 use Rattle.std.proofs.lemmas.Option.{same_Some, slice_get-get_or}
-use Rattle.write_format.specs.Format.{FormatText}
+use Rattle.write_format.specs.Line.{FormatText}
 use Rattle.typed_tree.specs.declared.program.TFun.{TFun}
 use Rattle.typed_tree.specs.declared.program.THandler.{THandler}
 use Rattle.capl_meaning.specs.Calls.{function_numbered}
 use Rattle.capl_meaning.specs.Names.{Names}
-use Rattle.capl_meaning.specs.Procedure.{Handler}
+use Rattle.capl_meaning.specs.Statement.{Handler}
 use Rattle.typed_source.specs.Program.{formats_of_body, formats_of_function, formats_of_functions, formats_of_handlers, function_of, functions_of, handler_of, typed_handlers}
 
 -- one more of a list

@@ -10,7 +10,7 @@ use Rattle.std.proofs.lemmas.Option.{get_or_from_slice_get, none-some, same_Some
 use Rattle.std.proofs.lemmas.Slice.Eq.{bytes_eq-Decides}
 use Rattle.capl_meaning.specs.Calls.{function_numbered}
 use Rattle.capl_meaning.specs.Names.{Function, Names}
-use Rattle.capl_meaning.specs.Procedure.{timer_named}
+use Rattle.capl_meaning.specs.Statement.{timer_named}
 use Rattle.capl_meaning.specs.Store.{variable_key, timer_number}
 use Rattle.capl_meaning.specs.Variable.{Variable}
 use Rattle.capl_meaning.specs.Inside.Names.{is_global}

@@ -3,8 +3,8 @@ use Rattle.std.proofs.Common.{◌≡◌, ◌<◌, ◌+◌, ◌++◌, ◌∙◌, 
 use Rattle.std.specs.Prelude.{flat_map}
 use Rattle.std.proofs.lemmas.List.{take-append-drop}
 use Rattle.std.proofs.lemmas.List.Concat.{flat_map-append}
-use Rattle.write_format.specs.Format.{FormatText}
-use Rattle.capl_meaning.specs.Procedure.{Handler}
+use Rattle.write_format.specs.Line.{FormatText}
+use Rattle.capl_meaning.specs.Statement.{Handler}
 use Rattle.check_names.proofs.LoopLemmas.{drop_next}
 use Rattle.type_statements.proofs.RoomLemmas.{HaveNumbers}
 use Rattle.typed_source.specs.Program.{formats_of_body, formats_of_handlers}

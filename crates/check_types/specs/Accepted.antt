@@ -6,7 +6,7 @@ use Rattle.typed_tree.specs.declared.program.Typed.{Typed}
 use Rattle.typed_tree.specs.Sound.{IsSound}
 use Rattle.capl_meaning.specs.Names.{names_of}
 use Rattle.capl_meaning.specs.Offences.{offences_of}
-use Rattle.capl_meaning.specs.Size.{cells_of_program}
+use Rattle.capl_meaning.specs.Store.{cells_of_program}
 use Rattle.typed_source.specs.Program.{HasEach, HasNoOther, typed_program}
 use Rattle.check_types.specs.Lines.{line_in}
 

@@ -1,7 +1,7 @@
 // What event procedures react to.
 
 ghost use Rattle.std.specs.Prelude.{◌≡◌, IfOk, flat_map};
-ghost use Rattle.capl_meaning.specs.Procedure.{event_of, timer_named};
+ghost use Rattle.capl_meaning.specs.Statement.{event_of, timer_named};
 ghost use Rattle.capl_meaning.specs.ProcedureRules.{ranges_of};
 ghost use Rattle.type_expressions.specs.Layout.{IsLayoutOf};
 ghost use Rattle.typed_laws.specs.Laid.{AreDistinct};

@@ -2,7 +2,7 @@
 
 ghost use Rattle.std.specs.Prelude.{◌≡◌, ◌<◌, ◌^◌, ◌++◌, IfOk, OnOk, flat_map, length, map};
 ghost use Rattle.std.specs.Option.{option_to_list};
-ghost use Rattle.capl_meaning.specs.Procedure.{handlers_of_part};
+ghost use Rattle.capl_meaning.specs.Statement.{handlers_of_part};
 ghost use Rattle.check_names.specs.Part.{part_in, parts_in};
 ghost use Rattle.check_types.specs.Lines.{line_in};
 ghost use Rattle.check_types.specs.Handlers.{lines_of};

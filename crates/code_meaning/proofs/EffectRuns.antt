@@ -10,9 +10,8 @@ use Rattle.std.proofs.lemmas.Option.{get_or_from_slice_get, slice_get-get_or, sl
 use Rattle.std.proofs.Math.Seq.{drop-append_seam, take-append_seam}
 use Rattle.int_kinds.specs.declared.kinds.Kind.{Kind}
 use Rattle.int_kinds.specs.Kind.{Holds}
-use Rattle.write_format.specs.Arrays.{IsCharArray}
-use Rattle.write_format.specs.Format.{FormatText, char_arrays, numbers_taken, rendered}
-use Rattle.run_effects.specs.Duration.{micros}
+use Rattle.write_format.specs.Line.{IsCharArray, FormatText, char_arrays, numbers_taken, rendered}
+use Rattle.run_effects.specs.Effect.{micros}
 use Rattle.run_effects.specs.Effect as effect
 use Rattle.message_cells.specs.Message.{IsMessage, frame_of, message_at, message_of, with_message}
 use Rattle.bytecode.specs.declared.code.Code.{Code}

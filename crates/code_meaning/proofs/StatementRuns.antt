@@ -3,7 +3,7 @@ use mathlib.Core.Former.{Count}
 use Rattle.std.proofs.Common.{◌≡◌, ℕ, zero, suc, ◌+◌, Bool, true, false, List, [], ◌∷◌, ◌++◌, length, take, Option, Some, None, slice_get, refl, sym, ap, ◌∙◌, subst, arith}
 use Rattle.std.specs.Prelude.{ℤ, pos, ◌&&◌, if◌then◌else◌, IsSomeAnd, sum, sum_by}
 use Rattle.std.proofs.lemmas.Bool.{and_parts}
-use Rattle.write_format.specs.Format.{FormatText, numbers_taken}
+use Rattle.write_format.specs.Line.{FormatText, numbers_taken}
 use Rattle.bytecode.specs.declared.code.Code.{Code}
 use Rattle.bytecode.specs.declared.instr.Instr.TheVariants as instr
 use Rattle.bytecode.specs.Machine.{Machine}

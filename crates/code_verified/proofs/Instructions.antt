@@ -16,7 +16,7 @@ use Rattle.bytecode.specs.Rule.{IsOperation as IsRuledOperation}
 use Rattle.bytecode.specs.Shape.{given_by_call, shape_of, taken_by_line}
 use Rattle.std.proofs.lemmas.Option.{slice_get_within}
 use Rattle.std.specs.Option.{option_map_or}
-use Rattle.write_format.specs.Format.{FormatText, numbers_taken}
+use Rattle.write_format.specs.Line.{FormatText, numbers_taken}
 use Rattle.message_cells.proofs.MessageLemmas.{message_within}
 use Rattle.typed_tree.specs.declared.expression.Place.{Place}
 use Rattle.typed_tree.specs.declared.expression.Place.TheVariants.{Cell, Set, Signal}

@@ -5,7 +5,7 @@ use Rattle.std.specs.Prelude.{◌*◌, ◌&&◌, ◌||◌, if◌then◌else◌, 
 use Rattle.std.specs.List.{AllByRecursion}
 use Rattle.std.specs.Option.{option_map_or}
 use Rattle.std.proofs.lemmas.List.Elements.{recursion_from_All}
-use Rattle.write_format.specs.Format.{FormatText, numbers_taken}
+use Rattle.write_format.specs.Line.{FormatText, numbers_taken}
 use Rattle.bytecode.specs.declared.instr.Instr.{Instr}
 use Rattle.bytecode.specs.declared.instr.Instr.TheVariants as instr
 use Rattle.typed_tree.specs.declared.expression.TExpr.{TExpr, Row_of-TExpr}

@@ -3,10 +3,8 @@ use Rattle.std.proofs.Common.{◌≡◌, ◌≢◌, ℕ, suc, ◌+◌, ◌<◌, 
 use Rattle.std.specs.Prelude.{All, AllPairs, IsSomeAnd}
 use Rattle.std.specs.List.{AllByRecursion, cons_option}
 use Rattle.std.proofs.lemmas.List.Elements.{All-from_recursion}
-use Rattle.write_format.specs.Arrays.{IsCharArray}
-use Rattle.write_format.specs.Format.{FormatText, IsShort, char_arrays}
-use Rattle.run_effects.specs.Duration.{IsUnit}
-use Rattle.run_effects.specs.Event.{KeepsSelectors, KeepsTimers, key_of, selectors_of, timer_of}
+use Rattle.write_format.specs.Line.{IsCharArray, FormatText, IsShort, char_arrays}
+use Rattle.run_effects.specs.Effect.{IsUnit, KeepsSelectors, KeepsTimers, key_of, selectors_of, timer_of}
 use Rattle.message_cells.specs.Cells.{BeginWithEvent, IsHeldStart}
 use Rattle.bytecode.specs.declared.code.Code.{Code}
 use Rattle.bytecode.specs.declared.code.Fun.{Fun}

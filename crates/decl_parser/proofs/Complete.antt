@@ -24,7 +24,7 @@ use Rattle.capl_tree.specs.declared.declaration.Item.TheVariants.{Plain, Set}
 use Rattle.capl_tree.specs.Forms as form
 use Rattle.capl_tree.specs.Grammar.{IsValue, IsInitialItem, IsInitialiser, IsDeclared, IsDeclaration}
 use Rattle.capl_tree.specs.Spelling as spelled
-use Rattle.capl_tree.specs.Signs.{kind_word}
+use Rattle.capl_tree.specs.Binding.{kind_word}
 use Rattle.capl_tree.specs.Spelling.{further, separated}
 use Rattle.capl_tree.specs.Placed.{IsPlaced, IsFieldPlaced, EachBefore, IsItemPlaced, IsInitialiserPlaced, IsSizePlaced, IsFirstPlaced, IsDeclaratorPlaced, IsTypePlaced, IsDeclarationPlaced}
 use Rattle.expr_parser.specs.Operators.{binding, kind_at, kind_of}

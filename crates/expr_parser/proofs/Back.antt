@@ -13,7 +13,7 @@ use Rattle.capl_lexer.specs.declared.token.Word.TheVariants as word
 use Rattle.capl_lexer.specs.declared.token.Sign.{Sign}
 use Rattle.capl_lexer.specs.declared.token.Sign.TheVariants as sign
 use Rattle.capl_tree.specs.Grammar.{IsCompound}
-use Rattle.capl_tree.specs.Signs.{kind_word, prefix_sign, postfix_sign, operator_sign, assignment_sign}
+use Rattle.capl_tree.specs.Binding.{kind_word, prefix_sign, postfix_sign, operator_sign, assignment_sign}
 use Rattle.expr_parser.specs.declared.operator.Operator.{Operator}
 use Rattle.expr_parser.specs.declared.operator.Operator.TheVariants as behind
 use Rattle.expr_parser.specs.Operators.{operator_of, operator_at, binding, binding_of, prefix_operator, kind_of, kind_at}

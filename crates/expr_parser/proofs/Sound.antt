@@ -16,11 +16,10 @@ use Rattle.capl_tree.specs.declared.expr.Expr.TheVariants as expr
 use Rattle.capl_tree.specs.declared.expr.Field.{Field}
 use Rattle.capl_tree.specs.declared.expr.Field.TheVariants.{Named, Bytes}
 use Rattle.capl_tree.specs.Forms as form
-use Rattle.capl_tree.specs.Binding.{level, operator_level}
+use Rattle.capl_tree.specs.Binding.{level, operator_level, kind_word, prefix_sign, postfix_sign, operator_sign, assignment_sign}
 use Rattle.capl_tree.specs.Grammar.{IsExpression, IsField, AreExpressions}
 use Rattle.capl_tree.specs.Place.{expression_place}
 use Rattle.capl_tree.specs.Spelling as spelled
-use Rattle.capl_tree.specs.Signs.{kind_word, prefix_sign, postfix_sign, operator_sign, assignment_sign}
 use Rattle.capl_tree.specs.Spelling.{further_arguments, separated, further}
 use Rattle.capl_tree.specs.Placed.{IsPlaced, IsFieldPlaced, ArePlaced, EachBefore}
 use Rattle.expr_parser.specs.declared.operator.Operator.{Operator}

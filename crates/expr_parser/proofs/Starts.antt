@@ -17,9 +17,8 @@ use Rattle.capl_lexer.specs.contracts.token.Sign as signs
 use Rattle.capl_tree.specs.declared.expr.Expr.{Expr}
 use Rattle.capl_tree.specs.declared.expr.Expr.TheVariants as expr
 use Rattle.capl_tree.specs.Forms as form
-use Rattle.capl_tree.specs.Binding.{operator_level}
+use Rattle.capl_tree.specs.Binding.{operator_level, kind_word, prefix_sign, postfix_sign, operator_sign, assignment_sign}
 use Rattle.capl_tree.specs.Grammar.{IsCompound}
-use Rattle.capl_tree.specs.Signs.{kind_word, prefix_sign, postfix_sign, operator_sign, assignment_sign}
 use Rattle.capl_tree.specs.Spelling.{expression}
 use Rattle.expr_parser.specs.declared.operator.Operator.TheVariants as behind
 use Rattle.expr_parser.specs.Operators.{operator_of, prefix_operator, kind_of, kind_at}

@@ -1,8 +1,7 @@
 // Lines of write_format against C, and formats that it refuses.
 
 ghost use Rattle.std.specs.Prelude.{◌≡◌, ◌↔◌, ◌≤◌, ◌≤ℤ◌, All, IfOk, IsTrue, length, pos};
-ghost use Rattle.write_format.specs.Arrays.{IsCharArray};
-ghost use Rattle.write_format.specs.Format.{char_arrays};
+ghost use Rattle.write_format.specs.Line.{IsCharArray, char_arrays};
 
 use int_kinds::Kind;
 use items::Items;

@@ -5,9 +5,9 @@ use Rattle.std.proofs.Math.Bool.{beq}
 use Rattle.std.proofs.lemmas.Nat.{and_mask, xor_comm, xor_lt}
 use Rattle.std.proofs.lemmas.List.{append-nil}
 use Rattle.std.proofs.lemmas.Nat.Bits.{bit_at_xor, bit_at-lt}
-use Rattle.can_frame.specs.Bits.{field_bits, number_of}
+use Rattle.can_frame.specs.Frame.{field_bits, number_of}
 use Rattle.can_frame.proofs.BitLists.{length-field_bits, number_of-field_bits, field_bits-suc, field_bits-zero, field_bits-snoc, field_bits-mod, field_bits-number_of}
-use Rattle.frame_bits.specs.Crc.{xor, bit_sum, generator, division_step, division_steps, crc_bits}
+use Rattle.frame_bits.specs.Length.{xor, bit_sum, generator, division_step, division_steps, crc_bits}
 use Rattle.frame_bits.specs.Inside.Crc.{IsRegister}
 
 from_beq : (a b : Bool) → beq a b ≡ true → a ≡ b

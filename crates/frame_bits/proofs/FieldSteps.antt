@@ -6,8 +6,8 @@ use Rattle.std.proofs.lemmas.Nat.{and_mask, shr-shr}
 use Rattle.std.proofs.lemmas.Nat.Bits.{shr_and_one}
 use mir.Val.{bool_byte}
 use Rattle.can_frame.specs.declared.Ident.TheVariants.{Std, Ext}
-use Rattle.can_frame.specs.Bits.{field_bits}
-use Rattle.frame_bits.specs.Bits.{header_bits}
+use Rattle.can_frame.specs.Frame.{field_bits}
+use Rattle.frame_bits.specs.Length.{header_bits}
 use Rattle.can_frame.proofs.BitLists.{field_bits-snoc, field_bits-zero, field_bits-suc, field_bits-mod}
 
 -- no bit of a field stands above its width

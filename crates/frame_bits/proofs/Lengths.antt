@@ -3,16 +3,11 @@ use Rattle.std.proofs.Common.{◌≡◌, ℕ, ◌+◌, ◌*◌, ◌/◌, ◌^◌
 use Rattle.std.proofs.lemmas.Bool.{cases_lt}
 use Rattle.can_frame.specs.declared.Ident.{Ident}
 use Rattle.can_frame.specs.declared.Ident.TheVariants.{Std, Ext}
-use Rattle.can_frame.specs.Bits.{field_bits, number_of}
-use Rattle.can_frame.specs.Frame.{FrameFields, IsFrame, data_len}
+use Rattle.can_frame.specs.Frame.{field_bits, number_of, FrameFields, IsFrame, data_len}
 use Rattle.can_frame.proofs.BitLists.{length-field_bits}
 use Rattle.can_frame.proofs.Payload.{data_len-le}
-use Rattle.frame_bits.specs.Bits.{header_bits, data_bits, covered_bits}
-use Rattle.frame_bits.specs.Crc.{crc_bits}
-use Rattle.frame_bits.specs.Stuffing.{stuffing_of}
+use Rattle.frame_bits.specs.Length.{header_bits, data_bits, covered_bits, crc_bits, stuffing_of, unstuffed_bits, IsFrameLength, frame_length, is_extended, unstuffed_len, worst_length, BoundsLengths}
 use Rattle.frame_bits.specs.Inside.Stuffing.{run_with, stuffing_behind}
-use Rattle.frame_bits.specs.Bits.{unstuffed_bits}
-use Rattle.frame_bits.specs.Length.{IsFrameLength, frame_length, is_extended, unstuffed_len, worst_length, BoundsLengths}
 use Rattle.frame_bits.proofs.CrcSteps.{length-crc_bits, crc_field}
 use Rattle.frame_bits.proofs.Runs.{run_with-le, run_with-positive, run_with-more, run_with-own, stuffing_behind-run, stuffing_behind-more, length-stuffing_behind, stuffing_of-is}
 use Rattle.frame_bits.proofs.OneStuffing.{HasOneStuffing-all}

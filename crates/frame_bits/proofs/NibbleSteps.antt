@@ -5,10 +5,9 @@ use Rattle.std.specs.List.{range_with_len}
 use Rattle.std.proofs.lemmas.Bool.{cases_lt}
 use Rattle.std.proofs.lemmas.List.FromFn.{get_or-map-range_with_len}
 use Rattle.std.proofs.lemmas.Nat.{and_mask, xor_comm, xor_lt}
-use Rattle.can_frame.specs.Bits.{field_bits}
+use Rattle.can_frame.specs.Frame.{field_bits}
 use Rattle.can_frame.proofs.BitLists.{length-field_bits, field_bits-mod}
-use Rattle.frame_bits.specs.Crc.{xor, bit_sum, division_step, division_steps}
-use Rattle.frame_bits.specs.Stuffing.{stuffing_of}
+use Rattle.frame_bits.specs.Length.{xor, bit_sum, division_step, division_steps, stuffing_of}
 use Rattle.frame_bits.specs.Inside.Crc.{IsRegister}
 use Rattle.frame_bits.specs.Inside.Stuffing.{run_with, stuffing_behind, CountsStuffing, last_of, run_of, step_of, step_behind}
 use Rattle.frame_bits.proofs.FieldSteps.{field_bits-split}

@@ -3,7 +3,7 @@ use Rattle.std.proofs.Common.{◌≡◌, ◌≢◌, ℕ, ◌<◌, ◌≤◌, Boo
 use Rattle.std.proofs.lemmas.Bool.{cases_lt}
 use Rattle.std.proofs.lemmas.Bool.Decides.{nat_tests}
 use Rattle.std.proofs.lemmas.List.{append-nil}
-use Rattle.frame_bits.specs.Stuffing.{begins_with_run, without_stuff_bits_after, without_stuff_bits, stuffing_of, IsStuffing, HasOneStuffing}
+use Rattle.frame_bits.specs.Length.{begins_with_run, without_stuff_bits_after, without_stuff_bits, stuffing_of, IsStuffing, HasOneStuffing}
 use Rattle.frame_bits.specs.Inside.Stuffing.{run_with, stuffing_behind}
 use Rattle.frame_bits.proofs.Runs.{Ends, Ends-none, Ends-push, test_full, not_five, run_test, run_with-le, run_with-not, stuffing_behind-run, stuffing_behind-more, stuffing_of-is}
 

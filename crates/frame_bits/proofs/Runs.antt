@@ -4,7 +4,7 @@ use Rattle.std.proofs.Math.Numerals.{add-one}
 use Rattle.std.proofs.lemmas.Bool.{cases_lt}
 use Rattle.std.proofs.lemmas.Bool.Decides.{nat_tests}
 use Rattle.std.proofs.lemmas.List.{append-nil}
-use Rattle.frame_bits.specs.Stuffing.{begins_with_run, stuffing_after, stuffing_of}
+use Rattle.frame_bits.specs.Length.{begins_with_run, stuffing_after, stuffing_of}
 use Rattle.frame_bits.specs.Inside.Stuffing.{run_with, stuffing_behind, CountsStuffing}
 
 -- what stands before so many bits of one value: nothing, or a bit of the other value

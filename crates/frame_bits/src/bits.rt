@@ -1,7 +1,7 @@
 // The unstuffed bits of a frame as a list.
 
 ghost use Rattle.std.specs.Prelude.{◌≡◌, ◌++◌, OnOk, IfOk};
-ghost use Rattle.frame_bits.specs.Bits.{data_bits, unstuffed_bits};
+ghost use Rattle.frame_bits.specs.Length.{data_bits, unstuffed_bits};
 ghost use Rattle.frame_bits.specs.Inside.Field.{bits_in};
 
 use crate::crc::crc15;

@@ -1,8 +1,8 @@
 // The CRC of ISO 11898-1.
 
 ghost use Rattle.std.specs.Prelude.{◌≡◌, ◌<◌, ◌^◌, Bool, List, [], ◌∷◌, ◌++◌};
-ghost use Rattle.can_frame.specs.Bits.{field_bits, number_of};
-ghost use Rattle.frame_bits.specs.Crc.{crc_bits};
+ghost use Rattle.can_frame.specs.Frame.{field_bits, number_of};
+ghost use Rattle.frame_bits.specs.Length.{crc_bits};
 ghost use Rattle.frame_bits.specs.Inside.Crc.{IsRegister};
 
 /// The generator polynomial without its leading term.

@@ -1,7 +1,7 @@
 // The bits of a frame before its data field.
 
 ghost use Rattle.std.specs.Prelude.{◌≡◌};
-ghost use Rattle.frame_bits.specs.Bits.{header_bits};
+ghost use Rattle.frame_bits.specs.Length.{header_bits};
 ghost use Rattle.frame_bits.specs.Inside.Field.{bits_in};
 
 use crate::field::Field;

@@ -1,8 +1,8 @@
 // Bit stuffing, counted.
 
 ghost use Rattle.std.specs.Prelude.{◌≡◌, ◌+◌, ◌≤◌, ◌<◌, ◌^◌, Bool, List, [], ◌∷◌, ◌++◌, length};
-ghost use Rattle.can_frame.specs.Bits.{field_bits};
-ghost use Rattle.frame_bits.specs.Stuffing.{stuffing_of};
+ghost use Rattle.can_frame.specs.Frame.{field_bits};
+ghost use Rattle.frame_bits.specs.Length.{stuffing_of};
 ghost use Rattle.frame_bits.specs.Inside.Stuffing.{CountsStuffing, step_behind};
 
 /// How many equal bits bring a stuff bit.

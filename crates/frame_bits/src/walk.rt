@@ -1,8 +1,8 @@
 // A walk over the bits of a frame, with a CRC register and a counter of the stuffing.
 
 ghost use Rattle.std.specs.Prelude.{◌≡◌, ◌+◌, ◌*◌, ◌≤◌, ◌<◌, ◌^◌, [], ◌∷◌, length};
-ghost use Rattle.can_frame.specs.Bits.{field_bits};
-ghost use Rattle.frame_bits.specs.Bits.{data_bits};
+ghost use Rattle.can_frame.specs.Frame.{field_bits};
+ghost use Rattle.frame_bits.specs.Length.{data_bits};
 ghost use Rattle.frame_bits.specs.Inside.Field.{bits_in};
 ghost use Rattle.frame_bits.specs.Inside.Walk.{HasWalked, GoesOver};
 

@@ -5,7 +5,7 @@ use Rattle.std.specs.List.{All, AllByRecursion, AllPairs}
 use Rattle.std.proofs.lemmas.List.Elements.{All-nil, All-cons}
 use Rattle.message_cells.specs.Cells.{IsHeldStart}
 use Rattle.stack_vm.proofs.NumberLemmas.{Holds-byte}
-use Rattle.run_effects.specs.Event.{AreApart}
+use Rattle.run_effects.specs.Effect.{AreApart}
 use Rattle.typed_tree.specs.declared.statement.TStmt.{TStmt}
 use Rattle.typed_tree.specs.declared.program.Typed.{Typed}
 use Rattle.typed_tree.specs.declared.expression.TExpr.TheVariants.{Const}

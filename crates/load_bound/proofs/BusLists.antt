@@ -12,8 +12,7 @@ use Rattle.can_frame.specs.Frame.{FrameFields}
 use Rattle.can_bus.specs.declared.waiting.Waiting.{Waiting}
 use Rattle.can_bus.specs.declared.transmission.Transmission.{Transmission}
 use Rattle.can_bus.specs.Waiting.{Requests, request_name, Waits, IsWinner, members, requests_of, winner}
-use Rattle.can_bus.specs.Transmission.{time_on_wire}
-use Rattle.can_bus.specs.Bus.{BusState, new_bus, next_number, last_number, after_request, ended, after_finish, is_free, winner_at, with_transmission, after_arbitration, moment_by, next_moment}
+use Rattle.can_bus.specs.Bus.{time_on_wire, BusState, new_bus, next_number, last_number, after_request, ended, after_finish, is_free, winner_at, with_transmission, after_arbitration, moment_by, next_moment}
 use Rattle.can_bus.specs.Ranks.{IsBelowNext, rank_in, with_rank_in, transmission_with_rank_in, CarriesInRange}
 use Rattle.can_bus.proofs.Requests.{Contains-members, Waits-members, members-requests_of, len-requests_of}
 use Rattle.can_bus.proofs.Winner.{winner_law}

@@ -3,14 +3,11 @@ use Rattle.std.proofs.Common.{◌≡◌, ℕ, ◌/◌, ◌%◌, ◌^◌, ◌≤�
 use Rattle.std.proofs.lemmas.Bool.Decides.{nat_tests}
 use Rattle.can_frame.specs.declared.Ident.{Ident}
 use Rattle.can_frame.specs.declared.Ident.TheVariants.{Std, Ext}
-use Rattle.can_frame.specs.Bits.{field_bits, number_of}
-use Rattle.can_frame.specs.Frame.{IsIdent}
-use Rattle.can_frame.specs.Arbitration.{Wins, arbitration_bits, arbitration_field}
+use Rattle.can_frame.specs.Frame.{field_bits, number_of, IsIdent, Wins, arbitration_bits, arbitration_field}
 use Rattle.can_frame.proofs.BitLists.{length-field_bits, number_of-field_bits}
 use Rattle.can_frame.proofs.Fields.{fronts_same, length-arbitration_std, length-arbitration_ext}
-use Rattle.can_bus.specs.Order.{wins, GoesBefore}
+use Rattle.can_bus.specs.Waiting.{wins, GoesBefore, Requests, Waits, request_name}
 use Rattle.can_bus.specs.declared.waiting.Waiting.{Waiting}
-use Rattle.can_bus.specs.Waiting.{Requests, Waits, request_name}
 use Rattle.can_bus.proofs.Precedence.{wins-decides}
 use Rattle.can_bus.proofs.Winner.{same_request}
 use Rattle.load_bound.specs.declared.stream.Stream.{Stream}

@@ -2,9 +2,7 @@
 use Rattle.std.proofs.Common.{◌≡◌, ℕ, false, [], ltb, refl, sym, ◌∙◌}
 use Rattle.can_frame.specs.declared.Ident.{Ident}
 use Rattle.can_frame.specs.declared.Ident.TheVariants.{Std}
-use Rattle.can_frame.specs.Frame.{FrameFields}
-use Rattle.can_frame.specs.Arbitration.{arbitration_bits, arbitration_key, filled}
-use Rattle.can_frame.specs.Bits.{number_of}
+use Rattle.can_frame.specs.Frame.{FrameFields, arbitration_bits, arbitration_key, filled, number_of}
 use Rattle.can_bus.proofs.Precedence.{wins-key}
 use Rattle.load_bound.specs.declared.stream.Stream.{Stream}
 use Rattle.load_bound.specs.Streams.{is_stronger}

@@ -7,8 +7,7 @@ use Rattle.std.proofs.lemmas.Bool.Decides.{eqb_tells}
 use Rattle.std.proofs.lemmas.List.Elements.{All-nil, All-cons, All-head, All-tail, All-weaker, All-filter, All-contains}
 use Rattle.can_frame.specs.Frame.{FrameFields, IsIdent}
 use Rattle.can_bus.specs.declared.waiting.Waiting.{Waiting}
-use Rattle.can_bus.specs.Transmission.{time_on_wire, intermission}
-use Rattle.can_bus.specs.Bus.{BusState, new_bus, BitTakesTime, after_request, ended, after_finish, winner_at, with_transmission, after_arbitration, next_moment, one_channel}
+use Rattle.can_bus.specs.Bus.{time_on_wire, intermission, BusState, new_bus, BitTakesTime, after_request, ended, after_finish, winner_at, with_transmission, after_arbitration, next_moment, one_channel}
 use Rattle.can_bus.specs.Laws.{Follows}
 use Rattle.can_bus.specs.Laws.Follows.{nothing, request}
 use Rattle.can_bus.proofs.SoundStays.{bit-after_request}

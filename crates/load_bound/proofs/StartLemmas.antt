@@ -4,7 +4,7 @@ use Rattle.std.specs.Prelude.{max}
 use Rattle.std.specs.List.{filter, sum_by}
 use Rattle.std.proofs.lemmas.Bool.Decides.{nat_tests}
 use Rattle.std.proofs.lemmas.List.Sums.{sum_by-cons}
-use Rattle.can_frame.specs.Arbitration.{arbitration_key}
+use Rattle.can_frame.specs.Frame.{arbitration_key}
 use Rattle.can_bus.proofs.Precedence.{wins-key}
 use Rattle.load_bound.specs.declared.stream.Stream.{Stream}
 use Rattle.load_bound.specs.Streams.{is_stronger}

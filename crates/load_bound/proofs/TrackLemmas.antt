@@ -10,8 +10,7 @@ use Rattle.frame_bits.specs.Length.{is_extended, unstuffed_len, worst_length, fr
 use Rattle.frame_bits.proofs.Lengths.{BoundsLengths-worst, IsFrameLength-frame_length}
 use Rattle.can_bus.specs.declared.waiting.Waiting.{Waiting}
 use Rattle.can_bus.specs.declared.transmission.Transmission.{Transmission}
-use Rattle.can_bus.specs.Transmission.{time_on_wire, intermission}
-use Rattle.can_bus.specs.Bus.{BusState, next_number, last_number, with_ranks, with_request, transmission_with_rank, after_request}
+use Rattle.can_bus.specs.Bus.{time_on_wire, intermission, BusState, next_number, last_number, with_ranks, with_request, transmission_with_rank, after_request}
 use Rattle.can_bus.proofs.RankLemmas.{with_ranks-is}
 use Rattle.can_bus.proofs.Wire.{wire_request, wire-after_request}
 use Rattle.can_bus.proofs.Requests.{Contains-first, Contains-later, Contains-cons, not_Contains-nil}

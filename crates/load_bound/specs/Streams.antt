@@ -1,11 +1,10 @@
 -- Streams of data frames, and how long a frame of one keeps the bus (ISO 11898-1, data frame, arbitration and
 -- interframe space).
 use Rattle.std.specs.Prelude.{ℕ, ◌+◌, ◌*◌, ◌^◌, ◌<◌, ◌≤◌, Bool, false, max, List, [], ◌∷◌, length, All}
-use Rattle.can_frame.specs.Frame.{IsIdent}
-use Rattle.can_frame.specs.Arbitration.{arbitration_bits}
+use Rattle.can_frame.specs.Frame.{IsIdent, arbitration_bits}
 use Rattle.frame_bits.specs.Length.{is_extended, unstuffed_len, worst_length}
-use Rattle.can_bus.specs.Order.{wins}
-use Rattle.can_bus.specs.Transmission.{intermission}
+use Rattle.can_bus.specs.Waiting.{wins}
+use Rattle.can_bus.specs.Bus.{intermission}
 use Rattle.load_bound.specs.declared.stream.Stream.{Stream}
 
 -- an identifier that its format can carry, at most eight bytes, and a time between requests that is not 0

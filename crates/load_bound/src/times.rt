@@ -1,8 +1,7 @@
 // How long frames keep the bus, and which streams are stronger.
 
 ghost use Rattle.std.specs.Prelude.{◌≡◌, ◌≤◌, false};
-ghost use Rattle.can_frame.specs.Frame.{FrameFields, IsIdent};
-ghost use Rattle.can_frame.specs.Arbitration.{arbitration_key};
+ghost use Rattle.can_frame.specs.Frame.{FrameFields, IsIdent, arbitration_key};
 ghost use Rattle.load_bound.specs.Streams.{IsStream, AreStreams, IsBitTime, frame_time, blocking, is_stronger};
 
 use crate::Stream;

@@ -3,7 +3,7 @@ use Rattle.std.proofs.Common.{◌≡◌, ◌≢◌, ℕ, length-set, ◌+◌, �
 use Rattle.std.specs.Prelude.{codes}
 use Rattle.std.proofs.lemmas.List.{take_more_set, take_all}
 use Rattle.text_parts.specs.Number.{IsHexDigit, digit_value, number_in}
-use Rattle.log_line.specs.FrameText.{IsBetween, SpellsBytes}
+use Rattle.log_line.specs.Reading.{IsBetween, SpellsBytes}
 use Rattle.log_line.specs.Inside.FrameField.{SpellsNoByte, IsFirstByte, HasDotAndMore, IsWithoutDot}
 
 -- nothing may stand between, whatever follows

@@ -3,7 +3,7 @@ use Rattle.std.proofs.Common.{◌≡◌, ◌≢◌, ℕ, ◌<◌, ◌⊎◌, inl
 use Rattle.std.specs.Prelude.{All, codes}
 use Rattle.std.proofs.lemmas.List.Elements.{All-nil, All-cons, All-append}
 use Rattle.text_parts.specs.Number.{IsHexDigit}
-use Rattle.log_line.specs.FrameText.{IsBetween, SpellsBytes, SpellsCode}
+use Rattle.log_line.specs.Reading.{IsBetween, SpellsBytes, SpellsCode}
 use Rattle.log_line.specs.Inside.FrameField.{SpellsNoData}
 use Rattle.log_line.proofs.BytesLemmas.{other_in_front}
 

@@ -8,7 +8,7 @@ use Rattle.std.proofs.lemmas.List.{drop_all, take_all, get_or-take}
 use Rattle.std.proofs.lemmas.List.Elements.{All-from_get_or}
 use Rattle.std.proofs.lemmas.List.Splits.{slice_split-cons_yes, slice_split_none, slice_split_at}
 use Rattle.std.proofs.lemmas.List.Sums.{fails_before_first, passes_at_first}
-use Rattle.log_line.specs.Fields.{is_blank, has_bytes, log_fields}
+use Rattle.log_line.specs.Reading.{is_blank, has_bytes, log_fields}
 
 -- a blank in front of a text is none of its fields
 pub fields_of-blank : (byte : ℕ) (text : List ℕ) → is_blank byte ≡ true → log_fields (byte ∷ text) ≡ log_fields text

@@ -7,7 +7,7 @@ use Rattle.text_parts.specs.Number.{IsHexDigit, number_in}
 use Rattle.can_frame.specs.Frame.{FrameFields, ident_number}
 use Rattle.can_frame.specs.declared.Ident.{Ident}
 use Rattle.can_frame.specs.declared.Ident.TheVariants.{Std, Ext}
-use Rattle.log_line.specs.FrameText.{digit_count, SpellsIdent, SpellsData, SpellsFrame, IsFlexible, IsAbove, IsLongCode}
+use Rattle.log_line.specs.Reading.{digit_count, SpellsIdent, SpellsData, SpellsFrame, IsFlexible, IsAbove, IsLongCode}
 use Rattle.log_line.specs.Inside.FrameField.{IsFrameField, HasParts, HasNoParts, IsSignFirst, IsUnread, HasCode, HasNoCode, IsIdentOf, IsFrameWith}
 use Rattle.log_line.specs.declared.frame_text.FrameField.{FrameField}
 use Rattle.log_line.specs.declared.frame_text.FrameField.TheVariants.{Read, Unread, LongCode}

@@ -6,8 +6,7 @@ use Rattle.std.proofs.lemmas.List.{length-replicate, get_or-replicate, get_or_ap
 use Rattle.std.proofs.lemmas.List.Elements.{All-nil, All-cons, All-get_or}
 use Rattle.text_parts.specs.Number.{IsHexDigit}
 use Rattle.can_frame.specs.Frame.{FrameFields, data_len_of}
-use Rattle.log_line.specs.FrameText.{IsPair, SpellsBytes, SpellsCode, SpellsData, SpellsFrame}
-use Rattle.log_line.specs.Reading.{AreEntry}
+use Rattle.log_line.specs.Reading.{IsPair, SpellsBytes, SpellsCode, SpellsData, SpellsFrame, AreEntry}
 use Rattle.log_line.specs.Written.{IsLoggable}
 use Rattle.log_line.specs.declared.line.Entry.{Entry}
 use Rattle.log_line.proofs.NumberBounds.{hexadecimal_lt}

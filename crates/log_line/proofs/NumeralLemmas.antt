@@ -6,7 +6,7 @@ use Rattle.std.proofs.Math.Nat.{pow-suc}
 use Rattle.std.proofs.lemmas.Bool.Decides.{nat_tests}
 use Rattle.std.proofs.lemmas.Fmt.{hex_one_digit}
 use Rattle.std.proofs.lemmas.Grind.{replicate_next}
-use Rattle.text_parts.specs.Digits.{zero_filled, hexadecimal}
+use Rattle.text_parts.specs.Number.{zero_filled, hexadecimal}
 use Rattle.log_line.specs.Written.{byte_text}
 
 -- the last digit of a number

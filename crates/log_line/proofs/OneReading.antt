@@ -6,9 +6,7 @@ use Rattle.text_parts.specs.Number.{IsHexDigit, number_in}
 use Rattle.can_frame.specs.Frame.{FrameFields, IsIdent, ident_number}
 use Rattle.can_frame.specs.declared.Ident.{Ident}
 use Rattle.can_frame.specs.declared.Ident.TheVariants.{Std, Ext}
-use Rattle.log_line.specs.Stamp.{IsStamp}
-use Rattle.log_line.specs.FrameText.{IsBetween, SpellsBytes, SpellsCode, SpellsData, SpellsFrame}
-use Rattle.log_line.specs.Reading.{AreEntry, AreSkip, IsPassedOver, FieldsRead}
+use Rattle.log_line.specs.Reading.{IsStamp, IsBetween, SpellsBytes, SpellsCode, SpellsData, SpellsFrame, AreEntry, AreSkip, IsPassedOver, FieldsRead}
 use Rattle.log_line.specs.declared.line.Entry as declared
 use Rattle.log_line.specs.declared.line.Line.{Line}
 use Rattle.log_line.specs.declared.line.Line.TheVariants.{Entry, Skip, Empty}

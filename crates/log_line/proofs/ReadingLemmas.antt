@@ -1,9 +1,7 @@
 -- Why fields have no reading.
 use Rattle.std.proofs.Common.{◌≡◌, ℕ, inl, inr, List, [], ◌∷◌, ◌++◌, get_or, sym, ap, subst, ◌∙◌, arith}
 use Rattle.can_frame.specs.Frame.{FrameFields}
-use Rattle.log_line.specs.Stamp.{IsStamp}
-use Rattle.log_line.specs.FrameText.{SpellsData, SpellsFrame, IsLongCode}
-use Rattle.log_line.specs.Reading.{IsDirection, IsPassedOver, FieldsRead}
+use Rattle.log_line.specs.Reading.{IsStamp, SpellsData, SpellsFrame, IsLongCode, IsDirection, IsPassedOver, FieldsRead}
 use Rattle.log_line.specs.Inside.FrameField.{IsFrameField}
 use Rattle.log_line.specs.declared.frame_text.FrameField.{FrameField}
 use Rattle.log_line.specs.declared.frame_text.FrameField.TheVariants.{Read, Unread, LongCode}

@@ -5,7 +5,7 @@ use Rattle.std.proofs.Math.Nat.{pow-le-pow_right}
 use Rattle.std.proofs.lemmas.List.{append_cancel_right}
 use Rattle.text_parts.specs.Number.{IsDigit, number_in, number_up_to}
 use Rattle.text_parts.proofs.NumberLemmas.{number_up_to-some, number_up_to-is, number_in-lt, decimal_below}
-use Rattle.log_line.specs.Stamp.{IsStamp}
+use Rattle.log_line.specs.Reading.{IsStamp}
 use Rattle.log_line.proofs.SplitLemmas.{Without, separator_inside, one_split}
 
 -- digits have no dot

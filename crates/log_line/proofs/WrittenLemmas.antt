@@ -6,17 +6,13 @@ use Rattle.std.proofs.lemmas.Bool.Decides.{nat_tests}
 use Rattle.std.proofs.lemmas.Fmt.{length-decimal-le, decimal_digit}
 use Rattle.std.proofs.lemmas.List.{length-replicate, get_or-drop, get_or-take, get_or-append_right}
 use Rattle.std.proofs.lemmas.List.Elements.{All-nil, All-cons, All-head, All-tail, All-append, All-weaker, All-from_get_or}
-use Rattle.text_parts.specs.Number.{IsDigit, IsHexDigit, number_in}
-use Rattle.text_parts.specs.Digits.{zero_filled}
+use Rattle.text_parts.specs.Number.{IsDigit, IsHexDigit, number_in, zero_filled}
 use Rattle.text_parts.proofs.NumeralLemmas.{numeral_is}
 use Rattle.text_parts.proofs.HexadecimalLemmas.{IsHexadecimal, hexadecimal_is_numeral}
 use Rattle.can_frame.specs.Frame.{FrameFields, IsFrame, IsIdent, ident_number, data_len}
 use Rattle.can_frame.specs.declared.Ident.{Ident}
 use Rattle.can_frame.specs.declared.Ident.TheVariants.{Std, Ext}
-use Rattle.log_line.specs.Fields.{is_blank, without_return, log_fields}
-use Rattle.log_line.specs.Stamp.{IsStamp}
-use Rattle.log_line.specs.FrameText.{digit_count, SpellsIdent, IsPair, IsBetween, SpellsBytes, SpellsCode, SpellsData, SpellsFrame}
-use Rattle.log_line.specs.Reading.{IsInterface, IsPrintable, Reads}
+use Rattle.log_line.specs.Reading.{is_blank, without_return, log_fields, IsStamp, digit_count, SpellsIdent, IsPair, IsBetween, SpellsBytes, SpellsCode, SpellsData, SpellsFrame, IsInterface, IsPrintable, Reads}
 use Rattle.log_line.specs.Written.{ident_text, byte_text, data_text, stamp_text, entry_text, IsLoggable}
 use Rattle.log_line.specs.declared.line.Line.TheVariants.{Entry}
 use Rattle.log_line.proofs.FieldLemmas.{fields_of-first, fields_of-only}

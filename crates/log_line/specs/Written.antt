@@ -4,7 +4,7 @@ use Rattle.std.specs.List.{flat_map}
 use Rattle.can_frame.specs.Frame.{FrameFields, IsFrame}
 use Rattle.can_frame.specs.declared.Ident.{Ident}
 use Rattle.can_frame.specs.declared.Ident.TheVariants.{Std, Ext}
-use Rattle.text_parts.specs.Digits.{zero_filled, hexadecimal}
+use Rattle.text_parts.specs.Number.{zero_filled, hexadecimal}
 
 -- three hexadecimal digits of a standard identifier, eight of an extended one
 abbrev pub ident_text : Ident → List ℕ

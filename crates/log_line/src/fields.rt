@@ -1,7 +1,7 @@
 // The fields of a line.
 
 ghost use Rattle.std.specs.Prelude.{◌≡◌, ◌≢◌, ◌∷◌, ◌++◌, [], not, All, IfSome, IfNone, MatchOption, position};
-ghost use Rattle.log_line.specs.Fields.{is_blank, without_return, log_fields};
+ghost use Rattle.log_line.specs.Reading.{is_blank, without_return, log_fields};
 
 use memchr::{memchr, memchr2};
 

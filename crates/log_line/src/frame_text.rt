@@ -4,7 +4,7 @@ ghost use Rattle.std.specs.Prelude.{◌≡◌, ◌<◌, ◌≤◌, ◌%◌, ℕ,
 ghost use Rattle.items.specs.Search.{Finds};
 ghost use Rattle.can_frame.specs.Frame.{IsIdent};
 ghost use Rattle.text_parts.specs.Number.{IsHexDigit};
-ghost use Rattle.log_line.specs.FrameText.{SpellsBytes, SpellsCode};
+ghost use Rattle.log_line.specs.Reading.{SpellsBytes, SpellsCode};
 ghost use Rattle.log_line.specs.Inside.FrameField.{IsFrameField, IsIdentOf, IsFrameWith, SpellsNoData, IsData, AreBytes, SpellsNoByte, IsFirstByte, IsWithoutDot, HasParts, HasNoParts, IsUnread, HasCode, HasNoCode};
 
 use crate::fields::split_at_byte;

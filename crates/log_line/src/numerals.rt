@@ -2,7 +2,7 @@
 
 ghost use Rattle.std.specs.Prelude.{◌≡◌, ◌<◌, ◌++◌, OnOk, decimal, replicate, true};
 ghost use Rattle.std.specs.Fmt.{digit_glyph};
-ghost use Rattle.text_parts.specs.Digits.{zero_filled, hexadecimal};
+ghost use Rattle.text_parts.specs.Number.{zero_filled, hexadecimal};
 ghost use Rattle.log_line.specs.Written.{byte_text};
 
 use itoa::Buffer;

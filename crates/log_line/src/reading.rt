@@ -3,8 +3,7 @@
 ghost use Rattle.std.specs.Prelude.{◌≡◌, ◌↔◌, IsTrue, IfOk, Err};
 ghost use Rattle.std.specs.Option.{option_map};
 ghost use Rattle.items.specs.Search.{Finds};
-ghost use Rattle.log_line.specs.Fields.{log_fields};
-ghost use Rattle.log_line.specs.Reading.{IsInterface, IsDirection, Reads};
+ghost use Rattle.log_line.specs.Reading.{log_fields, IsInterface, IsDirection, Reads};
 ghost use Rattle.log_line.specs.View.{line_of};
 ghost use Rattle.log_line.specs.declared.line.Line.{Line};
 

@@ -1,7 +1,7 @@
 // The stamp of a line.
 
 ghost use Rattle.items.specs.Search.{Finds};
-ghost use Rattle.log_line.specs.Stamp.{IsStamp};
+ghost use Rattle.log_line.specs.Reading.{IsStamp};
 
 use crate::fields::split_at_byte;
 use text_parts::decimal_number;

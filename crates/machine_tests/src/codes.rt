@@ -1,7 +1,7 @@
 // Code that the tests of the verifier and of the machine are about.
 
 ghost use Rattle.std.specs.Prelude.{◌<◌, ◌^◌, IsTrue, length};
-ghost use Rattle.run_effects.specs.Event.{selectors_of};
+ghost use Rattle.run_effects.specs.Effect.{selectors_of};
 ghost use Rattle.bytecode.specs.Verified.{IsShortCode};
 
 use bytecode::{Code, Fun, Handler, Instr};

@@ -17,8 +17,7 @@ use Rattle.capl_meaning.specs.Names.{Callee, OfLanguage, callee}
 use Rattle.capl_meaning.specs.Message.{Held, HeldVariable, message_in}
 use Rattle.capl_meaning.specs.Sort.{is_number, sort_of}
 use Rattle.capl_meaning.specs.Expression.{Memory, Setting}
-use Rattle.capl_meaning.specs.Statement.{alone_of, arms_of, assigns, calls_alone, cancels, drops, else_of, groups_of, numbers_of, part_of, returns, sends, sets, sets_timer, stmt_of, stmts_of, unless_closed, with_line}
-use Rattle.capl_meaning.specs.Procedure.{runs}
+use Rattle.capl_meaning.specs.Statement.{alone_of, arms_of, assigns, calls_alone, cancels, drops, else_of, groups_of, numbers_of, part_of, returns, sends, sets, sets_timer, stmt_of, stmts_of, unless_closed, with_line, runs}
 use Rattle.capl_meaning.specs.Inside.Statement.{for_test, wrapped_to, writes_line}
 use Rattle.meaning_laws.proofs.Cuts.{IsCutLast, cut_below, either_cut, followed_by_cut, in_order_cut, leaving_cut, loop_cut, map_cut, nothing_cut, round_cut, test_cut, then_cut}
 use Rattle.meaning_laws.proofs.CutExpressions.{value_cut}

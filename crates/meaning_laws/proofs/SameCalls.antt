@@ -8,7 +8,7 @@ use Rattle.control_flow.proofs.Fuel.{same_calls}
 use Rattle.capl_meaning.specs.Names.{Function}
 use Rattle.capl_meaning.specs.Calls.{function_numbered}
 use Rattle.capl_meaning.specs.Expression.{Memory, Setting}
-use Rattle.capl_meaning.specs.Procedure.{calls_of, function_runs, runs}
+use Rattle.capl_meaning.specs.Statement.{calls_of, function_runs, runs}
 use Rattle.capl_meaning.specs.Inside.Procedure.{in_function, runs_numbered}
 use Rattle.meaning_laws.proofs.Calls.{numbered_adds_none}
 use Rattle.meaning_laws.proofs.SameStatements.{same_runs}

@@ -23,8 +23,7 @@ use Rattle.capl_meaning.specs.Message.{Held, HeldVariable, message_in}
 use Rattle.capl_meaning.specs.Sort.{is_number, sort_of}
 use Rattle.capl_meaning.specs.Constant.{prefix_kind}
 use Rattle.capl_meaning.specs.Expression.{Memory, Setting, timer_in}
-use Rattle.capl_meaning.specs.Statement.{alone_of, arms_of, assigns, calls_alone, drops, else_of, fitting_pieces, group_for, groups_of, group_labels, numbers_of, part_of, returns, sets, sets_timer, stmt_of, stmts_of, with_line}
-use Rattle.capl_meaning.specs.Procedure.{runs}
+use Rattle.capl_meaning.specs.Statement.{alone_of, arms_of, assigns, calls_alone, drops, else_of, fitting_pieces, group_for, groups_of, group_labels, numbers_of, part_of, returns, sets, sets_timer, stmt_of, stmts_of, with_line, runs}
 use Rattle.capl_meaning.specs.Inside.Statement.{for_test, wrapped_to, writes_line}
 use Rattle.meaning_laws.proofs.Parts.{same_either, same_map, same_next, same_self, same_test}
 use Rattle.meaning_laws.proofs.Expressions.{value_adds_none}

@@ -8,8 +8,7 @@ ghost use Rattle.capl_tree.specs.declared.expr.Expr.{Expr};
 ghost use Rattle.capl_tree.specs.declared.statement.Stmt.{Stmt};
 ghost use Rattle.capl_meaning.specs.Store.{This};
 ghost use Rattle.capl_meaning.specs.Expression.{Memory, Setting, spot_of, value_of};
-ghost use Rattle.capl_meaning.specs.Statement.{alone_of, stmt_of};
-ghost use Rattle.capl_meaning.specs.Procedure.{Handler, calls_of, ending, ending_of, runs};
+ghost use Rattle.capl_meaning.specs.Statement.{alone_of, stmt_of, Handler, calls_of, ending, ending_of, runs};
 
 /// No expression, as a number, as a place or alone, no statement, no body of a procedure and no call has
 /// more turns left at its end than at its beginning. `s` is the setting in which it stands, perhaps a

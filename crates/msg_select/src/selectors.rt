@@ -2,7 +2,7 @@
 
 ghost use Rattle.std.specs.Prelude.{◌↔◌, IfOk, IfSome, IfNone, IsTrue, length};
 ghost use Rattle.std.specs.List.Sorted.{IsPermutation};
-ghost use Rattle.can_frame.specs.Arbitration.{selection_key};
+ghost use Rattle.can_frame.specs.Frame.{selection_key};
 ghost use Rattle.msg_select.specs.Selection.{IsChosen, NoneHolds};
 ghost use Rattle.msg_select.specs.Inside.Selectors.{AreRuns, IsBehind, IsByRank, IsFirstHolder, IsRun};
 

@@ -1,6 +1,5 @@
 -- The definitions of this crate.
 pub mod Effects
-pub mod Entries
 pub mod Follows
 pub mod Procedures
 pub mod Reaction

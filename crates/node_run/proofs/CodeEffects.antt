@@ -14,10 +14,9 @@ use Rattle.int_kinds.specs.declared.operators.BinOp.TheVariants.{OrElse, AndAlso
 use Rattle.int_kinds.specs.Arithmetic.{value}
 use Rattle.int_kinds.specs.Kind.{Holds, high, wrap}
 use Rattle.int_kinds.proofs.Wrapping.{Holds-wrap}
-use Rattle.write_format.specs.Format.{FormatText, char_arrays, numbers_taken, rendered}
+use Rattle.write_format.specs.Line.{FormatText, char_arrays, numbers_taken, rendered}
 use Rattle.message_cells.specs.Message.{frame_of, message_at, size, write_rules}
-use Rattle.run_effects.specs.Duration.{IsUnit, micros}
-use Rattle.run_effects.specs.Effect.{Effect}
+use Rattle.run_effects.specs.Effect.{IsUnit, micros, Effect}
 use Rattle.run_effects.specs.Effect as effect
 use Rattle.run_effects.specs.declared.outcome.Outcome.{Outcome}
 use Rattle.timer_queue.specs.Timers.{IsDuration}

@@ -9,7 +9,7 @@ use Rattle.std.proofs.lemmas.List.{length-map, map-append}
 use Rattle.std.proofs.lemmas.List.Elements.{All-nil, All-cons, All-append, Contains-append_left, Contains-append_right, All-contains}
 use Rattle.run_effects.specs.declared.event.Event.{Event}
 use Rattle.run_effects.specs.declared.event.Selector.{Selector}
-use Rattle.run_effects.specs.Event.{AreApart, KeepsSelectors, selectors_of}
+use Rattle.run_effects.specs.Effect.{AreApart, KeepsSelectors, selectors_of}
 use Rattle.bytecode.specs.declared.code.Handler.{Handler}
 use Rattle.bytecode.specs.Tables.{all_selectors}
 use Rattle.msg_select.specs.declared.selector.MessageSelector.{MessageSelector}

@@ -34,9 +34,7 @@ use Rattle.stack_vm.specs.Quiet.{IsQuietHandler}
 use Rattle.node_rounds.specs.declared.occurrence.Occurrence.{Occurrence}
 use Rattle.node_rounds.specs.declared.occurrence.Trigger.{Trigger}
 use Rattle.std.specs.List.{All}
-use Rattle.node_rounds.specs.Effects.{IsTimerEffect, halt_lines, halts, written_lines}
-use Rattle.node_rounds.specs.Effects.{timers_after as effects_on}
-use Rattle.node_rounds.specs.Entries.{TakesEntries, line_entries}
+use Rattle.node_rounds.specs.Effects.{IsTimerEffect, halt_lines, halts, written_lines, timers_after as effects_on, TakesEntries, line_entries}
 use Rattle.node_rounds.specs.Reaction.{Done, DoesProcedure, NodeState, RunEnd, is_closed, timers_at_begin, with_procedure, without_procedure}
 use Rattle.node_rounds.specs.Round.{Doing, DoesNext, Rest, Task, due_trigger, next_first, next_last, next_of, timer_or_last, next_trigger, task_of}
 use Rattle.node_rounds.proofs.MovingTimers.{count_at_begin}

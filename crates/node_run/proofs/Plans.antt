@@ -3,7 +3,7 @@ use Rattle.std.proofs.Common.{◌≡◌, ℕ, suc, ◌+◌, ◌<◌, Bool, true,
 use Rattle.std.specs.List.{All, position_from}
 use Rattle.std.specs.Option.{option_or}
 use Rattle.std.proofs.lemmas.List.Elements.{All-nil, All-cons, All-map, All-tail, All-append}
-use Rattle.can_frame.specs.Arbitration.{selection_key}
+use Rattle.can_frame.specs.Frame.{selection_key}
 use Rattle.run_effects.specs.declared.event.Event.{Event}
 use Rattle.bytecode.specs.declared.code.Handler.{Handler}
 use Rattle.node_rounds.specs.declared.occurrence.Occurrence.{Occurrence}

@@ -8,7 +8,7 @@ use Rattle.std.proofs.lemmas.List.{drop_more}
 use Rattle.std.proofs.lemmas.List.Elements.{All-head, All-tail}
 use Rattle.run_effects.specs.declared.event.Event.{Event}
 use Rattle.run_effects.specs.declared.event.Event.TheVariants as event
-use Rattle.run_effects.specs.Event.{timer_of}
+use Rattle.run_effects.specs.Effect.{timer_of}
 use Rattle.bytecode.specs.declared.code.Handler.{Handler}
 use Rattle.bytecode.specs.Tables.{all_timers}
 use Rattle.node_rounds.specs.declared.occurrence.Occurrence.TheVariants as happens

@@ -10,7 +10,7 @@ use Rattle.stack_vm.specs.declared.meter.MeterRow.{MeterRow}
 use Rattle.stack_vm.specs.Memory.{with_starts}
 use Rattle.stack_vm.specs.Meter.{AddsRun}
 use Rattle.stack_vm.specs.Quiet.{IsQuietHandler}
-use Rattle.node_rounds.specs.Entries.{TakesEntries, after_requests, line_entries}
+use Rattle.node_rounds.specs.Effects.{TakesEntries, after_requests, line_entries}
 use Rattle.node_rounds.specs.Reaction.{NodeState}
 use Rattle.node_rounds.specs.Round.{Doing, DoesNext, Task, nothing_left}
 use Rattle.node_run.specs.Code.{CodeMemory, code_reaction}

@@ -2,7 +2,7 @@
 
 ghost use Rattle.std.specs.Prelude.{◌≡◌, ◌<◌, ◌^◌, IfOk, length};
 ghost use Rattle.std.specs.Option.{option_or};
-ghost use Rattle.can_frame.specs.Arbitration.{selection_key};
+ghost use Rattle.can_frame.specs.Frame.{selection_key};
 ghost use Rattle.bytecode.specs.Verified.{IsVerified};
 ghost use Rattle.node_run.specs.Code.{events_of};
 ghost use Rattle.node_rounds.specs.declared.occurrence.Occurrence.TheVariants as happens;

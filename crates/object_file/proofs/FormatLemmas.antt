@@ -5,7 +5,7 @@ use Rattle.std.specs.Option.{is_none, option_and_then}
 use Rattle.std.proofs.lemmas.Bool.{eq-eqb, eqb-true}
 use Rattle.write_format.specs.declared.argument.ArgKind.{ArgKind}
 use Rattle.write_format.specs.declared.piece.Piece.{Piece}
-use Rattle.write_format.specs.Format.{FormatText, IsFormatOf, format_elements}
+use Rattle.write_format.specs.Line.{FormatText, IsFormatOf, format_elements}
 use Rattle.write_format.specs.Reading.{AreSpelled, HasCodesFor, IsFirstUnfit, codes_of, first_unfit, pieces_of}
 use Rattle.object_file.specs.Inside.Tables.{format_by, format_of}
 

@@ -9,7 +9,7 @@ use Rattle.std.proofs.lemmas.List.{append-nil, take-append-drop}
 use Rattle.std.proofs.lemmas.List.Elements.{All-cons, All-head, All-nil, All-tail}
 use Rattle.std.specs.Int.{w128}
 use Rattle.std.specs.Int.RustNames.{FitsSigned}
-use Rattle.write_format.specs.Format.{IsShort}
+use Rattle.write_format.specs.Line.{IsShort}
 use Rattle.bytecode.specs.declared.code.Code.{Code}
 use Rattle.bytecode.specs.Failure.{FailsFirstAt, layout, rule, tables}
 use Rattle.bytecode.specs.Verified.{IsVerified}

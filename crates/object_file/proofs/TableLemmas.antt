@@ -9,7 +9,7 @@ use Rattle.std.proofs.lemmas.List.Elements.{All-cons, All-nil}
 use Rattle.run_effects.specs.declared.event.Event.TheVariants as event
 use Rattle.run_effects.specs.declared.event.Selector.{Selector}
 use Rattle.write_format.specs.declared.argument.ArgKind.TheVariants as argument
-use Rattle.write_format.specs.Format.{IsShortArgument}
+use Rattle.write_format.specs.Line.{IsShortArgument}
 use Rattle.object_file.specs.Number.{dword, list, text}
 use Rattle.object_file.specs.Table.{argument_text, event_text, key_text, kind_text, selector_text}
 use Rattle.object_file.specs.Inside.Reading.{bytes_of, dword_at, list_at, pair_at, text_at}

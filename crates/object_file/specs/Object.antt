@@ -2,7 +2,7 @@
 use Rattle.std.specs.Prelude.{◌≡◌, ℕ, ◌<◌, ◌^◌, List, ◌++◌, length, All, codes}
 use Rattle.std.specs.Int.{w128}
 use Rattle.std.specs.Int.RustNames.{FitsSigned}
-use Rattle.write_format.specs.Format.{FormatText, IsFormatOf, IsShort, IsShortArgument}
+use Rattle.write_format.specs.Line.{FormatText, IsFormatOf, IsShort, IsShortArgument}
 use Rattle.bytecode.specs.declared.code.Code.{Code}
 use Rattle.bytecode.specs.Verified.{IsShortCode}
 use Rattle.object_file.specs.Number.{dword, list, qword}

@@ -7,7 +7,7 @@ use Rattle.run_effects.specs.declared.event.Event.TheVariants.{PreStart, Start, 
 use Rattle.run_effects.specs.declared.event.Selector.{Selector}
 use Rattle.write_format.specs.declared.argument.ArgKind.{ArgKind}
 use Rattle.write_format.specs.declared.argument.ArgKind.TheVariants.{Number, Chars, Str}
-use Rattle.write_format.specs.Format.{FormatText}
+use Rattle.write_format.specs.Line.{FormatText}
 use Rattle.bytecode.specs.declared.code.Fun.{Fun}
 use Rattle.bytecode.specs.declared.code.Handler.{Handler}
 use Rattle.object_file.specs.Number.{byte, dword, integer, list, text, truth}

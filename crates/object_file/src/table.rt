@@ -1,7 +1,7 @@
 // The records of the tables of code.
 
 ghost use Rattle.std.specs.Prelude.{◌≡◌, ◌↔◌, ◌<◌, ◌^◌, All, IfOk, IfSome, IsErrOf, IsTrue, None, false, length, true, ⊤};
-ghost use Rattle.write_format.specs.Format.{IsFormatOf, IsShort, IsShortArgument};
+ghost use Rattle.write_format.specs.Line.{IsFormatOf, IsShort, IsShortArgument};
 ghost use Rattle.object_file.specs.Object.{IsKept};
 ghost use Rattle.object_file.specs.Table.{kind_number};
 ghost use Rattle.object_file.specs.Inside.Tables.{format_of, kind_of};
@@ -98,7 +98,7 @@ impl Record for (u32, i128) {
 }
 
 impl Stored for ArgKind {
-    ghost use Rattle.write_format.specs.Format.{IsShortArgument};
+    ghost use Rattle.write_format.specs.Line.{IsShortArgument};
     ghost use Rattle.object_file.specs.Table.{argument_text};
     ghost use Rattle.object_file.specs.Inside.Tables.{argument_at};
 

@@ -26,7 +26,7 @@ use Rattle.capl_tree.specs.declared.file.TopItem.{TopItem}
 use Rattle.capl_tree.specs.declared.file.TopItem.TheVariants as top
 use Rattle.capl_tree.specs.declared.file.FileTree.{FileTree}
 use Rattle.capl_tree.specs.Grammar.{IsBodyPart, IsDeclaration, IsNumeral, IsSelection, IsSelector, IsHead, IsProcedure, IsTopItem, IsFile}
-use Rattle.capl_tree.specs.Signs.{kind_word}
+use Rattle.capl_tree.specs.Binding.{kind_word}
 use Rattle.capl_tree.specs.Spelling.{expression, declaration, further, separated}
 use Rattle.capl_tree.specs.Placed.{IsAt, IsPlaced, EachBefore, IsDeclarationPlaced}
 use Rattle.capl_tree.specs.FileSpelling as spell

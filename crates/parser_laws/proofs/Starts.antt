@@ -18,7 +18,7 @@ use Rattle.capl_tree.specs.declared.statement.Stmt.TheBlock.{Row_of-Arm, end_of-
 use Rattle.capl_tree.specs.declared.statement.Stmt.TheVariants as stmt
 use Rattle.capl_tree.specs.Forms as form
 use Rattle.capl_tree.specs.Grammar.{AreArms, IsBodyPart, IsStatement}
-use Rattle.capl_tree.specs.Signs.{kind_word}
+use Rattle.capl_tree.specs.Binding.{kind_word}
 use Rattle.capl_tree.specs.Spelling.{expression, declared_type, declaration}
 use Rattle.capl_tree.specs.FileSpelling.{statement, first_arm}
 use Rattle.expr_parser.specs.Operators.{kind_at}

@@ -1,8 +1,7 @@
 -- The replays of a log that reads.
 use Rattle.std.proofs.Common.{ℕ, List, refl}
 use Rattle.log_line.specs.declared.line.Line.{Line}
-use Rattle.replay_node.specs.Log.{LogReads}
-use Rattle.replay_node.specs.Replay.{entries_on, epoch_seconds, requests_from, skipped_on}
+use Rattle.replay_node.specs.Replay.{LogReads, entries_on, epoch_seconds, requests_from, skipped_on}
 use Rattle.replay_node.specs.declared.replay.Replay.{Replay}
 use Rattle.replay_check.specs.Replayable.{HasReplays}
 

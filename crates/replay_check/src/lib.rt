@@ -5,7 +5,7 @@
 #![tactic(auto)]
 
 ghost use Rattle.std.specs.Prelude.{◌<◌, ◌^◌, length, MatchOption};
-ghost use Rattle.replay_node.specs.Log.{IsBadLine};
+ghost use Rattle.replay_node.specs.Replay.{IsBadLine};
 ghost use Rattle.replay_check.specs.Replayable.{HasReplays};
 
 use log_line::view_line;

@@ -10,8 +10,7 @@ use Rattle.frame_bits.specs.Length.{frame_length}
 use Rattle.can_frame.specs.Frame.{FrameFields}
 use Rattle.can_bus.specs.declared.transmission.Transmission.{Transmission}
 use Rattle.can_bus.specs.declared.waiting.Waiting.{Waiting}
-use Rattle.can_bus.specs.Order.{goes_before}
-use Rattle.can_bus.specs.Waiting.{Requests, name_cmp, request_name, requests_of, members, winner}
+use Rattle.can_bus.specs.Waiting.{goes_before, Requests, name_cmp, request_name, requests_of, members, winner}
 use Rattle.can_bus.specs.Bus.{BusState, next_number, last_number, rank, with_rank, with_ranks, with_request, after_request, after_arbitration}
 use Rattle.can_bus.proofs.Arbitration.{after_arbitration-nothing, after_arbitration-winner}
 use Rattle.can_bus.proofs.Precedence.{goes_before-self}

@@ -11,11 +11,10 @@ use Rattle.replay_node.specs.Replay.{per_second, requests_from, stamp_of, start_
 use Rattle.replay_node.specs.Spaced.{IsSpaced, IsSpacedLog, lines_written}
 use Rattle.replay_node.specs.declared.replay.Request.{Request}
 use Rattle.run_records.specs.declared.record.Noted.{Noted}
-use Rattle.node_rounds.specs.Entries.{line_entries}
+use Rattle.node_rounds.specs.Effects.{line_entries}
 use Rattle.node_rounds.specs.Round.{Task}
-use Rattle.run_meaning.specs.Order.{tasks_in_order, picks_after}
+use Rattle.run_meaning.specs.Steps.{tasks_in_order, picks_after, ended_steps, entries, round_steps, step_entries, steps, task_done, task_steps}
 use Rattle.run_meaning.specs.Run.{Passed}
-use Rattle.run_meaning.specs.Steps.{ended_steps, entries, round_steps, step_entries, steps, task_done, task_steps}
 use Rattle.replay_laws.specs.Log.{line_of, log_of}
 use Rattle.replay_laws.proofs.Instants.{Logged, AreSpaced, logged_at}
 use Rattle.replay_laws.proofs.Projection.{frames_in}

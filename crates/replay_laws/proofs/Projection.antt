@@ -9,12 +9,11 @@ use Rattle.can_bus.specs.declared.bus.Ended.{Ended}
 use Rattle.can_bus.specs.declared.transmission.Transmission.{Transmission}
 use Rattle.can_bus.specs.Bus.{BusState, after_arbitration, after_finish, after_request, ended, ended_on, one_channel}
 use Rattle.replay_node.specs.declared.replay.Request.{Request}
-use Rattle.node_rounds.specs.Entries.{after_requests}
+use Rattle.node_rounds.specs.Effects.{after_requests}
 use Rattle.node_rounds.specs.Reaction.{Reacts}
 use Rattle.node_rounds.specs.Round.{Task}
-use Rattle.run_meaning.specs.Bus.{after_all_tasks, after_tasks}
+use Rattle.run_meaning.specs.Run.{after_all_tasks, after_tasks, HasBegun, IsInstant, IsSecond, Passed, RunState, ask_stop, finished, quiet_round}
 use Rattle.run_meaning.specs.Moments.{requests_at, requests_after}
-use Rattle.run_meaning.specs.Run.{HasBegun, IsInstant, IsSecond, Passed, RunState, ask_stop, finished, quiet_round}
 use Rattle.replay_laws.proofs.Instants.{Logged, Ask, with_asks, after_instant, logged_at}
 use Rattle.replay_laws.proofs.Replaying.{asks_of}
 use Rattle.replay_laws.proofs.Spacing.{Timing, carried, timing-with_asks}

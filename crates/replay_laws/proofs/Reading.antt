@@ -6,9 +6,8 @@ use Rattle.std.specs.Str.{bytes_eq}
 use Rattle.std.proofs.lemmas.Bool.Decides.{nat_tests}
 use Rattle.std.proofs.lemmas.Slice.Eq.{bytes_eq-Decides}
 use Rattle.std.proofs.lemmas.List.Elements.{All-nil, All-cons, All-head, All-tail, All-append, All-weaker}
-use Rattle.text_parts.specs.Digits.{zero_filled}
+use Rattle.text_parts.specs.Number.{zero_filled, IsDigit, IsHexDigit}
 use Rattle.text_parts.specs.Line.{text_lines}
-use Rattle.text_parts.specs.Number.{IsDigit, IsHexDigit}
 use Rattle.text_parts.proofs.NumeralLemmas.{numeral_is}
 use Rattle.can_frame.specs.Frame.{FrameFields}
 use Rattle.log_line.specs.Reading.{IsInterface, IsPrintable, Reads}
@@ -18,8 +17,7 @@ use Rattle.log_line.specs.declared.line.Line.{Line}
 use Rattle.log_line.specs.declared.line.Line.TheVariants.{Entry}
 use Rattle.log_line.proofs.OneReading.{IsDataByte, data_in}
 use Rattle.log_line.proofs.WrittenLemmas.{frame_written}
-use Rattle.replay_node.specs.Log.{LogReads}
-use Rattle.replay_node.specs.Replay.{entries_on, entry_on}
+use Rattle.replay_node.specs.Replay.{LogReads, entries_on, entry_on}
 use Rattle.replay_node.specs.Spaced.{lines_written}
 use Rattle.replay_laws.proofs.Entries.{IsWithin}
 

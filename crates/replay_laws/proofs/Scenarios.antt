@@ -5,7 +5,7 @@ use Rattle.std.specs.List.{list_all}
 use Rattle.std.proofs.lemmas.Bool.Decides.{nat_tests}
 use Rattle.std.proofs.lemmas.List.Elements.{All-weaker}
 use Rattle.std.proofs.lemmas.List.Sums.{AllPass-from_list_all}
-use Rattle.scenario.specs.Value.{is_interface, is_interface_byte}
+use Rattle.scenario.specs.Item.{is_interface, is_interface_byte}
 use Rattle.log_line.specs.Reading.{IsInterface, IsPrintable}
 
 both : (a b : Bool) → (a && b) ≡ true → (a ≡ true) × (b ≡ true)

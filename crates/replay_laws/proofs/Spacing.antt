@@ -11,9 +11,8 @@ use Rattle.can_frame.specs.Frame.{FrameFields}
 use Rattle.can_bus.specs.declared.bus.Ended.{Ended}
 use Rattle.can_bus.specs.declared.transmission.Transmission.{Transmission}
 use Rattle.can_bus.specs.declared.waiting.Waiting.{Waiting}
-use Rattle.can_bus.specs.Transmission.{time_on_wire}
+use Rattle.can_bus.specs.Bus.{time_on_wire, BusState, new_bus, next_number, last_number, transmission_with_rank, with_ranks, with_request, after_request, ended, after_finish, with_transmission, after_arbitration}
 use Rattle.can_bus.specs.Waiting.{Requests, winner}
-use Rattle.can_bus.specs.Bus.{BusState, new_bus, next_number, last_number, transmission_with_rank, with_ranks, with_request, after_request, ended, after_finish, with_transmission, after_arbitration}
 use Rattle.can_bus.proofs.RankLemmas.{with_ranks-is}
 use Rattle.replay_laws.proofs.Instants.{Logged, Ask, Instant, with_asks, after_instant, logged_at, logged, AreSpaced}
 

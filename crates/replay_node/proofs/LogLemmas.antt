@@ -8,7 +8,7 @@ use Rattle.text_parts.specs.Line.{text_lines, line_end}
 use Rattle.log_line.specs.Reading.{Reads}
 use Rattle.log_line.specs.declared.line.Line.{Line}
 use Rattle.log_line.specs.declared.line.Line.TheVariants.{Skip}
-use Rattle.replay_node.specs.Log.{is_ended, HasNoReading, EndsUnread, IsBadLine, LogReads}
+use Rattle.replay_node.specs.Replay.{is_ended, HasNoReading, EndsUnread, IsBadLine, LogReads}
 
 -- one more line that reads
 all_read_more : (lines : List (List ℕ)) (readings : List Line) (line : List ℕ) (reading : Line) → AllZip Reads lines readings → Reads line reading → AllZip Reads (lines ++ line ∷ []) (readings ++ reading ∷ [])

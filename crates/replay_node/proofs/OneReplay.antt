@@ -6,8 +6,7 @@ use Rattle.log_line.specs.Reading.{Reads}
 use Rattle.log_line.specs.declared.line.Line.{Line}
 use Rattle.log_line.specs.declared.line.Line.TheVariants.{Skip}
 use Rattle.scenario.specs.declared.scenario.Epoch.{Epoch}
-use Rattle.replay_node.specs.Log.{EndsUnread, HasNoReading, IsBadLine, LogReads}
-use Rattle.replay_node.specs.Replay.{IsReplay, IsReplayOf, entries_on, requests_from}
+use Rattle.replay_node.specs.Replay.{EndsUnread, HasNoReading, IsBadLine, LogReads, IsReplay, IsReplayOf, entries_on, requests_from}
 use Rattle.replay_node.specs.declared.replay.Replay.{Replay}
 
 -- a line has one reading

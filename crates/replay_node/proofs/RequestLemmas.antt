@@ -16,8 +16,7 @@ use Rattle.log_line.specs.declared.line.Line.TheVariants.{Entry, Skip, Empty}
 use Rattle.scenario.specs.Within.{IsEpochWithin}
 use Rattle.scenario.specs.declared.scenario.Epoch.{Epoch}
 use Rattle.scenario.specs.declared.scenario.Epoch.TheVariants.{At, First}
-use Rattle.replay_node.specs.Log.{LogReads}
-use Rattle.replay_node.specs.Replay.{IsReplay, entries_on, entry_on, epoch_seconds, requests_from, start_of}
+use Rattle.replay_node.specs.Replay.{LogReads, IsReplay, entries_on, entry_on, epoch_seconds, requests_from, start_of}
 use Rattle.replay_node.specs.declared.replay.Replay.{Replay}
 use Rattle.replay_node.specs.declared.replay.Request.{Request}
 

@@ -1,5 +1,4 @@
 -- The definitions of this crate.
-pub mod Log
 pub mod Replay
 pub mod Refusal
 pub mod Spaced

@@ -1,6 +1,6 @@
 -- What a refusal tells of its log.
 use Rattle.std.specs.Prelude.{ℕ, List, ⊤}
-use Rattle.replay_node.specs.Log.{IsBadLine}
+use Rattle.replay_node.specs.Replay.{IsBadLine}
 use Rattle.replay_node.specs.declared.replay.ReplayRefusal.{ReplayRefusal}
 use Rattle.replay_node.specs.declared.replay.ReplayRefusal.TheVariants.{BadLine, NoMemory}
 

@@ -1,8 +1,7 @@
 //! Laws of the logs that are replayed. Each call does nothing: its contract is the law.
 
 ghost use Rattle.std.specs.Prelude.{◌≡◌, ℕ, List};
-ghost use Rattle.replay_node.specs.Log.{IsBadLine};
-ghost use Rattle.replay_node.specs.Replay.{IsReplay};
+ghost use Rattle.replay_node.specs.Replay.{IsBadLine, IsReplay};
 ghost use Rattle.replay_node.specs.declared.replay.Replay.{Replay};
 ghost use Rattle.scenario.specs.declared.scenario.Epoch.{Epoch};
 

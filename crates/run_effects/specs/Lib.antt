@@ -1,4 +1,2 @@
 -- The definitions of this crate.
 pub mod Effect
-pub mod Event
-pub mod Duration

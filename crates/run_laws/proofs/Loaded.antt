@@ -5,7 +5,7 @@ use Rattle.dbc_reader.specs.declared.message.DbcMessage.{DbcMessage}
 use Rattle.capl_tree.specs.declared.file.Program.{Program}
 use Rattle.node_rounds.specs.Follows.{NodesAlike}
 use Rattle.node_run.specs.Node.{NodeInRound}
-use Rattle.source_laws.specs.Source.{first_source_node}
+use Rattle.source_laws.specs.Reaction.{first_source_node}
 use Rattle.source_laws.specs.Stands.{StandsFor}
 use Rattle.source_laws.proofs.Following.{loaded_alike}
 use Rattle.run_laws.specs.Nodes.{AreLoadedFor, IsLoadedFor, states_of}

@@ -12,7 +12,7 @@ ghost use Rattle.node_run.specs.Code.{CodeMemory, code_reaction};
 ghost use Rattle.node_run.specs.Node.{NodeInRound};
 ghost use Rattle.capl_meaning.specs.Offences.{offences_of};
 ghost use Rattle.run_meaning.specs.Run.{IsRun, Passed, RunState, new_run, with_nodes};
-ghost use Rattle.source_laws.specs.Source.{SourceMemory, by_source_reaction};
+ghost use Rattle.source_laws.specs.Reaction.{SourceMemory, by_source_reaction};
 ghost use Rattle.source_laws.specs.Stands.{StandsFor};
 ghost use Rattle.run_laws.specs.Nodes.{AreLoadedFor, states_of};
 ghost use Rattle.run_laws.specs.Sources.{first_source_nodes};

@@ -1,7 +1,7 @@
 // The code of sources beside the sources.
 
 ghost use Rattle.node_run.specs.Code.{CodeMemory, by_code};
-ghost use Rattle.source_laws.specs.Source.{SourceMemory, by_source};
+ghost use Rattle.source_laws.specs.Reaction.{SourceMemory, by_source};
 ghost use Rattle.source_laws.specs.Stands.{StandsFor};
 ghost use Rattle.source_laws.proofs.Following.{runs_follow};
 

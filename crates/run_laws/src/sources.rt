@@ -2,7 +2,7 @@
 
 ghost use Rattle.std.specs.Prelude.{⊤};
 ghost use Rattle.source_laws.specs.Sound.{IsSoundSource};
-ghost use Rattle.source_laws.specs.Source.{SourceMemory, by_source};
+ghost use Rattle.source_laws.specs.Reaction.{SourceMemory, by_source};
 ghost use Rattle.source_laws.proofs.SoundSources.{events_stay, sound_does, sound_stays};
 ghost use Rattle.source_laws.proofs.Tasks.{source_once};
 

@@ -9,9 +9,8 @@ use Rattle.std.proofs.lemmas.List.Sums.{sum_by-append, sum_by-cons}
 use Rattle.stack_vm.specs.declared.meter.MeterRow.{MeterRow}
 use Rattle.node_rounds.specs.Round.{Task}
 use Rattle.run_meaning.specs.Counts.{adds_to, row_then, step_turns}
-use Rattle.run_meaning.specs.Order.{first_tasks, tasks_in_order, next_pick, nodes_with_tasks, picked, picks_after, task_count, tasks_of}
+use Rattle.run_meaning.specs.Steps.{first_tasks, tasks_in_order, next_pick, nodes_with_tasks, picked, picks_after, task_count, tasks_of, Step, ended_steps, round_steps, steps, task_done, task_steps}
 use Rattle.run_meaning.specs.Run.{Passed}
-use Rattle.run_meaning.specs.Steps.{Step, ended_steps, round_steps, steps, task_done, task_steps}
 use Rattle.run_meaning.proofs.OrderLemmas.{count_cons, count_put, order_put, own_put, put_task}
 
 -- ---- the task that comes next

@@ -9,12 +9,11 @@ use Rattle.run_records.specs.Record.{RecordMeaning, RefusesEntry, TakesEntry}
 use Rattle.bytecode.specs.Laws.{BeginsWith}
 use Rattle.stack_vm.specs.declared.meter.MeterRow.{MeterRow}
 use Rattle.stack_vm.specs.Meter.{AddsRun}
-use Rattle.node_rounds.specs.Entries.{TakesEntries, line_entries}
+use Rattle.node_rounds.specs.Effects.{TakesEntries, line_entries}
 use Rattle.node_rounds.specs.Round.{Task}
 use Rattle.run_meaning.specs.Done.{AddsAtMost, AreCut, AreDone}
-use Rattle.run_meaning.specs.Order.{picks_after}
+use Rattle.run_meaning.specs.Steps.{picks_after, Step, entries, frame_ended, picks_left, round_steps, step_entries, steps, task_done}
 use Rattle.run_meaning.specs.Run.{Passed}
-use Rattle.run_meaning.specs.Steps.{Step, entries, frame_ended, picks_left, round_steps, step_entries, steps, task_done}
 use Rattle.run_meaning.proofs.Meters.{adds_frame, adds_more, adds_none, adds_task, at_most_behind, at_most_longer, at_most_more}
 
 -- ---- lists

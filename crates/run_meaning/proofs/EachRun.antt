@@ -17,14 +17,13 @@ use Rattle.node_rounds.specs.declared.occurrence.Occurrence.{Occurrence}
 use Rattle.node_rounds.specs.declared.occurrence.Occurrence.TheVariants as happens
 use Rattle.node_rounds.specs.declared.round.Round.{Round}
 use Rattle.node_rounds.specs.declared.round.Round.TheVariants as rounds
-use Rattle.node_rounds.specs.Entries.{after_requests}
+use Rattle.node_rounds.specs.Effects.{after_requests}
 use Rattle.node_rounds.specs.Reaction.{NodeState, NoneOverdue, Reacts, Runner, next_due, reaction_of}
 use Rattle.node_rounds.specs.Round.{Task}
-use Rattle.run_meaning.specs.Bus.{after_all_tasks, after_tasks}
+use Rattle.run_meaning.specs.Run.{after_all_tasks, after_tasks, AreRounds, EndsAt, HasBegun, IsEnded, IsInstant, IsRound, IsRun, IsSecond, Passed, RunState, after_round, finished, new_run, next_instant, quiet_round, settled}
 use Rattle.run_meaning.specs.Live.{CanBeSeen, IsLater, IsLive, IsReady, Stands, next_key, next_request}
 use Rattle.run_meaning.specs.Moments.{keys_after, keys_at, least, next_timer, requests_after, requests_at}
 use Rattle.run_meaning.specs.Rest.{RunsOn}
-use Rattle.run_meaning.specs.Run.{AreRounds, EndsAt, HasBegun, IsEnded, IsInstant, IsRound, IsRun, IsSecond, Passed, RunState, after_round, finished, new_run, next_instant, quiet_round, settled}
 use Rattle.run_meaning.proofs.EachPart.{parts_ready, parts_there}
 use Rattle.run_meaning.proofs.Occurring.{CarriesSeen, KeysCan, ReplayCan, all_tasks_seen, arbitrate_seen, ended_seen, finish_seen, keys_after_can, keys_at_can, requests_after_can, requests_at_can, requests_seen}
 use Rattle.run_meaning.proofs.RunParts.{run_of_parts}

@@ -11,9 +11,9 @@ use Rattle.scenario.specs.declared.scenario.KeyItem.{KeyItem}
 use Rattle.replay_node.specs.declared.replay.Request.{Request}
 use Rattle.node_rounds.specs.declared.occurrence.Occurrence.{Occurrence}
 use Rattle.node_rounds.specs.declared.occurrence.Occurrence.TheVariants as happens
-use Rattle.node_rounds.specs.Entries.{after_requests}
+use Rattle.node_rounds.specs.Effects.{after_requests}
 use Rattle.node_rounds.specs.Round.{Task}
-use Rattle.run_meaning.specs.Bus.{after_all_tasks, after_tasks}
+use Rattle.run_meaning.specs.Run.{after_all_tasks, after_tasks}
 use Rattle.run_meaning.specs.Live.{CanBeSeen}
 use Rattle.run_meaning.specs.Moments.{keys_after, keys_at, requests_after, requests_at}
 

@@ -7,12 +7,10 @@ use Rattle.std.proofs.lemmas.List.Sums.{sum_by-cons}
 use Rattle.can_frame.specs.Frame.{FrameFields}
 use Rattle.can_bus.specs.Laws.{RequestsCommute}
 use Rattle.can_bus.specs.Meaning.{BusMeaning}
-use Rattle.node_rounds.specs.Entries.{after_requests}
+use Rattle.node_rounds.specs.Effects.{after_requests}
 use Rattle.node_rounds.specs.Round.{Task}
-use Rattle.run_meaning.specs.Bus.{after_all_tasks, after_tasks}
-use Rattle.run_meaning.specs.Order.{first_tasks, tasks_in_order, next_pick, nodes_with_tasks, picked, picks_after, task_count, tasks_of}
-use Rattle.run_meaning.specs.Run.{ask_stop}
-use Rattle.run_meaning.specs.Steps.{task_done, task_steps}
+use Rattle.run_meaning.specs.Run.{after_all_tasks, after_tasks, ask_stop}
+use Rattle.run_meaning.specs.Steps.{first_tasks, tasks_in_order, next_pick, nodes_with_tasks, picked, picks_after, task_count, tasks_of, task_done, task_steps}
 
 -- tasks of nodes, with one more in front of those of the node of a number
 abbrev pub put_task : ℕ → Task → List (List Task) → List (List Task)

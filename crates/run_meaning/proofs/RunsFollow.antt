@@ -7,7 +7,7 @@ use Rattle.can_bus.specs.Meaning.{BusMeaning}
 use Rattle.timer_queue.specs.Timers.{Timers, least_due}
 use Rattle.node_rounds.specs.declared.round.Round.{Round}
 use Rattle.node_rounds.specs.declared.round.Round.TheVariants as round_of
-use Rattle.node_rounds.specs.Entries.{after_requests}
+use Rattle.node_rounds.specs.Effects.{after_requests}
 use Rattle.node_rounds.specs.Follows.{Follows}
 use Rattle.node_rounds.specs.Reaction.{Reacts, next_due}
 use Rattle.node_rounds.specs.Round.{Task}

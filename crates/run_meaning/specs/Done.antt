@@ -4,7 +4,7 @@ use Rattle.run_records.specs.declared.record.Noted.{Noted}
 use Rattle.run_records.specs.Record.{RecordMeaning, RefusesEntry}
 use Rattle.bytecode.specs.Laws.{BeginsWith}
 use Rattle.stack_vm.specs.declared.meter.MeterRow.{MeterRow}
-use Rattle.node_rounds.specs.Entries.{TakesEntries}
+use Rattle.node_rounds.specs.Effects.{TakesEntries}
 use Rattle.run_meaning.specs.Counts.{AddsSteps, row_with}
 use Rattle.run_meaning.specs.Steps.{Step, entries}
 

@@ -1,9 +1,7 @@
 -- The definitions of this crate.
-pub mod Bus
-pub mod Moments
 pub mod Run
+pub mod Moments
 pub mod Rest
-pub mod Order
 pub mod Steps
 pub mod Counts
 pub mod Done

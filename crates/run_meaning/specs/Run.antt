@@ -1,7 +1,10 @@
 -- A run of nodes on one bus, from the round before the start to the round of the stop. The order of what
 -- happens in an instant, and when a wish to stop counts, are this project's own; the bus is that of
 -- ISO 11898-1, or any other.
-use Rattle.std.specs.Prelude.{◌≡◌, ℕ, ◌+◌, ◌<◌, ◌≤◌, ◌==◌, Bool, true, false, ◌||◌, List, [], ◌∷◌, ◌++◌, length, Option, None, Some, IfSome, ⊤}
+use Rattle.std.specs.Prelude.{ℕ, List, [], ◌∷◌, fold, ◌+◌, ◌≡◌, ◌<◌, ◌≤◌, ◌==◌, Bool, true, false, ◌||◌, ◌++◌, length, Option, None, Some, IfSome, ⊤}
+use Rattle.can_frame.specs.Frame.{FrameFields}
+use Rattle.node_rounds.specs.Effects.{after_requests}
+use Rattle.node_rounds.specs.Round.{Task, IsPart}
 use Rattle.std.specs.List.{flat_map, list_any}
 use Rattle.std.specs.Option.{option_map}
 use Rattle.can_bus.specs.declared.bus.Ended.{Ended}
@@ -9,13 +12,25 @@ use Rattle.can_bus.specs.Meaning.{BusMeaning}
 use Rattle.scenario.specs.declared.scenario.KeyItem.{KeyItem}
 use Rattle.replay_node.specs.declared.replay.Request.{Request}
 use Rattle.node_rounds.specs.declared.round.Round.{Round}
-use Rattle.node_rounds.specs.declared.round.Round.TheVariants as round
 use Rattle.node_rounds.specs.declared.round.Seen.{Seen}
-use Rattle.node_rounds.specs.Entries.{after_requests}
 use Rattle.node_rounds.specs.Reaction.{Reacts}
-use Rattle.node_rounds.specs.Round.{IsPart, Task}
-use Rattle.run_meaning.specs.Bus.{after_all_tasks}
 use Rattle.run_meaning.specs.Moments.{keys_after, keys_at, next_of_all, requests_after, requests_at}
+use Rattle.node_rounds.specs.declared.round.Round.TheVariants as round
+
+-- ---- The bus after the tasks of nodes.
+
+-- the bus after the requests of a node's tasks, in order
+abbrev pub after_tasks : {B : Type 0} → (B → ℕ → FrameFields → B) → B → ℕ → List Task → B
+after_tasks {B} after_request b node tasks =
+    fold (λ before task. after_requests after_request before node task.requests) b tasks
+
+-- the bus after the requests of the tasks of all nodes from a number on, node by node
+abbrev pub after_all_tasks : {B : Type 0} → (B → ℕ → FrameFields → B) → B → ℕ → List (List Task) → B
+after_all_tasks {B} after_request b node [] = b
+after_all_tasks {B} after_request b node (tasks ∷ others) =
+    after_all_tasks after_request (after_tasks after_request b node tasks) (node + 1) others
+
+-- ---- The run.
 
 -- a round that has passed: its moment, the frame that ended at it, where one did, and the tasks of each node
 -- in order

@@ -4,10 +4,9 @@ use Rattle.std.specs.Prelude.{All, None, Some, codes, if◌then◌else◌, slice
 use Rattle.std.specs.List.{flat_map}
 use Rattle.std.specs.Str.Lines.{lines}
 use Rattle.std.proofs.lemmas.List.Elements.{All-append, All-cons, All-head, All-nil, All-tail}
-use Rattle.scenario.specs.Item.{fields_of, is_passed_over, item_of, items_in, items_of}
+use Rattle.scenario.specs.Item.{fields_of, is_passed_over, item_of, items_in, items_of, is_interface}
 use Rattle.scenario.specs.Rule.{nodes_of, rule_by_kind, rule_of_item, rule_of_line}
 use Rattle.scenario.specs.Scenario.{IsScenario, interface_in}
-use Rattle.scenario.specs.Value.{is_interface}
 use Rattle.scenario.specs.declared.item.Item.{Item}
 use Rattle.scenario.specs.declared.item.Item.TheVariants as item
 use Rattle.scenario.specs.declared.scenario.Scenario.{Scenario}

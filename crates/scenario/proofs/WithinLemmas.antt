@@ -10,9 +10,8 @@ use Rattle.std.proofs.lemmas.List.Elements.{All-append, All-cons, All-nil}
 use Rattle.std.proofs.lemmas.List.Sorted.{All-permutation, IsNonDecreasingBy-from_sort}
 use Rattle.text_parts.proofs.NumberLemmas.{number_up_to-some}
 use Rattle.text_parts.specs.Number.{number_up_to}
-use Rattle.scenario.specs.Item.{fields_of, is_passed_over, item_of, item_of_one, item_of_picks, item_of_two, item_of_values, items_in, items_of}
+use Rattle.scenario.specs.Item.{fields_of, is_passed_over, item_of, item_of_one, item_of_picks, item_of_two, item_of_values, items_in, items_of, bit_of, bit_rates, epoch_of, key_byte_of, key_of, moment_of, number_of, turns_of}
 use Rattle.scenario.specs.Scenario.{IsScenario, bit_in, epoch_in, key_in, turns_in, until_in}
-use Rattle.scenario.specs.Value.{bit_of, bit_rates, epoch_of, key_byte_of, key_of, moment_of, number_of, turns_of}
 use Rattle.scenario.specs.declared.item.Item.{Item}
 use Rattle.scenario.specs.declared.item.Item.TheVariants as item
 use Rattle.scenario.specs.declared.scenario.Epoch.TheVariants.{At, First}

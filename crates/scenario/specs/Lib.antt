@@ -1,5 +1,4 @@
 -- The definitions of this crate.
-pub mod Value
 pub mod Item
 pub mod Rule
 pub mod Scenario

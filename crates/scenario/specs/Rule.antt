@@ -5,8 +5,7 @@ use Rattle.std.specs.Str.{bytes_eq}
 use Rattle.scenario.specs.declared.item.Item.{Item}
 use Rattle.scenario.specs.declared.item.Item.TheVariants as item
 use Rattle.scenario.specs.declared.scenario.NodeItem.{NodeItem}
-use Rattle.scenario.specs.Value.{is_interface, is_file_name, is_node_name}
-use Rattle.scenario.specs.Item.{is_passed_over, fields_of, item_of, items_of}
+use Rattle.scenario.specs.Item.{is_interface, is_file_name, is_node_name, is_passed_over, fields_of, item_of, items_of}
 
 -- S01: the first item is not `scenario 1`
 abbrev pub breaks_S01 : List Item → Item → Bool

@@ -1,7 +1,7 @@
 -- How large the numbers of a scenario are at most, and that its interface is one.
 use Rattle.std.specs.Prelude.{◌≡◌, ◌≤◌, ℕ, true, All, ⊤}
 use Rattle.std.specs.List.Sorted.{IsNonDecreasingBy}
-use Rattle.scenario.specs.Value.{is_interface}
+use Rattle.scenario.specs.Item.{is_interface}
 use Rattle.scenario.specs.declared.scenario.Epoch.{Epoch}
 use Rattle.scenario.specs.declared.scenario.Epoch.TheVariants.{At, First}
 use Rattle.scenario.specs.declared.scenario.KeyItem.{KeyItem}

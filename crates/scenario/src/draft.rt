@@ -4,7 +4,7 @@ ghost use Rattle.std.specs.Prelude.{◌≡◌, ◌==◌, ◌||◌, not, [], leng
 ghost use Rattle.std.specs.List.{list_any};
 ghost use Rattle.std.specs.Str.{bytes_eq};
 ghost use Rattle.scenario.specs.Rule.{rule_by_kind, rule_of_node};
-ghost use Rattle.scenario.specs.Value.{is_node_name};
+ghost use Rattle.scenario.specs.Item.{is_node_name};
 ghost use Rattle.scenario.specs.Scenario.{AreByMoment};
 ghost use Rattle.scenario.specs.Inside.Draft.{said_by, is_said, rule_behind, with_item, IsScenarioOf};
 

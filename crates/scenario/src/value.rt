@@ -2,7 +2,7 @@
 
 ghost use Rattle.std.specs.Prelude.{◌≡◌, ◌≤◌, ◌<◌, IfOk, IfSome, map};
 ghost use Rattle.std.specs.List.{list_all};
-ghost use Rattle.scenario.specs.Value.{number_of, bit_of, moment_of, turns_of, epoch_of, picks_of, key_byte_of, key_of, is_interface_byte, is_interface, is_printable, is_file_name, is_node_name};
+ghost use Rattle.scenario.specs.Item.{number_of, bit_of, moment_of, turns_of, epoch_of, picks_of, key_byte_of, key_of, is_interface_byte, is_interface, is_printable, is_file_name, is_node_name};
 
 use crate::scenario::{Epoch, KeyItem};
 use capl_lexer::is_name;

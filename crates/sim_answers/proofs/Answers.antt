@@ -6,10 +6,9 @@ use Rattle.scenario.specs.declared.scenario.Scenario.{Scenario}
 use Rattle.replay_node.specs.declared.replay.Replay.{Replay}
 use Rattle.dbc_reader.specs.declared.message.DbcMessage.{DbcMessage}
 use Rattle.capl_include.specs.Expansion.{Contents}
-use Rattle.sim_inputs.specs.Accepted.{AreAccepted, IsFirstBlame}
-use Rattle.sim_inputs.specs.Nodes.{NodeSource}
+use Rattle.sim_inputs.specs.Accepted.{AreAccepted, IsFirstBlame, NodeSource}
 use Rattle.sim_play.specs.declared.labels.Show.{Show}
-use Rattle.sim_text.specs.Blame.{blame_line}
+use Rattle.sim_text.specs.Lines.{blame_line}
 use Rattle.sim_run.proofs.AnswerLemmas.{NotBothLaw}
 use Rattle.sim_run.proofs.CommandLemmas.{asked_or_none, one_asked}
 use Rattle.sim_run.specs.Answer.{IsAnswer}

@@ -3,7 +3,7 @@ use Rattle.std.proofs.Common.{◌≡◌, ◌≤◌, ℕ, zero, suc, List, [], �
 use Rattle.std.specs.Prelude.{◌⊎◌, codes, decimal}
 use Rattle.std.proofs.lemmas.Bool.{cases_lt}
 use Rattle.capl_include.specs.Expansion.{Contents}
-use Rattle.sim_gen.specs.Files.{generated_files, scenario_name}
+use Rattle.sim_gen.specs.Generated.{generated_files, scenario_name}
 use Rattle.sim_play.specs.declared.labels.Show.{Show}
 use Rattle.sim_play.specs.declared.labels.Show.TheVariants as show
 use Rattle.sim_run.specs.Command.{IsAsked, IsNoCommand, command_word, show_of}

@@ -4,7 +4,7 @@ use Rattle.std.specs.Prelude.{◌⊎◌}
 use Rattle.std.specs.List.{AllZip, sum_by}
 use Rattle.std.proofs.lemmas.Bool.{cases_lt}
 use Rattle.std.proofs.lemmas.List.Sums.{sum_by-cons}
-use Rattle.sim_outside.specs.Folder.{beside}
+use Rattle.sim_outside.specs.Files.{beside}
 use Rattle.texts.specs.declared.blame.Blame.{Blame}
 use Rattle.texts.specs.declared.blame.Rule.{Rule}
 use Rattle.scenario.specs.Scenario.{IsScenario, IsScenarioRefusal}
@@ -18,15 +18,9 @@ use Rattle.dbc_reader.specs.declared.refusal.DbcRefusal.TheVariants as refusal
 use Rattle.capl_include.specs.Blame.{file_blame, too_long_rule}
 use Rattle.capl_include.specs.Expansion.{Contents}
 use Rattle.input_refusals.specs.Blame.{line_blame}
-use Rattle.replay_node.specs.Log.{IsBadLine}
-use Rattle.replay_node.specs.Replay.{IsReplay}
+use Rattle.replay_node.specs.Replay.{IsBadLine, IsReplay}
 use Rattle.replay_node.specs.declared.replay.Replay.{Replay}
-use Rattle.sim_inputs.specs.Blame.{Holds, IsFileBlame, log_rule, missing_rule, statement_rule, too_large_rule, twice_rule}
-use Rattle.sim_inputs.specs.Scenario.{ScenarioAt, IsScenarioBlame, scenario_limit}
-use Rattle.sim_inputs.specs.Database.{BaseAt, IsBaseBlame, database_limit}
-use Rattle.sim_inputs.specs.Nodes.{NodeSource, AreWithin, IsNodeSource, IsNodesBlame, cells_in, most_together, weight_in}
-use Rattle.sim_inputs.specs.Replay.{LogAt, IsReplayBlame, log_limit}
-use Rattle.sim_inputs.specs.Accepted.{AreNodes, AreAccepted, IsLaterBlame, IsFirstBlame}
+use Rattle.sim_inputs.specs.Accepted.{Holds, IsFileBlame, log_rule, missing_rule, statement_rule, too_large_rule, twice_rule, ScenarioAt, IsScenarioBlame, scenario_limit, BaseAt, IsBaseBlame, database_limit, NodeSource, AreWithin, IsNodeSource, IsNodesBlame, cells_in, most_together, weight_in, LogAt, IsReplayBlame, log_limit, AreNodes, AreAccepted, IsLaterBlame, IsFirstBlame}
 use Rattle.whole_readings.proofs.Databases.{database_or_refusal}
 use Rattle.whole_readings.proofs.Logs.{replay_or_bad_line}
 use Rattle.whole_readings.proofs.Scenarios.{scenario_or_refusal}

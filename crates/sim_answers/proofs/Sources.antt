@@ -19,10 +19,9 @@ use Rattle.capl_include.specs.Blame.{file_blame, place_blame}
 use Rattle.capl_include.specs.Expansion.{Contents, Outcome, Went, Stopped, IsExpansion}
 use Rattle.capl_include.specs.declared.expanded.SourceFile.{SourceFile}
 use Rattle.capl_meaning.specs.Offences.{IsFirst, offences_of}
-use Rattle.capl_meaning.specs.Size.{cells_of_program}
+use Rattle.capl_meaning.specs.Store.{cells_of_program}
 use Rattle.capl_meaning.specs.declared.offence.Offence.{Offence}
-use Rattle.source_compiler.specs.Program.{FilesAt, IsFirstFile, IsScreened, IsTokenBlame, HasTree, IsParsed, AreTreesOf, IsTreeBlame, IsOffenceBlame, IsSizeBlame, offence_blame, wrong_blame, most}
-use Rattle.source_compiler.specs.Source.{IsSource, IsProgramBlame, IsSourceBlame}
+use Rattle.source_compiler.specs.Source.{FilesAt, IsFirstFile, IsScreened, IsTokenBlame, HasTree, IsParsed, AreTreesOf, IsTreeBlame, IsOffenceBlame, IsSizeBlame, offence_blame, wrong_blame, most, IsSource, IsProgramBlame, IsSourceBlame}
 use Rattle.whole_readings.proofs.Expansions.{expansion_comes}
 use Rattle.whole_readings.proofs.Offences.{none_or_first}
 use Rattle.whole_readings.proofs.Screens.{BreakNone, HasFirstBreak, none_or_first_break}

@@ -17,9 +17,8 @@ use Rattle.node_run.specs.Sound.{CanOccur, IsSound}
 use Rattle.run_meaning.specs.Done.{AreCut, AreDone}
 use Rattle.run_meaning.specs.Live.{IsReady, Stands}
 use Rattle.run_meaning.specs.Moments.{keys_at}
-use Rattle.run_meaning.specs.Order.{picks_after}
+use Rattle.run_meaning.specs.Steps.{picks_after, Step, steps, task_steps}
 use Rattle.run_meaning.specs.Run.{AreRounds, HasBegun, IsInstant, IsRound, Passed, RunState, new_run, next_instant, quiet_round, settled}
-use Rattle.run_meaning.specs.Steps.{Step, steps, task_steps}
 use Rattle.run_meaning.proofs.DoneLemmas.{cut_at_none, cut_before, cut_more, done_more}
 use Rattle.run_meaning.proofs.EachRun.{begun_stands, begun_there, instant_stands, ready_at, round_ready, round_there}
 use Rattle.run_meaning.proofs.Occurring.{keys_at_can}

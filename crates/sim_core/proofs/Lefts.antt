@@ -7,7 +7,7 @@ use Rattle.node_rounds.specs.declared.occurrence.Trigger.{Trigger}
 use Rattle.node_rounds.specs.Round.{Doing, DoesNext, Rest, Task, next_of}
 use Rattle.node_run.specs.Code.{CodeMemory, code_reaction}
 use Rattle.node_run.specs.Node.{NodeInRound}
-use Rattle.run_meaning.specs.Order.{nodes_with_tasks, picked}
+use Rattle.run_meaning.specs.Steps.{nodes_with_tasks, picked}
 use Rattle.run_meaning.proofs.Once.{some_same}
 use Rattle.run_meaning.proofs.OrderLemmas.{put_task}
 use Rattle.sim_core.specs.Core.{states_of}

@@ -4,7 +4,7 @@ use Rattle.std.specs.Prelude.{◌%◌, if◌then◌else◌, get_or, slice_get, s
 use Rattle.std.specs.List.{remove}
 use Rattle.std.proofs.lemmas.Option.{slice_get_read, slice_get_within}
 use Rattle.node_run.specs.Node.{NodeInRound}
-use Rattle.run_meaning.specs.Order.{next_pick}
+use Rattle.run_meaning.specs.Steps.{next_pick}
 use Rattle.run_meaning.proofs.Once.{some_same}
 use Rattle.sim_core.specs.Inside.Tasks.{has_next, open_nodes}
 use Rattle.sim_core.proofs.Lefts.{open_at}

@@ -12,10 +12,9 @@ use Rattle.node_rounds.specs.Round.{Task}
 use Rattle.node_run.specs.Code.{by_code}
 use Rattle.node_run.specs.Node.{NodeInRound}
 use Rattle.node_run.specs.Sound.{CanOccur, IsSound}
-use Rattle.run_meaning.specs.Bus.{after_all_tasks}
+use Rattle.run_meaning.specs.Run.{after_all_tasks, after_round, ask_stop}
 use Rattle.run_meaning.specs.Done.{AreCut, AreDone}
 use Rattle.run_meaning.specs.Live.{CanBeSeen}
-use Rattle.run_meaning.specs.Run.{after_round, ask_stop}
 use Rattle.run_meaning.specs.Steps.{task_steps}
 use Rattle.run_meaning.proofs.DoneLemmas.{cut_at_none}
 use Rattle.run_meaning.proofs.EachRun.{round_ready, round_there}

@@ -10,7 +10,7 @@ use Rattle.run_records.specs.Record.{RecordMeaning, RefusesEntry}
 use Rattle.stack_vm.specs.declared.meter.MeterRow.{MeterRow}
 use Rattle.node_rounds.specs.declared.occurrence.Occurrence.TheVariants.{Key}
 use Rattle.node_rounds.specs.declared.round.Round.TheVariants.{Moment}
-use Rattle.node_rounds.specs.Entries.{TakesEntries}
+use Rattle.node_rounds.specs.Effects.{TakesEntries}
 use Rattle.node_rounds.specs.Reaction.{NodeState}
 use Rattle.node_rounds.specs.Round.{Task}
 use Rattle.node_run.specs.Code.{CodeMemory, by_code, code_reaction}

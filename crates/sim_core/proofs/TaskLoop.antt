@@ -10,16 +10,14 @@ use Rattle.can_bus.specs.Laws.{NodesStay, RequestsCommute}
 use Rattle.can_bus.specs.Meaning.{BusMeaning}
 use Rattle.run_records.specs.Record.{RecordMeaning}
 use Rattle.stack_vm.specs.declared.meter.MeterRow.{MeterRow}
-use Rattle.node_rounds.specs.Entries.{after_requests}
+use Rattle.node_rounds.specs.Effects.{after_requests}
 use Rattle.node_rounds.specs.Reaction.{NodeState}
 use Rattle.node_rounds.specs.Round.{DoesNext, Task, next_of}
 use Rattle.node_run.specs.Code.{CodeMemory, code_reaction}
 use Rattle.node_run.specs.Node.{NodeInRound}
-use Rattle.run_meaning.specs.Bus.{after_all_tasks}
+use Rattle.run_meaning.specs.Run.{after_all_tasks, ask_stop}
 use Rattle.run_meaning.specs.Done.{AreCut, AreDone}
-use Rattle.run_meaning.specs.Order.{first_tasks, next_pick, nodes_with_tasks, picked, picks_after, task_count}
-use Rattle.run_meaning.specs.Run.{ask_stop}
-use Rattle.run_meaning.specs.Steps.{Step, task_done, task_steps}
+use Rattle.run_meaning.specs.Steps.{first_tasks, next_pick, nodes_with_tasks, picked, picks_after, task_count, Step, task_done, task_steps}
 use Rattle.run_meaning.proofs.DoneLemmas.{cut_more, done_more, done_none}
 use Rattle.run_meaning.proofs.EachPart.{to_do}
 use Rattle.run_meaning.proofs.Once.{some_same}

@@ -3,7 +3,7 @@ use Rattle.std.specs.Prelude.{◌≡◌, List}
 use Rattle.run_records.specs.declared.record.Noted.{Noted}
 use Rattle.run_records.specs.Record.{RecordMeaning, TakesEntry}
 use Rattle.stack_vm.specs.declared.meter.MeterRow.{MeterRow}
-use Rattle.node_rounds.specs.Entries.{TakesEntries}
+use Rattle.node_rounds.specs.Effects.{TakesEntries}
 use Rattle.sim_core.specs.Core.{CoreState, states_of}
 
 -- a record stands in one way after it took an entry

@@ -2,7 +2,7 @@
 
 ghost use Rattle.std.specs.Prelude.{◌≡◌, ◌<◌, IfOk, OnOk, drop};
 ghost use Rattle.can_bus.specs.Meaning.{BusMeaning};
-ghost use Rattle.node_rounds.specs.Entries.{after_requests};
+ghost use Rattle.node_rounds.specs.Effects.{after_requests};
 ghost use Rattle.run_meaning.specs.Live.{next_key, next_request};
 ghost use Rattle.run_meaning.specs.Moments.{keys_after, keys_at, requests_after, requests_at};
 

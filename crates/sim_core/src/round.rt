@@ -3,7 +3,7 @@
 ghost use Rattle.std.specs.Prelude.{◌≡◌, ◌≤◌, [], ◌∷◌, length, All, IfSome, OnOk, OnErr, IsErrOf};
 ghost use Rattle.run_records.specs.declared.record.Noted.{Noted};
 ghost use Rattle.run_records.specs.Record.{RecordFaultsRise, RefusesEntry};
-ghost use Rattle.node_rounds.specs.Entries.{TakesEntries};
+ghost use Rattle.node_rounds.specs.Effects.{TakesEntries};
 ghost use Rattle.node_rounds.specs.declared.occurrence.Occurrence.TheVariants.{Key};
 ghost use Rattle.node_run.specs.Code.{code_reaction};
 ghost use Rattle.node_run.specs.Sound.{CanOccur};

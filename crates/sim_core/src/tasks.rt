@@ -3,7 +3,7 @@
 ghost use Rattle.std.specs.Prelude.{◌≡◌, ◌<◌, ◌≤◌, ◌^◌, ◌%◌, if◌then◌else◌, [], length, None, All, IfOk, IfSome, OnOk, OnErr, IsErrOf};
 ghost use Rattle.std.specs.List.{AllByRecursion, remove};
 ghost use Rattle.run_records.specs.Record.{RecordFaultsRise};
-ghost use Rattle.run_meaning.specs.Order.{next_pick};
+ghost use Rattle.run_meaning.specs.Steps.{next_pick};
 ghost use Rattle.run_meaning.specs.Run.{seen_by};
 ghost use Rattle.sim_core.specs.Core.{HaveRows, KeepsNodes};
 ghost use Rattle.sim_core.specs.Inside.Kept.{IsIdle};

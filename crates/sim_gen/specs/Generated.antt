@@ -1,9 +1,13 @@
 -- The generated scenario: its nodes, their requests and their sources are this project's own. The form of a
 -- scenario is this project's too; a source is in CAPL (CAPL manual, message, timer and event procedures).
-use Rattle.std.specs.Prelude.{ℕ, zero, suc, ◌+◌, List, [], ◌∷◌, ◌++◌, map, codes, decimal}
-use Rattle.std.specs.List.{flat_map}
+use Rattle.std.specs.Prelude.{ℕ, zero, suc, ◌+◌, List, [], ◌∷◌, ◌++◌, map, codes, decimal, if◌then◌else◌, Option, Some}
+use Rattle.std.specs.List.{flat_map, find}
 use Rattle.sim_gen.specs.declared.generated.Made.{Made}
 use Rattle.sim_gen.specs.declared.generated.Source.{Source}
+use Rattle.std.specs.Option.{option_map}
+use Rattle.std.specs.Str.{bytes_eq}
+
+-- ---- The generated scenario.
 
 -- the numbers from 1 to the count
 abbrev pub numbers_to : ℕ → List ℕ
@@ -48,3 +52,23 @@ source number = record { name = source_name number; text = variables_line number
 -- the scenario of so many nodes, and the sources of nodes 1, 2 and so on
 abbrev pub generated : ℕ → Made
 generated count = record { scenario = scenario_text count; sources = map source (numbers_to count) }
+
+-- ---- What the files of a generated scenario hold, by their names.
+
+-- the name of the scenario's own file
+abbrev pub scenario_name : List ℕ
+scenario_name = codes "gen"
+
+-- the text of the first source of a name, if there is one
+abbrev pub source_text : List Source → List ℕ → Option (List ℕ)
+source_text sources name =
+    option_map (λ source. source.text) (find (λ source. bytes_eq source.name name) sources)
+
+-- what each name holds: the text of the scenario, or that of a source
+abbrev pub made_contents : Made → List ℕ → Option (List ℕ)
+made_contents made name =
+    if bytes_eq name scenario_name then Some made.scenario else source_text made.sources name
+
+-- what the files of the generated scenario of so many nodes hold
+abbrev pub generated_files : ℕ → List ℕ → Option (List ℕ)
+generated_files count = made_contents (generated count)

@@ -3,7 +3,7 @@
 ghost use Rattle.std.specs.Prelude.{◌≡◌, ◌-◌, ◌^◌, ◌≤◌, ℕ, List, Option, IfOk, IfSome, IsErrOf, vec_len};
 ghost use Rattle.std.specs.Option.{option_map};
 ghost use Rattle.sim_outside.specs.Files.{AgreesWith};
-ghost use Rattle.sim_gen.specs.Files.{made_contents, source_text};
+ghost use Rattle.sim_gen.specs.Generated.{made_contents, source_text};
 ghost use Rattle.texts.specs.Fault.{HasRisen, raised};
 
 use crate::generated::{Made, Source};
@@ -17,7 +17,7 @@ pub const SCENARIO_NAME: &str = "gen";
 /// The scenario and its sources are files that tell what they hold. No read of them fails; none is counted.
 impl Files for Made {
     ghost use Rattle.std.specs.Prelude.{Some, ◌-◌, ◌^◌};
-    ghost use Rattle.sim_gen.specs.Files.{made_contents};
+    ghost use Rattle.sim_gen.specs.Generated.{made_contents};
 
     ghost held = { λ made. Some (made_contents made) };
 

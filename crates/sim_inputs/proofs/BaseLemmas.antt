@@ -1,10 +1,10 @@
 -- What the database that a scenario names decides.
 use Rattle.std.proofs.Common.{◌≡◌, ℕ, List, Option, Some, Result, Err, sym, subst}
 use Rattle.std.specs.Prelude.{IsErrAnd}
-use Rattle.sim_outside.specs.Folder.{beside}
+use Rattle.sim_outside.specs.Files.{beside}
 use Rattle.capl_include.specs.Expansion.{Contents}
 use Rattle.dbc_reader.specs.declared.message.DbcMessage.{DbcMessage}
-use Rattle.sim_inputs.specs.Database.{BaseAt, DatabaseAt, IsBaseBlame, IsDatabaseBlame}
+use Rattle.sim_inputs.specs.Accepted.{BaseAt, DatabaseAt, IsBaseBlame, IsDatabaseBlame}
 use Rattle.input_refusals.specs.Agreement.{Agrees}
 use Rattle.sim_inputs.specs.Inside.Messages.{messages_in}
 use Rattle.input_refusals.specs.declared.refusal.InputRefusal.{InputRefusal}

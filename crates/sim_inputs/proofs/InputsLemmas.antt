@@ -11,15 +11,11 @@ use Rattle.dbc_reader.specs.declared.message.DbcMessage.{DbcMessage}
 use Rattle.scenario.specs.declared.scenario.NodeItem.{NodeItem}
 use Rattle.scenario.specs.declared.scenario.Scenario.{Scenario}
 use Rattle.replay_node.specs.declared.replay.Replay.{Replay}
-use Rattle.sim_inputs.specs.Accepted.{AreAccepted, AreNodes, IsFirstBlame}
+use Rattle.sim_inputs.specs.Accepted.{AreAccepted, AreNodes, IsFirstBlame, BaseAt, IsNodesBlame, NodeSource, IsReplayBlame, ReplayAt, ScenarioAt}
 use Rattle.sim_inputs.specs.Answer.{AreCoded, AreInputsOf, IsAnswer}
-use Rattle.sim_inputs.specs.Database.{BaseAt}
 use Rattle.input_refusals.specs.Agreement.{Agrees}
 use Rattle.sim_inputs.specs.Inside.Codes.{AreNodeCodes, AreOfSources, AreSources}
 use Rattle.sim_inputs.specs.Inside.Messages.{messages_in}
-use Rattle.sim_inputs.specs.Nodes.{IsNodesBlame, NodeSource}
-use Rattle.sim_inputs.specs.Replay.{IsReplayBlame, ReplayAt}
-use Rattle.sim_inputs.specs.Scenario.{ScenarioAt}
 use Rattle.sim_inputs.specs.declared.inputs.Inputs.{Inputs}
 use Rattle.input_refusals.specs.declared.refusal.InputRefusal.{InputRefusal}
 use Rattle.input_refusals.specs.declared.refusal.InputRefusal.TheVariants.{Blamed, Failed, NoMemory}

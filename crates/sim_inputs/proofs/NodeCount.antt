@@ -7,10 +7,9 @@ use Rattle.std.specs.Str.Lines.{lines}
 use Rattle.std.proofs.lemmas.Bool.Decides.{nat_tests}
 use Rattle.std.proofs.lemmas.Grind.{flat_map-append}
 use Rattle.std.proofs.lemmas.List.{take_all, take_more}
-use Rattle.scenario.specs.Item.{fields_of, is_passed_over, item_of, item_of_one, item_of_picks, item_of_two, item_of_values, items_in, items_of}
+use Rattle.scenario.specs.Item.{fields_of, is_passed_over, item_of, item_of_one, item_of_picks, item_of_two, item_of_values, items_in, items_of, is_file_name, is_node_name}
 use Rattle.scenario.specs.Rule.{AreRightBefore, breaks_S01, is_repeated, node_in, nodes_of, rule_by_kind, rule_of_item, rule_of_node}
 use Rattle.scenario.specs.Scenario.{IsScenario}
-use Rattle.scenario.specs.Value.{is_file_name, is_node_name}
 use Rattle.scenario.specs.declared.scenario.NodeItem.{NodeItem}
 use Rattle.scenario.specs.declared.scenario.Scenario.{Scenario}
 

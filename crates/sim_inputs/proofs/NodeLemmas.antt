@@ -8,23 +8,21 @@ use Rattle.std.proofs.lemmas.List.Elements.{All-append, All-cons, All-nil}
 use Rattle.std.proofs.lemmas.List.Sums.{sum_by-append, sum_by-cons}
 use Rattle.texts.specs.declared.blame.Blame.{Blame}
 use Rattle.bytecode.specs.declared.code.Code.{Code}
-use Rattle.sim_outside.specs.Folder.{beside}
+use Rattle.sim_outside.specs.Files.{beside}
 use Rattle.scenario.specs.declared.scenario.NodeItem.{NodeItem}
 use Rattle.dbc_reader.specs.declared.message.DbcMessage.{DbcMessage}
 use Rattle.capl_include.specs.Blame.{file_blame}
 use Rattle.capl_include.specs.Expansion.{Contents}
 use Rattle.source_compiler.specs.Code.{IsCodeFor}
 use Rattle.source_compiler.specs.Compiled.{IsCoded, IsCompiledSource}
-use Rattle.source_compiler.specs.Program.{AreTreesOf}
-use Rattle.source_compiler.specs.Source.{IsSourceBlame}
+use Rattle.source_compiler.specs.Source.{AreTreesOf, IsSourceBlame}
 use Rattle.source_compiler.specs.declared.compiled.Compiled.{Compiled}
 use Rattle.input_refusals.specs.Agreement.{Agrees}
 use Rattle.input_refusals.specs.declared.refusal.InputRefusal.{InputRefusal}
 use Rattle.input_refusals.specs.declared.refusal.InputRefusal.TheVariants.{NoMemory}
 use Rattle.sim_inputs.specs.Answer.{AreCodesFor}
-use Rattle.sim_inputs.specs.Blame.{too_large_rule}
+use Rattle.sim_inputs.specs.Accepted.{too_large_rule, AreWithin, IsNodesBlame, IsNodeSource, NodeSource, cells_in, file_names, most_together, weight_in}
 use Rattle.sim_inputs.specs.Inside.Codes.{AreNodeCodes, AreOfSources, AreSources}
-use Rattle.sim_inputs.specs.Nodes.{AreWithin, IsNodesBlame, IsNodeSource, NodeSource, cells_in, file_names, most_together, weight_in}
 
 -- The nodes up to a number are read: these are their codes and the names of their files, so many cells and so great a weight their programs
 -- have together, and the first blame of the other nodes is that of all.

@@ -4,7 +4,7 @@ use Rattle.std.specs.Prelude.{◌⊎◌}
 use Rattle.std.specs.List.{flat_map, sum_by}
 use Rattle.std.proofs.lemmas.List.Sums.{sum_by-cons}
 use Rattle.std.specs.Str.Lines.{lines}
-use Rattle.sim_outside.specs.Folder.{beside}
+use Rattle.sim_outside.specs.Files.{beside}
 use Rattle.texts.specs.declared.blame.Blame.{Blame}
 use Rattle.scenario.specs.Item.{items_of}
 use Rattle.scenario.specs.Scenario.{IsScenario, key_in}
@@ -17,17 +17,12 @@ use Rattle.capl_include.proofs.UniqueLemmas.{visit-unique}
 use Rattle.capl_include.specs.Expansion.{Contents, Expansion, Outcome, Went, Stopped, IsExpansion, file_limit, nothing_met}
 use Rattle.capl_include.specs.declared.expanded.SourceFile.{SourceFile}
 use Rattle.capl_meaning.specs.Offences.{offences_of}
-use Rattle.capl_meaning.specs.Size.{cells_of_program}
+use Rattle.capl_meaning.specs.Store.{cells_of_program}
 use Rattle.replay_node.specs.declared.replay.Replay.{Replay}
-use Rattle.sim_inputs.specs.Accepted.{AreAccepted, AreNodes, IsFirstBlame, IsLastBlame, IsLaterBlame}
-use Rattle.source_compiler.specs.Source.{IsProgramBlame, IsSource, IsSourceBlame}
-use Rattle.sim_inputs.specs.Database.{BaseAt, IsBaseBlame}
+use Rattle.sim_inputs.specs.Accepted.{AreAccepted, AreNodes, IsFirstBlame, IsLastBlame, IsLaterBlame, BaseAt, IsBaseBlame, AreWithin, IsNodesBlame, IsSumBlame, NodeSource, cells_in, weight_in, IsReplayBlame, ScenarioAt, scenario_limit}
+use Rattle.source_compiler.specs.Source.{IsProgramBlame, IsSource, IsSourceBlame, AreTreesOf, FilesAt, IsOffenceBlame, IsSizeBlame, most}
 use Rattle.sim_inputs.specs.Law.{SayTheSame}
 use Rattle.sim_inputs.specs.Inside.Codes.{AreSources}
-use Rattle.sim_inputs.specs.Nodes.{AreWithin, IsNodesBlame, IsSumBlame, NodeSource, cells_in, weight_in}
-use Rattle.sim_inputs.specs.Replay.{IsReplayBlame}
-use Rattle.source_compiler.specs.Program.{AreTreesOf, FilesAt, IsOffenceBlame, IsSizeBlame, most}
-use Rattle.sim_inputs.specs.Scenario.{ScenarioAt, scenario_limit}
 use Rattle.source_compiler.proofs.FileLemmas.{one_parse_blame, one_program, one_screen_blame, parsed_or_blame, screened_or_blame}
 use Rattle.sim_inputs.proofs.KeyLemmas.{one_order}
 use Rattle.source_compiler.proofs.OffenceLemmas.{offence_or_none, one_offence_blame}

@@ -2,7 +2,7 @@
 use Rattle.std.proofs.Common.{◌≡◌, ℕ, List, [], ◌∷◌, ◌++◌, Option, None, Some, Result, Ok, Err, inl, inr, sym, ap, subst, ◌∙◌}
 use Rattle.text_parts.specs.Line.{text_lines}
 use Rattle.texts.specs.declared.blame.Blame.{Blame}
-use Rattle.sim_outside.specs.Folder.{beside}
+use Rattle.sim_outside.specs.Files.{beside}
 use Rattle.capl_include.specs.Expansion.{Contents}
 use Rattle.input_refusals.specs.Agreement.{Agrees, Judges}
 use Rattle.input_refusals.specs.Blame.{line_blame}
@@ -10,12 +10,10 @@ use Rattle.input_refusals.specs.declared.refusal.InputRefusal.{InputRefusal}
 use Rattle.input_refusals.specs.declared.refusal.InputRefusal.TheVariants.{Blamed, Failed, NoMemory}
 use Rattle.scenario.specs.declared.scenario.Epoch.{Epoch}
 use Rattle.scenario.specs.declared.scenario.Scenario.{Scenario}
-use Rattle.replay_node.specs.Log.{IsBadLine}
-use Rattle.replay_node.specs.Replay.{IsReplay}
+use Rattle.replay_node.specs.Replay.{IsBadLine, IsReplay}
 use Rattle.replay_node.specs.declared.replay.Replay.{Replay}
-use Rattle.sim_inputs.specs.Blame.{log_rule}
+use Rattle.sim_inputs.specs.Accepted.{log_rule, IsLogLineBlame, IsReplayBlame, LogAt, ReplayAt, log_limit}
 use Rattle.sim_inputs.specs.Law.{SayTheSame}
-use Rattle.sim_inputs.specs.Replay.{IsLogLineBlame, IsReplayBlame, LogAt, ReplayAt, log_limit}
 use Rattle.sim_inputs.proofs.TextLemmas.{held_or_blamed, one_file_blame, one_text}
 
 -- ---- what is known of logs

@@ -13,10 +13,8 @@ use Rattle.scenario.specs.Rule.{IsBroken, IsFirstBroken, nodes_of, rule_at}
 use Rattle.scenario.specs.Scenario.{IsScenario}
 use Rattle.scenario.specs.declared.scenario.Scenario.{Scenario}
 use Rattle.std.specs.Str.Lines.{lines}
-use Rattle.sim_inputs.specs.Blame.{Holds, IsFileBlame, statement_rule, twice_rule}
+use Rattle.sim_inputs.specs.Accepted.{Holds, IsFileBlame, statement_rule, twice_rule, BaseAt, IsBaseBlame, IsDatabaseBlame, IsStatementBlame, database_limit, IsLineBlame, IsScenarioBlame, ScenarioAt, scenario_limit}
 use Rattle.input_refusals.specs.Blame.{line_blame}
-use Rattle.sim_inputs.specs.Database.{BaseAt, IsBaseBlame, IsDatabaseBlame, IsStatementBlame, database_limit}
-use Rattle.sim_inputs.specs.Scenario.{IsLineBlame, IsScenarioBlame, ScenarioAt, scenario_limit}
 
 -- ---- files
 

@@ -8,10 +8,9 @@ use Rattle.scenario.specs.Scenario.{IsScenario}
 use Rattle.scenario.specs.declared.scenario.Scenario.{Scenario}
 use Rattle.dbc_reader.specs.declared.message.DbcMessage.{DbcMessage}
 use Rattle.capl_include.specs.Expansion.{Contents}
-use Rattle.sim_inputs.specs.Accepted.{AreAccepted, IsFirstBlame}
+use Rattle.sim_inputs.specs.Accepted.{AreAccepted, IsFirstBlame, NodeSource, file_names}
 use Rattle.source_compiler.specs.Code.{IsCodeFor}
-use Rattle.source_compiler.specs.Program.{AreTreesOf}
-use Rattle.sim_inputs.specs.Nodes.{NodeSource, file_names}
+use Rattle.source_compiler.specs.Source.{AreTreesOf}
 use Rattle.sim_inputs.specs.declared.inputs.Inputs.{Inputs}
 use Rattle.input_refusals.specs.declared.refusal.InputRefusal.{InputRefusal}
 use Rattle.input_refusals.specs.declared.refusal.InputRefusal.TheVariants.{Blamed, Failed, NoMemory}

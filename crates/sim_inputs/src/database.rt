@@ -3,7 +3,7 @@
 ghost use Rattle.std.specs.Prelude.{◌≡◌, ◌<◌, ◌≤◌, ◌^◌, length, IfSome, IsErrOf};
 ghost use Rattle.dbc_reader.specs.Database.{IsDatabase};
 ghost use Rattle.texts.specs.Fault.{HasRisen};
-ghost use Rattle.sim_inputs.specs.Database.{BaseAt, DatabaseAt, IsBaseBlame, IsDatabaseBlame, IsStatementBlame};
+ghost use Rattle.sim_inputs.specs.Accepted.{BaseAt, DatabaseAt, IsBaseBlame, IsDatabaseBlame, IsStatementBlame};
 ghost use Rattle.input_refusals.specs.Agreement.{Agrees, Judges};
 ghost use Rattle.sim_inputs.specs.Inside.Messages.{messages_in};
 

@@ -2,7 +2,7 @@
 
 ghost use Rattle.std.specs.Prelude.{◌≡◌, ◌≤◌, IfOk, IfSome, IsErrOf, vec_len};
 ghost use Rattle.texts.specs.Fault.{HasRisen};
-ghost use Rattle.sim_inputs.specs.Blame.{Holds, IsFileBlame};
+ghost use Rattle.sim_inputs.specs.Accepted.{Holds, IsFileBlame};
 ghost use Rattle.input_refusals.specs.Agreement.{Agrees};
 
 use crate::rules::{MISSING, TOO_LONG};

@@ -6,9 +6,8 @@ ghost use Rattle.dbc_reader.specs.declared.message.DbcMessage.{DbcMessage};
 ghost use Rattle.replay_node.specs.declared.replay.Replay.{Replay};
 ghost use Rattle.scenario.specs.declared.scenario.Scenario.{Scenario};
 ghost use Rattle.texts.specs.Fault.{HasRisen};
-ghost use Rattle.sim_inputs.specs.Accepted.{AreAccepted};
+ghost use Rattle.sim_inputs.specs.Accepted.{AreAccepted, NodeSource};
 ghost use Rattle.sim_inputs.specs.Answer.{AreCoded, HaveCodeForEach, IsAnswer, IsPlayable, IsTaken};
-ghost use Rattle.sim_inputs.specs.Nodes.{NodeSource};
 ghost use Rattle.scenario.specs.Within.{IsWithin};
 
 use crate::database::read_base;

@@ -5,9 +5,8 @@ ghost use Rattle.texts.specs.declared.blame.Blame.{Blame as Blamed};
 ghost use Rattle.scenario.specs.declared.scenario.Scenario.{Scenario};
 ghost use Rattle.dbc_reader.specs.declared.message.DbcMessage.{DbcMessage};
 ghost use Rattle.capl_include.specs.Expansion.{Contents};
-ghost use Rattle.sim_inputs.specs.Accepted.{AreAccepted, IsFirstBlame};
+ghost use Rattle.sim_inputs.specs.Accepted.{AreAccepted, IsFirstBlame, NodeSource};
 ghost use Rattle.sim_inputs.specs.Law.{SayTheSame};
-ghost use Rattle.sim_inputs.specs.Nodes.{NodeSource};
 ghost use Rattle.replay_node.specs.declared.replay.Replay.{Replay};
 
 use replay_node::laws::one_replay;

@@ -4,7 +4,7 @@ ghost use Rattle.std.specs.Prelude.{◌≡◌, ◌≤◌, length, IfOk, IfSome, 
 ghost use Rattle.check_names.specs.Names.{messages_of};
 ghost use Rattle.texts.specs.Fault.{HasRisen};
 ghost use Rattle.input_refusals.specs.Agreement.{Agrees};
-ghost use Rattle.sim_inputs.specs.Nodes.{IsNodesBlame};
+ghost use Rattle.sim_inputs.specs.Accepted.{IsNodesBlame};
 ghost use Rattle.sim_inputs.specs.Inside.Codes.{AreNodeCodes, AreOfSources};
 
 use crate::rules::TOO_LARGE;

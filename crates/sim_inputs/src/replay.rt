@@ -6,7 +6,7 @@ ghost use Rattle.input_refusals.specs.Agreement.{Agrees, Judges};
 ghost use Rattle.replay_node.specs.Replay.{IsReplay};
 ghost use Rattle.scenario.specs.Within.{IsEpochWithin};
 ghost use Rattle.sim_inputs.specs.Answer.{IsPlayable};
-ghost use Rattle.sim_inputs.specs.Replay.{IsLogLineBlame, IsReplayBlame, LogAt, ReplayAt};
+ghost use Rattle.sim_inputs.specs.Accepted.{IsLogLineBlame, IsReplayBlame, LogAt, ReplayAt};
 
 use crate::files::read_text;
 use crate::rules::BAD_LINE;

@@ -6,7 +6,7 @@ ghost use Rattle.scenario.specs.Within.{IsWithin};
 ghost use Rattle.texts.specs.Fault.{HasRisen};
 ghost use Rattle.sim_inputs.specs.Answer.{IsTaken};
 ghost use Rattle.input_refusals.specs.Agreement.{Agrees, Judges};
-ghost use Rattle.sim_inputs.specs.Scenario.{IsLineBlame, IsScenarioBlame, ScenarioAt};
+ghost use Rattle.sim_inputs.specs.Accepted.{IsLineBlame, IsScenarioBlame, ScenarioAt};
 
 use crate::files::read_text;
 use input_refusals::{InputRefusal, blamed_line};

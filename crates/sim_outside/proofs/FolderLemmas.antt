@@ -2,7 +2,7 @@
 use Rattle.std.proofs.Common.{◌≡◌, ◌+◌, ◌-◌, ◌<◌, ◌≤◌, ◌==◌, ℕ, Bool, true, false, not, List, length, take, get_or, refl, ap, arith}
 use Rattle.std.proofs.lemmas.List.Sums.{suffix_len_is}
 use Rattle.std.specs.List.{suffix_len}
-use Rattle.sim_outside.specs.Folder.{folder_of}
+use Rattle.sim_outside.specs.Files.{folder_of}
 
 fails : (b : Bool) → ¬ (b ≡ true) → not b ≡ true
 fails true h = absurd (h refl)

@@ -1,6 +1,5 @@
 -- The definitions of this crate.
 pub mod Files
-pub mod Folder
 pub mod MemFiles
 pub mod MemSink
 pub mod Reader

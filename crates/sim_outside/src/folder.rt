@@ -1,7 +1,7 @@
 // Names of files that another file names.
 
 ghost use Rattle.std.specs.Prelude.{◌≡◌, IfOk};
-ghost use Rattle.sim_outside.specs.Folder.{beside, folder_of};
+ghost use Rattle.sim_outside.specs.Files.{beside, folder_of};
 
 use memchr::memrchr;
 use std::alloc::Global;

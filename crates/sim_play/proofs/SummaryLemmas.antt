@@ -11,19 +11,18 @@ use Rattle.stack_vm.specs.declared.meter.MeterRow.{MeterRow}
 use Rattle.run_records.specs.declared.record.Noted.{Noted}
 use Rattle.run_records.specs.declared.record.Noted.TheVariants as entry
 use Rattle.run_records.specs.Record.{RecordMeaning}
-use Rattle.node_rounds.specs.Entries.{TakesEntries}
+use Rattle.node_rounds.specs.Effects.{TakesEntries}
 use Rattle.node_run.specs.Node.{NodeInRound}
 use Rattle.run_meaning.specs.Counts.{AddsSteps, row_then}
 use Rattle.run_meaning.specs.Steps.{Step, entries, steps}
 use Rattle.sim_core.specs.Core.{CoreState, HasRun, IsRunCut, rows_of}
 use Rattle.sim_outside.specs.Sink.{GrowsBy, GrowsByPrefix}
-use Rattle.sim_text.specs.Summary.{summary_line}
+use Rattle.sim_text.specs.Lines.{summary_line}
 use Rattle.sim_play.specs.Inside.Counted.{handlers_of, row_count}
 use Rattle.sim_play.specs.Inside.Shown.{HasShown, IsShownInPart}
 use Rattle.sim_play.specs.Inside.Tallied.{count_after}
 use Rattle.sim_play.specs.Play.{AreNewRows, HasPlayed, IsPlayedInPart, procedures_of, rows_then, shown_last}
-use Rattle.sim_play.specs.Show.{shown}
-use Rattle.sim_play.specs.Summary.{capped, first_lines, is_frame, is_text, summary_of}
+use Rattle.sim_play.specs.Show.{shown, capped, first_lines, is_frame, is_text, summary_of}
 use Rattle.sim_play.specs.declared.labels.Labels.{Labels}
 use Rattle.sim_play.specs.declared.labels.Show.TheVariants.{Summary}
 use Rattle.sim_play.proofs.Grows.{begins_none, grows_none, grows_same}

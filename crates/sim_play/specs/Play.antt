@@ -13,8 +13,7 @@ use Rattle.run_meaning.specs.Run.{IsRun, Passed, RunState}
 use Rattle.run_meaning.specs.Steps.{Step, entries, steps}
 use Rattle.sim_core.specs.Core.{CoreState, rows_of, run_of}
 use Rattle.sim_play.specs.Profile.{profile_of}
-use Rattle.sim_play.specs.Show.{shown, shown_first}
-use Rattle.sim_play.specs.Summary.{summary_of}
+use Rattle.sim_play.specs.Show.{shown, shown_first, summary_of}
 use Rattle.sim_play.specs.declared.labels.Labels.{Labels}
 use Rattle.sim_play.specs.declared.labels.Show.{Show}
 use Rattle.sim_play.specs.declared.labels.Show.TheVariants.{Profile, Summary}

@@ -3,8 +3,8 @@ use Rattle.std.specs.Prelude.{ℕ, ◌+◌, List, [], ◌∷◌, ◌++◌}
 use Rattle.bytecode.specs.declared.code.Handler.{Handler}
 use Rattle.stack_vm.specs.declared.meter.MeterRow.{MeterRow}
 use Rattle.node_run.specs.Node.{NodeInRound}
-use Rattle.sim_text.specs.Profile.{profile_line}
-use Rattle.sim_play.specs.Files.{file_of}
+use Rattle.sim_text.specs.Lines.{profile_line}
+use Rattle.sim_play.specs.Show.{file_of}
 
 -- the lines of handlers, the first of which has the row of a number
 abbrev pub handler_lines : List ℕ → List (List ℕ) → (ℕ → MeterRow) → ℕ → List Handler → List ℕ

@@ -3,7 +3,7 @@
 ghost use Rattle.std.specs.Prelude.{◌≡◌, ◌<◌, ◌≤◌, ◌^◌, ◌++◌, true, false, codes, decimal, length, IfOk, OnOk, OnErr, IsErrOf};
 ghost use Rattle.texts.specs.Fault.{HasRisen};
 ghost use Rattle.sim_outside.specs.Sink.{GrowsBy, GrowsByPrefix};
-ghost use Rattle.sim_text.specs.Window.{window_line};
+ghost use Rattle.sim_text.specs.Lines.{window_line};
 ghost use Rattle.sim_core.specs.declared.simulation.Phase.TheVariants.{New};
 ghost use Rattle.sim_core.specs.Core.{HaveRows};
 ghost use Rattle.sim_play.specs.Out.{IsUnused};

@@ -3,7 +3,7 @@
 ghost use Rattle.std.specs.Prelude.{◌≡◌, ◌+◌, ◌<◌, ◌≤◌, ◌^◌, length, OnOk, OnErr, IsErrOf};
 ghost use Rattle.texts.specs.Fault.{HasRisen};
 ghost use Rattle.sim_outside.specs.Sink.{GrowsBy, GrowsByPrefix};
-ghost use Rattle.sim_play.specs.Files.{file_of};
+ghost use Rattle.sim_play.specs.Show.{file_of};
 ghost use Rattle.sim_play.specs.Profile.{handler_lines};
 ghost use Rattle.sim_play.specs.Inside.Counted.{handler_line, handlers_of, lines_from, row_count, row_in};
 

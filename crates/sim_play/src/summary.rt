@@ -3,11 +3,11 @@
 ghost use Rattle.std.specs.Prelude.{◌≡◌, ◌<◌, ◌≤◌, ◌^◌, length, sum_by, OnOk, OnErr, IsErrOf};
 ghost use Rattle.texts.specs.Fault.{HasRisen};
 ghost use Rattle.sim_outside.specs.Sink.{GrowsBy, GrowsByPrefix};
-ghost use Rattle.sim_text.specs.Summary.{summary_line};
+ghost use Rattle.sim_text.specs.Lines.{summary_line};
 ghost use Rattle.sim_core.specs.declared.simulation.Phase.TheVariants.{New};
 ghost use Rattle.sim_play.specs.declared.labels.Show.TheVariants.{Summary};
 ghost use Rattle.sim_play.specs.Play.{AreNewRows, HasPlayed, IsPlayedInPart};
-ghost use Rattle.sim_play.specs.Summary.{capped, first_lines};
+ghost use Rattle.sim_play.specs.Show.{capped, first_lines};
 
 use crate::labels::Labels;
 use crate::piece::write_piece;

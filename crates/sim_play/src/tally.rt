@@ -16,7 +16,7 @@ pub(crate) struct Tally {
 
 impl Record for Tally {
     ghost use Rattle.std.specs.Prelude.{◌≡◌, None};
-    ghost use Rattle.sim_play.specs.Summary.{is_frame, is_text};
+    ghost use Rattle.sim_play.specs.Show.{is_frame, is_text};
     ghost use Rattle.sim_play.specs.Inside.Tallied.{count_after};
 
     ghost meaning = { record {

@@ -21,24 +21,21 @@ use Rattle.run_laws.specs.Sources.{first_source_nodes}
 use Rattle.run_meaning.specs.Counts.{row_then}
 use Rattle.run_meaning.specs.Run.{IsRun, Passed, RunState, new_run}
 use Rattle.run_meaning.specs.Steps.{Step, entries, steps}
-use Rattle.sim_inputs.specs.Accepted.{AreAccepted, IsFirstBlame}
+use Rattle.sim_inputs.specs.Accepted.{AreAccepted, IsFirstBlame, IsNodeSource, NodeSource}
 use Rattle.sim_inputs.specs.Law.{SayTheSame}
-use Rattle.sim_inputs.specs.Nodes.{IsNodeSource, NodeSource}
-use Rattle.sim_play.specs.Show.{shown, shown_first}
-use Rattle.sim_play.specs.Summary.{summary_of}
+use Rattle.sim_play.specs.Show.{shown, shown_first, summary_of}
 use Rattle.sim_play.specs.declared.labels.Labels.{Labels}
 use Rattle.sim_play.specs.declared.labels.Show.{Show}
 use Rattle.sim_play.specs.declared.labels.Show.TheVariants as show
-use Rattle.sim_text.specs.Blame.{blame_line}
-use Rattle.source_laws.specs.Source.{SourceMemory, by_source_reaction}
+use Rattle.sim_text.specs.Lines.{blame_line}
+use Rattle.source_laws.specs.Reaction.{SourceMemory, by_source_reaction}
 use Rattle.sim_run.proofs.CommandLemmas.{AsksSame, asked_or_none, one_asked}
 use Rattle.sim_run.proofs.LoadedLemmas.{nothing_due}
 use Rattle.sim_run.proofs.SourceLemmas.{nodes_of_programs}
 use Rattle.sim_run.specs.Inside.Sources.{first_nodes}
 use Rattle.sim_run.specs.Answer.{IsAnswer, IsAnswerOf, IsAnswerOn, IsAnsweredOn, IsRefused, IsShown}
 use Rattle.sim_run.specs.Command.{IsAsked}
-use Rattle.sim_run.specs.Run.{IsRunOf, first_rows, rows_in}
-use Rattle.sim_run.specs.Shown.{labels_of, node_lines, shown_last, shown_of}
+use Rattle.sim_run.specs.Run.{IsRunOf, first_rows, rows_in, labels_of, node_lines, shown_last, shown_of}
 use Rattle.sim_run.specs.declared.status.Status.{Status}
 use Rattle.sim_run.specs.declared.status.Status.TheVariants.{Done, Refused, Usage, ReadFault, WriteFault, OutOfMemory}
 

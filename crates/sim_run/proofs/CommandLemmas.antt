@@ -3,7 +3,7 @@ use Rattle.std.proofs.Common.{◌≡◌, ℕ, List, [], ◌∷◌, Option, inl, 
 use Rattle.std.specs.Prelude.{codes, decimal}
 use Rattle.std.proofs.lemmas.Fmt.{decimal_injective}
 use Rattle.capl_include.specs.Expansion.{Contents}
-use Rattle.sim_gen.specs.Files.{generated_files}
+use Rattle.sim_gen.specs.Generated.{generated_files}
 use Rattle.sim_play.specs.declared.labels.Show.{Show}
 use Rattle.sim_run.specs.declared.command.Command.{Command}
 use Rattle.sim_run.specs.declared.command.Command.TheVariants.{Check, Window, Log, Run, Profile}

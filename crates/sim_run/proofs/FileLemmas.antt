@@ -8,7 +8,7 @@ use Rattle.std.proofs.lemmas.Slice.Zip.{AllZip-long}
 use Rattle.bytecode.specs.declared.code.Handler as coded
 use Rattle.capl_include.specs.declared.expanded.SourceFile.{SourceFile}
 use Rattle.capl_meaning.specs.Names.{Names, inside, names_of}
-use Rattle.capl_meaning.specs.Procedure.{Handler, event_of, handlers_in, handlers_of_part}
+use Rattle.capl_meaning.specs.Statement.{Handler, event_of, handlers_in, handlers_of_part}
 use Rattle.capl_meaning.specs.Variable.{Part, Globals, Procedure, parts_of, parts_of_files, parts_of_items}
 use Rattle.capl_tree.specs.declared.file.FileTree.{FileTree}
 use Rattle.capl_tree.specs.declared.file.Program.{Program}
@@ -17,9 +17,9 @@ use Rattle.capl_tree.specs.declared.file.TopItem.TheVariants as top
 use Rattle.capl_tree.specs.declared.procedure.Proc.{Proc}
 use Rattle.dbc_reader.specs.declared.message.DbcMessage.{DbcMessage}
 use Rattle.run_effects.specs.declared.event.Event.{Event}
-use Rattle.source_compiler.specs.Program.{AreTreesOf, HasTree}
+use Rattle.source_compiler.specs.Source.{AreTreesOf, HasTree}
 use Rattle.source_laws.specs.Code.{IsEntryOf}
-use Rattle.sim_inputs.specs.Nodes.{NodeSource, file_names}
+use Rattle.sim_inputs.specs.Accepted.{NodeSource, file_names}
 
 -- ---- the parts of a program
 

@@ -23,9 +23,9 @@ use Rattle.sim_inputs.specs.Answer.{IsPlayable}
 use Rattle.scenario.specs.declared.scenario.Scenario.{Scenario}
 use Rattle.sim_core.specs.Core.{IsLoaded}
 use Rattle.sim_inputs.specs.Answer.{AreCodesFor}
-use Rattle.sim_inputs.specs.Nodes.{NodeSource, file_names}
+use Rattle.sim_inputs.specs.Accepted.{NodeSource, file_names}
 use Rattle.sim_play.specs.Play.{AreLabelsOf, AreNewRows, HaveFiles, StandInOrder}
-use Rattle.source_compiler.specs.Program.{AreTreesOf, lines_of}
+use Rattle.source_compiler.specs.Source.{AreTreesOf, lines_of}
 use Rattle.source_laws.specs.Code.{HasSourceTables, IsSourceCode}
 use Rattle.stack_vm.specs.declared.meter.MeterRow.{MeterRow}
 use Rattle.sim_run.proofs.FileLemmas.{files_number_entries}

@@ -22,11 +22,11 @@ use Rattle.scenario.specs.declared.scenario.Epoch.{Epoch}
 use Rattle.scenario.specs.declared.scenario.KeyItem.{KeyItem}
 use Rattle.scenario.specs.declared.scenario.Scenario.{Scenario}
 use Rattle.sim_inputs.proofs.ReplayLemmas.{one_log}
-use Rattle.sim_inputs.specs.Nodes.{NodeSource}
+use Rattle.sim_inputs.specs.Accepted.{NodeSource}
 use Rattle.sim_play.specs.Show.{interface_of, shown}
 use Rattle.sim_play.specs.declared.labels.Labels.{Labels}
 use Rattle.sim_play.specs.declared.labels.Show.TheVariants as show
-use Rattle.source_laws.specs.Source.{SourceMemory, by_source_reaction, first_source_node}
+use Rattle.source_laws.specs.Reaction.{SourceMemory, by_source_reaction, first_source_node}
 use Rattle.source_logs.specs.Silent.{IsSilent}
 use Rattle.stack_vm.specs.declared.meter.MeterRow.{MeterRow}
 use Rattle.sim_run.proofs.AnswerLemmas.{AcceptedLaw, moved_answer, moved_shown}
@@ -35,7 +35,7 @@ use Rattle.sim_run.specs.Inside.Sources.{first_nodes}
 use Rattle.sim_run.specs.Answer.{IsAnswer, IsAnsweredOn, IsShown}
 use Rattle.sim_run.specs.Command.{IsCommand, show_of}
 use Rattle.sim_run.specs.Logs.{IsRecorded, IsReplayedBySilent}
-use Rattle.sim_run.specs.Shown.{labels_of, shown_of}
+use Rattle.sim_run.specs.Run.{labels_of, shown_of}
 use Rattle.sim_run.specs.declared.command.Command.{Command}
 use Rattle.sim_run.specs.declared.command.Command.TheVariants.{Log}
 use Rattle.sim_run.specs.declared.status.Status.TheVariants.{Done}

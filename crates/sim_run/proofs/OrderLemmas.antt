@@ -5,7 +5,7 @@ use Rattle.std.specs.Option.{unwrap_or}
 use Rattle.can_bus.specs.Bus.{new_bus}
 use Rattle.capl_include.specs.Expansion.{Contents}
 use Rattle.dbc_reader.specs.declared.message.DbcMessage.{DbcMessage}
-use Rattle.node_rounds.specs.Entries.{line_entries}
+use Rattle.node_rounds.specs.Effects.{line_entries}
 use Rattle.replay_node.specs.declared.replay.Replay.{Replay}
 use Rattle.run_meaning.specs.Counts.{row_then}
 use Rattle.run_meaning.specs.Run.{Passed, new_run}
@@ -14,9 +14,8 @@ use Rattle.run_meaning.proofs.Counts.{rows_stay}
 use Rattle.run_records.specs.declared.record.Noted.{Noted}
 use Rattle.run_records.specs.declared.record.Noted.TheVariants as entry
 use Rattle.scenario.specs.declared.scenario.Scenario.{Scenario}
-use Rattle.sim_inputs.specs.Accepted.{AreAccepted}
+use Rattle.sim_inputs.specs.Accepted.{AreAccepted, NodeSource}
 use Rattle.sim_inputs.specs.Law.{SayTheSame}
-use Rattle.sim_inputs.specs.Nodes.{NodeSource}
 use Rattle.sim_play.specs.Show.{piece, shown}
 use Rattle.sim_play.specs.declared.labels.Labels.{Labels}
 use Rattle.sim_play.specs.declared.labels.Show.{Show}
@@ -30,8 +29,7 @@ use Rattle.sim_run.specs.Inside.Sources.{first_nodes}
 use Rattle.sim_run.specs.Answer.{IsAnswer, IsAnswerOf, IsAnsweredOn, IsShown}
 use Rattle.sim_run.specs.Command.{IsCommand, show_of}
 use Rattle.sim_run.specs.Orders.{AreAnswered, AreReordered, DifferInPicks}
-use Rattle.sim_run.specs.Run.{first_rows, procedures_in, rows_in}
-use Rattle.sim_run.specs.Shown.{labels_of, node_lines, shown_of}
+use Rattle.sim_run.specs.Run.{first_rows, procedures_in, rows_in, labels_of, node_lines, shown_of}
 use Rattle.sim_run.specs.declared.command.Command.{Command}
 use Rattle.sim_run.specs.declared.command.Command.TheVariants.{Check, Log, Profile, Run, Window}
 use Rattle.sim_run.specs.declared.status.Status.TheVariants.{Done}

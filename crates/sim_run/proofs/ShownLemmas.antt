@@ -10,7 +10,7 @@ use Rattle.std.proofs.lemmas.Slice.Zip.{AllZip-long}
 use Rattle.bytecode.specs.declared.code.Code.{Code}
 use Rattle.bytecode.specs.declared.code.Handler as coded
 use Rattle.can_bus.specs.Bus.{BusState, new_bus, one_channel}
-use Rattle.capl_meaning.specs.Procedure.{Handler, handlers_in}
+use Rattle.capl_meaning.specs.Statement.{Handler, handlers_in}
 use Rattle.capl_tree.specs.declared.file.Program.{Program}
 use Rattle.dbc_reader.specs.declared.message.DbcMessage.{DbcMessage}
 use Rattle.node_rounds.specs.Reaction.{NodeState}
@@ -29,30 +29,27 @@ use Rattle.scenario.specs.declared.scenario.NodeItem.{NodeItem}
 use Rattle.scenario.specs.declared.scenario.Scenario.{Scenario}
 use Rattle.sim_core.specs.Core.{CoreState, new_core, rows_of}
 use Rattle.sim_inputs.specs.Answer.{AreCodesFor}
-use Rattle.sim_inputs.specs.Nodes.{NodeSource, file_names}
+use Rattle.sim_inputs.specs.Accepted.{NodeSource, file_names}
 use Rattle.sim_outside.specs.Sink.{GrowsBy, GrowsByPrefix}
 use Rattle.sim_play.proofs.RowLemmas.{row_from_none}
 use Rattle.sim_play.specs.Play as play
 use Rattle.sim_play.specs.Play.{HasPlayed, IsPlayedInPart, procedures_of, rows_then, shown_run}
-use Rattle.sim_play.specs.Files.{file_of}
+use Rattle.sim_play.specs.Show.{file_of, shown, shown_first, summary_of}
 use Rattle.sim_play.specs.Profile.{handler_lines, profile_of}
-use Rattle.sim_play.specs.Show.{shown, shown_first}
-use Rattle.sim_play.specs.Summary.{summary_of}
 use Rattle.sim_play.specs.declared.labels.Labels.{Labels}
 use Rattle.sim_play.specs.declared.labels.Show.{Show}
 use Rattle.sim_play.specs.declared.labels.Show.TheVariants.{Window, Log, Both, Profile, Summary}
-use Rattle.sim_text.specs.Profile.{profile_line}
+use Rattle.sim_text.specs.Lines.{profile_line}
 use Rattle.source_compiler.proofs.LineLemmas.{line_told}
-use Rattle.source_compiler.specs.Program.{lines_of}
+use Rattle.source_compiler.specs.Source.{lines_of}
 use Rattle.source_laws.specs.Code.{IsEntryOf, HasSourceTables}
-use Rattle.source_laws.specs.Source.{SourceMemory, by_source_reaction}
+use Rattle.source_laws.specs.Reaction.{SourceMemory, by_source_reaction}
 use Rattle.stack_vm.specs.declared.meter.MeterRow.{MeterRow}
 use Rattle.sim_run.proofs.LoadedLemmas.{TablesLaw}
 use Rattle.sim_run.proofs.SourceLemmas.{nodes_of_programs}
 use Rattle.sim_run.specs.Inside.Loaded.{AreLoaded, loaded_nodes, no_run, rows_of_code}
 use Rattle.sim_run.specs.Inside.Played.{IsCut, IsPlayed, labels_with}
-use Rattle.sim_run.specs.Run.{IsRunOf, first_rows, procedures_in, rows_in}
-use Rattle.sim_run.specs.Shown.{labels_of, node_lines, procedure_lines, shown_last, shown_of}
+use Rattle.sim_run.specs.Run.{IsRunOf, first_rows, procedures_in, rows_in, labels_of, node_lines, procedure_lines, shown_last, shown_of}
 
 -- ---- a node
 

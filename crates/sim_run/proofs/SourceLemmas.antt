@@ -3,8 +3,8 @@ use Rattle.std.proofs.Common.{◌≡◌, ℕ, List, [], ◌∷◌, map, refl, ap
 use Rattle.dbc_reader.specs.declared.message.DbcMessage.{DbcMessage}
 use Rattle.node_rounds.specs.Reaction.{NodeState}
 use Rattle.run_laws.specs.Sources.{first_source_nodes}
-use Rattle.sim_inputs.specs.Nodes.{NodeSource}
-use Rattle.source_laws.specs.Source.{SourceMemory, first_source_node}
+use Rattle.sim_inputs.specs.Accepted.{NodeSource}
+use Rattle.source_laws.specs.Reaction.{SourceMemory, first_source_node}
 use Rattle.sim_run.specs.Inside.Sources.{first_nodes}
 
 -- the nodes of sources are those of their programs

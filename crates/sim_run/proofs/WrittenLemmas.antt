@@ -12,22 +12,19 @@ use Rattle.replay_node.specs.declared.replay.Replay.{Replay}
 use Rattle.dbc_reader.specs.declared.message.DbcMessage.{DbcMessage}
 use Rattle.capl_include.specs.Expansion.{Contents}
 use Rattle.run_meaning.specs.Steps.{Step, steps}
-use Rattle.sim_gen.specs.Files.{made_contents, scenario_name}
-use Rattle.sim_gen.specs.Generated.{generated}
+use Rattle.sim_gen.specs.Generated.{made_contents, scenario_name, generated}
 use Rattle.sim_gen.specs.declared.generated.Made.{Made}
-use Rattle.sim_inputs.specs.Accepted.{AreAccepted, IsFirstBlame}
+use Rattle.sim_inputs.specs.Accepted.{AreAccepted, IsFirstBlame, NodeSource}
 use Rattle.sim_inputs.specs.Answer.{AreInputsOf}
-use Rattle.sim_inputs.specs.Nodes.{NodeSource}
 use Rattle.sim_inputs.specs.declared.inputs.Inputs.{Inputs}
 use Rattle.sim_play.specs.declared.labels.Show.{Show}
 use Rattle.sim_play.specs.declared.labels.Show.TheVariants.{Summary}
-use Rattle.sim_text.specs.Blame.{blame_line}
+use Rattle.sim_text.specs.Lines.{blame_line}
 use Rattle.sim_run.specs.Answer.{IsAnswer, IsAnswerOf, IsAnswerOn, IsAnsweredInPart, IsBegun, IsShown}
 use Rattle.sim_run.specs.Command.{IsAsked, IsGenerated}
 use Rattle.sim_run.specs.Inside.Answer.{IsBegunOn, status_after}
 use Rattle.sim_run.specs.Inside.Played.{AnswersInputs, IsCut}
-use Rattle.sim_run.specs.Run.{rows_in}
-use Rattle.sim_run.specs.Shown.{shown_of}
+use Rattle.sim_run.specs.Run.{rows_in, shown_of}
 use Rattle.sim_run.specs.declared.status.Status.{Status}
 use Rattle.sim_run.specs.declared.status.Status.TheVariants.{Done, Refused, WriteFault, OutOfMemory}
 use Rattle.sim_run.proofs.AnswerLemmas.{moved_answer}

@@ -10,14 +10,12 @@ use Rattle.capl_include.specs.Expansion.{Contents}
 use Rattle.run_meaning.specs.Counts.{row_then}
 use Rattle.run_meaning.specs.Run.{Passed}
 use Rattle.run_meaning.specs.Steps.{Step, entries, steps}
-use Rattle.sim_inputs.specs.Accepted.{AreAccepted, IsFirstBlame}
-use Rattle.sim_inputs.specs.Nodes.{NodeSource}
+use Rattle.sim_inputs.specs.Accepted.{AreAccepted, IsFirstBlame, NodeSource}
 use Rattle.sim_play.specs.Show.{shown, shown_first}
 use Rattle.sim_play.specs.declared.labels.Show.{Show}
-use Rattle.sim_text.specs.Blame.{blame_line}
+use Rattle.sim_text.specs.Lines.{blame_line}
 use Rattle.sim_run.specs.Command.{IsAsked, IsNoCommand}
-use Rattle.sim_run.specs.Run.{IsRunOf, first_rows, rows_in}
-use Rattle.sim_run.specs.Shown.{labels_of, shown_of}
+use Rattle.sim_run.specs.Run.{IsRunOf, first_rows, rows_in, labels_of, shown_of}
 use Rattle.sim_run.specs.declared.status.Status.{Status}
 use Rattle.sim_run.specs.declared.status.Status.TheVariants.{Done, Refused, Usage}
 

@@ -1,7 +1,7 @@
 -- The words of the command line, and what they ask for.
 use Rattle.std.specs.Prelude.{◌≡◌, ◌⊎◌, ◌≤◌, ℕ, List, [], ◌∷◌, codes, decimal, Option, None, Some}
 use Rattle.capl_include.specs.Expansion.{Contents}
-use Rattle.sim_gen.specs.Files.{generated_files, scenario_name}
+use Rattle.sim_gen.specs.Generated.{generated_files, scenario_name}
 use Rattle.sim_play.specs.declared.labels.Show.{Show}
 use Rattle.sim_play.specs.declared.labels.Show.TheVariants as show
 use Rattle.sim_run.specs.declared.command.Command.{Command}

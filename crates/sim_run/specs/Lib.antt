@@ -5,5 +5,4 @@ pub mod Inside
 pub mod Logs
 pub mod Orders
 pub mod Run
-pub mod Shown
 pub mod Status

@@ -6,9 +6,7 @@ use Rattle.replay_node.specs.Spaced.{IsSpacedLog}
 use Rattle.replay_node.specs.declared.replay.Replay.{Replay}
 use Rattle.scenario.specs.declared.scenario.Scenario.{Scenario}
 use Rattle.source_logs.specs.Silent.{IsSilent}
-use Rattle.sim_inputs.specs.Accepted.{AreAccepted}
-use Rattle.sim_inputs.specs.Nodes.{NodeSource}
-use Rattle.sim_inputs.specs.Replay.{LogAt}
+use Rattle.sim_inputs.specs.Accepted.{AreAccepted, NodeSource, LogAt}
 
 -- the bytes are a log that the bus of a scenario can have had: well spaced, on its interface and for its
 -- bits, from the epoch of its replay to its end moment

@@ -5,15 +5,14 @@ use Rattle.dbc_reader.specs.declared.message.DbcMessage.{DbcMessage}
 use Rattle.replay_node.specs.declared.replay.Replay.{Replay}
 use Rattle.run_meaning.specs.Steps.{Step}
 use Rattle.scenario.specs.declared.scenario.Scenario.{Scenario}
-use Rattle.sim_inputs.specs.Accepted.{AreAccepted}
+use Rattle.sim_inputs.specs.Accepted.{AreAccepted, NodeSource}
 use Rattle.sim_inputs.specs.Law.{SayTheSame}
-use Rattle.sim_inputs.specs.Nodes.{NodeSource}
 use Rattle.sim_play.specs.declared.labels.Show.{Show}
 use Rattle.stack_vm.specs.declared.meter.MeterRow.{MeterRow}
 use Rattle.task_orders.specs.Values.{DifferInOrder}
 use Rattle.sim_run.specs.Answer.{IsAnswer}
 use Rattle.sim_run.specs.Command.{IsCommand}
-use Rattle.sim_run.specs.Shown.{shown_of}
+use Rattle.sim_run.specs.Run.{shown_of}
 use Rattle.sim_run.specs.declared.command.Command.{Command}
 use Rattle.sim_run.specs.declared.status.Status.TheVariants.{Done}
 

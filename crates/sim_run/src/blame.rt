@@ -3,7 +3,7 @@
 ghost use Rattle.std.specs.Prelude.{◌≡◌, false, IsErrOf};
 ghost use Rattle.texts.specs.Fault.{HasRisen};
 ghost use Rattle.sim_outside.specs.Sink.{Writes};
-ghost use Rattle.sim_text.specs.Blame.{blame_line};
+ghost use Rattle.sim_text.specs.Lines.{blame_line};
 
 use sim_outside::{Sink, SinkRefusal};
 use sim_play::Out;

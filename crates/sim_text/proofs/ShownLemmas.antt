@@ -4,8 +4,8 @@ use Rattle.std.specs.Prelude.{All, codes, ◌==◌, ◌≢◌}
 use Rattle.std.proofs.lemmas.Bool.Decides.{nat_tests}
 use Rattle.std.proofs.lemmas.List.{take-replicate}
 use Rattle.std.proofs.lemmas.List.Elements.{All-head, All-tail}
-use Rattle.text_parts.specs.Digits.{zero_filled}
-use Rattle.sim_text.specs.Shown.{shown_text}
+use Rattle.text_parts.specs.Number.{zero_filled}
+use Rattle.sim_text.specs.Lines.{shown_text}
 
 -- a byte that is shown as it is
 abbrev pub IsPlain : ℕ → Type 0

@@ -1,7 +1,7 @@
 // The line of a broken rule.
 
 ghost use Rattle.std.specs.Prelude.{◌≡◌, ◌++◌, IfOk, OnOk};
-ghost use Rattle.sim_text.specs.Blame.{blame_line, place_text, rule_text};
+ghost use Rattle.sim_text.specs.Lines.{blame_line, place_text, rule_text};
 
 use crate::number::append_number;
 use crate::shown::append_shown;

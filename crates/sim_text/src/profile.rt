@@ -1,7 +1,7 @@
 // The line of an event procedure in a profile.
 
 ghost use Rattle.std.specs.Prelude.{◌≡◌, ◌++◌, IfOk, OnOk, decimal, codes};
-ghost use Rattle.sim_text.specs.Profile.{event_word, profile_line};
+ghost use Rattle.sim_text.specs.Lines.{event_word, profile_line};
 
 use crate::number::append_number;
 use crate::shown::append_shown;

@@ -1,7 +1,7 @@
 // Texts as they are shown in a line.
 
 ghost use Rattle.std.specs.Prelude.{◌≡◌, ◌++◌, OnOk};
-ghost use Rattle.sim_text.specs.Shown.{shown_text};
+ghost use Rattle.sim_text.specs.Lines.{shown_text};
 
 use texts::NoMemory;
 

@@ -1,7 +1,7 @@
 // The line of the run of a generated scenario.
 
 ghost use Rattle.std.specs.Prelude.{◌≡◌, IfOk};
-ghost use Rattle.sim_text.specs.Summary.{summary_line};
+ghost use Rattle.sim_text.specs.Lines.{summary_line};
 
 use crate::number::append_number;
 use std::alloc::Global;

@@ -1,8 +1,8 @@
 // The line of a text that a node writes.
 
 ghost use Rattle.std.specs.Prelude.{◌≡◌, ◌<◌, ◌++◌, IfOk, OnOk, codes, decimal};
-ghost use Rattle.text_parts.specs.Digits.{zero_filled};
-ghost use Rattle.sim_text.specs.Window.{moment_text, window_line};
+ghost use Rattle.text_parts.specs.Number.{zero_filled};
+ghost use Rattle.sim_text.specs.Lines.{moment_text, window_line};
 
 use crate::number::append_number;
 use crate::shown::append_shown;

@@ -9,7 +9,7 @@ use Rattle.capl_tree.specs.declared.expr.Field.{Field}
 use Rattle.capl_tree.specs.declared.expr.Field.TheVariants.{Named}
 use Rattle.capl_tree.specs.Forms as form
 use Rattle.capl_tree.specs.Spelling as spell
-use Rattle.capl_tree.specs.Signs.{assignment_sign, operator_sign, postfix_sign}
+use Rattle.capl_tree.specs.Binding.{assignment_sign, operator_sign, postfix_sign}
 use Rattle.capl_tree.specs.Spelling.{expression}
 use Rattle.capl_tree.specs.FileSpelling.{part}
 use Rattle.capl_tree.specs.Weight.{expression_weight, expressions_weight, field_weight, part_weight}

@@ -3,7 +3,7 @@ use Rattle.std.proofs.Common.{◌≡◌, ◌≢◌, ℕ, zero, suc, ◌<◌, ◌
 use Rattle.std.specs.Prelude.{All, AllPairs, map}
 use Rattle.std.specs.List.{cons_option}
 use Rattle.std.proofs.lemmas.List.Elements.{All-nil, All-cons, All-head, All-tail}
-use Rattle.run_effects.specs.Event.{KeepsSelectors, KeepsTimers, key_of, selectors_of, timer_of}
+use Rattle.run_effects.specs.Effect.{KeepsSelectors, KeepsTimers, key_of, selectors_of, timer_of}
 use Rattle.bytecode.specs.declared.code.Fun.{Fun}
 use Rattle.bytecode.specs.declared.code.Handler.{Handler}
 use Rattle.bytecode.specs.declared.instr.Instr.{Instr}

@@ -5,7 +5,7 @@ use Rattle.std.specs.List.{AllByRecursion}
 use Rattle.std.proofs.Common.{refl, ap, sym, subst}
 use Rattle.std.proofs.lemmas.List.Elements.{All-nil, All-cons, All-head, All-tail}
 use Rattle.int_kinds.specs.Kind.{IsNumber}
-use Rattle.write_format.specs.Format.{FormatText, numbers_taken}
+use Rattle.write_format.specs.Line.{FormatText, numbers_taken}
 use Rattle.sound_check.proofs.Loops.{some_within}
 use Rattle.typed_tree.specs.declared.statement.TArm.{TArm}
 use Rattle.typed_tree.specs.declared.statement.TGroup.{TGroup}

@@ -1,10 +1,8 @@
 -- The tables of a program, and code that has them and does nothing.
 use Rattle.std.specs.Prelude.{◌≢◌, ◌<◌, ◌^◌, false, List, [], ◌∷◌, length, map, All, AllPairs}
-use Rattle.write_format.specs.Arrays.{IsCharArray}
-use Rattle.write_format.specs.Format.{char_arrays}
+use Rattle.write_format.specs.Line.{IsCharArray, char_arrays}
 use Rattle.message_cells.specs.Cells.{BeginWithEvent, IsHeldStart}
-use Rattle.run_effects.specs.Duration.{IsUnit}
-use Rattle.run_effects.specs.Event.{KeepsSelectors, KeepsTimers, selectors_of}
+use Rattle.run_effects.specs.Effect.{IsUnit, KeepsSelectors, KeepsTimers, selectors_of}
 use Rattle.bytecode.specs.declared.code.Code.{Code}
 use Rattle.bytecode.specs.declared.code.Handler.{Handler}
 use Rattle.bytecode.specs.declared.instr.Instr.TheVariants.{Ret}

@@ -1,8 +1,8 @@
 // Whether whole programs are sound.
 
 ghost use Rattle.std.specs.Prelude.{◌≡◌, ◌≢◌, ◌↔◌, ◌<◌, ◌^◌, ℕ, All, AllPairs, IfOk, IsTrue, Some, length, slice_get};
-ghost use Rattle.write_format.specs.Format.{IsShort};
-ghost use Rattle.run_effects.specs.Event.{selectors_of};
+ghost use Rattle.write_format.specs.Line.{IsShort};
+ghost use Rattle.run_effects.specs.Effect.{selectors_of};
 ghost use Rattle.typed_tree.specs.declared.program.TFun.{TFun};
 ghost use Rattle.typed_tree.specs.Sound.{IsShortProgram, IsSound, IsSoundFunction, IsSoundHandler};
 ghost use Rattle.sound_check.specs.Tables.{HaveFewSelectors};

@@ -6,7 +6,7 @@ ghost use Rattle.std.specs.List.Sorted.{IsSorted};
 ghost use Rattle.std.specs.Option.{option_cmp};
 ghost use Rattle.std.specs.Ordering.{int_cmp};
 ghost use Rattle.int_kinds.specs.Kind.{IsNumber};
-ghost use Rattle.write_format.specs.Format.{numbers_taken};
+ghost use Rattle.write_format.specs.Line.{numbers_taken};
 ghost use Rattle.typed_tree.specs.SoundExpression.{IsSoundExpr};
 ghost use Rattle.typed_tree.specs.SoundStatement.{IsPlainStmt, IsSoundOption, IsSoundStmt};
 ghost use Rattle.sound_check.specs.Around.{around_of};

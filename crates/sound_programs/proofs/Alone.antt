@@ -15,7 +15,7 @@ use Rattle.int_kinds.specs.declared.operators.BinOp.{BinOp}
 use Rattle.int_kinds.specs.declared.operators.UnOp.{UnOp}
 use Rattle.int_kinds.specs.declared.operators.UnOp.TheVariants as prefix
 use Rattle.int_kinds.specs.Kind.{IsNumber}
-use Rattle.write_format.specs.Format.{FormatText, numbers_taken}
+use Rattle.write_format.specs.Line.{FormatText, numbers_taken}
 use Rattle.message_cells.specs.Message.{IsMessage}
 use Rattle.capl_tree.specs.declared.expr.Expr.{Expr, Row_of-Expr, end_of-Expr, more_of-Expr, items-the_row-Expr}
 use Rattle.capl_tree.specs.declared.expr.Expr.TheVariants as expr

@@ -7,7 +7,7 @@ use Rattle.std.specs.Option.{option_and_then, option_map}
 use Rattle.std.proofs.lemmas.Bool.{eqb-true, le-leb, leb-true}
 use Rattle.std.proofs.lemmas.Cmp.{nat_eq_equiv}
 use Rattle.run_effects.specs.declared.event.Selector.{Selector}
-use Rattle.run_effects.specs.Event.{AreApart, IsWithin}
+use Rattle.run_effects.specs.Effect.{AreApart, IsWithin}
 use Rattle.dbc_reader.specs.declared.message.DbcMessage.{DbcMessage}
 use Rattle.capl_tree.specs.declared.procedure.SelWhat.{SelWhat}
 use Rattle.capl_tree.specs.declared.procedure.SelWhat.TheVariants as selected

@@ -14,8 +14,7 @@ use Rattle.capl_meaning.specs.Names.{Names, names_of}
 use Rattle.capl_meaning.specs.Constant.{elements_of}
 use Rattle.capl_meaning.specs.Initial.{first_store}
 use Rattle.capl_meaning.specs.Offences.{offences_of}
-use Rattle.capl_meaning.specs.Size.{cells_of_program, size_of_form}
-use Rattle.capl_meaning.specs.Store.{event_kinds, kinds_by, laid_kinds, lay, unit_of}
+use Rattle.capl_meaning.specs.Store.{cells_of_program, size_of_form, event_kinds, kinds_by, laid_kinds, lay, unit_of}
 use Rattle.typed_laws.proofs.Lists.{replicate_long}
 use Rattle.typed_source.specs.Program.{starts_from, typed_program}
 use Rattle.sound_programs.specs.Given.{IsReadable}

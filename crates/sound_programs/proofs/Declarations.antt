@@ -24,8 +24,7 @@ use Rattle.capl_meaning.specs.Names.{Names, NoThis, Scope, ThisForm, inside, nam
 use Rattle.capl_meaning.specs.Sort.{is_bad, sort_of}
 use Rattle.capl_meaning.specs.Constant.{array_length, constant_at, elements_of, length_by, scope_of}
 use Rattle.capl_meaning.specs.ExpressionRules.{integer_offences, offence, offences}
-use Rattle.capl_meaning.specs.InitialiserRules.{constant_needed, constant_offences, initialiser_offences}
-use Rattle.capl_meaning.specs.DeclarationRules.{const_rule, database_rule, declaration_offences, declarator_offences, form_rule, is_identifier, is_in_range, size_offences, size_rule, type_rules}
+use Rattle.capl_meaning.specs.DeclarationRules.{constant_needed, constant_offences, initialiser_offences, const_rule, database_rule, declaration_offences, declarator_offences, form_rule, is_identifier, is_in_range, size_offences, size_rule, type_rules}
 use Rattle.capl_meaning.specs.StatementRules as source
 use Rattle.capl_meaning.specs.StatementRules.{alone_offences, in_body, in_loop, label_offences, labels_said, labels_rule, needed_offences, offences_of_arms, offences_of_else, offences_of_groups, offences_of_statements, statement_offences}
 use Rattle.capl_meaning.specs.ProcedureRules.{head_offences, inner_name_offences, outer_name_offences, purpose_offences}

@@ -8,7 +8,7 @@ use Rattle.std.proofs.lemmas.List.{append-nil}
 use Rattle.std.proofs.lemmas.List.Elements.{All-from_recursion, filter_map-append}
 use Rattle.run_effects.specs.declared.event.Event.{Event}
 use Rattle.run_effects.specs.declared.event.Selector.{Selector}
-use Rattle.run_effects.specs.Event.{AreApart, KeepsSelectors, KeepsTimers, key_of, selectors_of, timer_of}
+use Rattle.run_effects.specs.Effect.{AreApart, KeepsSelectors, KeepsTimers, key_of, selectors_of, timer_of}
 use Rattle.dbc_reader.specs.declared.message.DbcMessage.{DbcMessage}
 use Rattle.capl_tree.specs.declared.file.Program.{Program}
 use Rattle.capl_tree.specs.declared.procedure.Head.{Head}
@@ -19,7 +19,7 @@ use Rattle.typed_tree.specs.Sound.{all_keys, all_selectors, all_timers}
 use Rattle.capl_meaning.specs.Variable.{Form, Timer, Misfit, Part, Globals, Procedure, Variable, is_timer, parts_of}
 use Rattle.capl_meaning.specs.Names.{Names, Scope, global, inside, names_of}
 use Rattle.capl_meaning.specs.Offences.{offences_of, part_offences}
-use Rattle.capl_meaning.specs.Procedure.{Handler, event_of, handlers_of_part, timer_named}
+use Rattle.capl_meaning.specs.Statement.{Handler, event_of, handlers_of_part, timer_named}
 use Rattle.capl_meaning.specs.ProcedureRules.{ForFrames, ForKey, ForTimer, Purpose, Told, collide, head_offences, names_timer, outer_name_offences, purpose_offences, ranges_of, timer_rule, told_by_head, told_by_part}
 use Rattle.capl_meaning.specs.Inside.Names.{is_global}
 use Rattle.capl_meaning.specs.Inside.Procedure.{handlers_of}

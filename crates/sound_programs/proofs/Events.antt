@@ -14,7 +14,7 @@ use Rattle.capl_tree.specs.declared.procedure.Sel.{Sel}
 use Rattle.typed_tree.specs.declared.program.Typed.{Typed}
 use Rattle.capl_meaning.specs.Variable.{Form, Timer, Variable, is_timer}
 use Rattle.capl_meaning.specs.Names.{Names, global}
-use Rattle.capl_meaning.specs.Procedure.{timer_named}
+use Rattle.capl_meaning.specs.Statement.{timer_named}
 use Rattle.capl_meaning.specs.ProcedureRules.{Channels, ForFrames, ForKey, ForTimer, Purpose, Told, channels_of, collide, keys_on, names_timer, ranges_of, selector_of, selector_place, told_by_selector}
 use Rattle.capl_meaning.specs.Store.{same_key, timer_number}
 use Rattle.capl_meaning.specs.Inside.Names.{is_global}

@@ -4,7 +4,7 @@ use Rattle.std.proofs.Common.{◌≡◌, ℕ, ◌+◌, ◌*◌, ◌≤◌, List,
 use Rattle.std.specs.Prelude.{flat_map, sum_by}
 use Rattle.std.proofs.lemmas.List.Sums.{sum_by-cons}
 use Rattle.write_format.specs.declared.piece.Piece.{Piece}
-use Rattle.write_format.specs.Format.{FormatText}
+use Rattle.write_format.specs.Line.{FormatText}
 use Rattle.capl_tree.specs.declared.expr.Expr.{Expr, items-the_row-Expr}
 use Rattle.capl_tree.specs.declared.expr.Expr.TheVariants as expr
 use Rattle.capl_tree.specs.declared.statement.Stmt.{Stmt, Row_of-Stmt, end_of-Stmt, more_of-Stmt}

@@ -15,12 +15,8 @@ use Rattle.write_format.specs.declared.code.Conversion.TheVariants as conversion
 use Rattle.write_format.specs.declared.code.Field.{Field}
 use Rattle.write_format.specs.declared.piece.Piece.{Piece}
 use Rattle.write_format.specs.declared.piece.Piece.TheVariants as piece
-use Rattle.write_format.specs.Arrays.{IsCharArray, cells_of}
-use Rattle.write_format.specs.Element.{Element}
-use Rattle.write_format.specs.Format.{FormatText, IsShortElement, array_of, char_arrays, element_of, format_elements}
-use Rattle.write_format.specs.Front.{piece_at}
-use Rattle.write_format.specs.Line.{before_zero}
-use Rattle.write_format.specs.Reading.{codes_of, is_fit, pieces_of, pieces_within}
+use Rattle.write_format.specs.Line.{IsCharArray, cells_of, Element, FormatText, IsShortElement, array_of, char_arrays, element_of, format_elements, before_zero}
+use Rattle.write_format.specs.Reading.{piece_at, codes_of, is_fit, pieces_of, pieces_within}
 use Rattle.capl_tree.specs.declared.expr.Expr.{Expr, Row_of-Expr, end_of-Expr, more_of-Expr, items-the_row-Expr}
 use Rattle.capl_tree.specs.declared.expr.Expr.TheVariants as expr
 use Rattle.capl_tree.specs.declared.statement.Stmt.{Stmt, Row_of-Stmt, end_of-Stmt, more_of-Stmt}

@@ -6,7 +6,7 @@ use Rattle.std.specs.Option.{option_map_or}
 use Rattle.std.proofs.lemmas.List.Elements.{recursion_from_All}
 use Rattle.run_effects.specs.declared.event.Event.{Event}
 use Rattle.run_effects.specs.declared.event.Selector.{Selector}
-use Rattle.run_effects.specs.Event.{selectors_of}
+use Rattle.run_effects.specs.Effect.{selectors_of}
 use Rattle.dbc_reader.specs.declared.message.DbcMessage.{DbcMessage}
 use Rattle.capl_tree.specs.declared.file.FileTree.{FileTree}
 use Rattle.capl_tree.specs.declared.file.Program.{Program}
@@ -22,7 +22,7 @@ use Rattle.capl_meaning.specs.Variable.{Part, Globals, Procedure, parts_of, part
 use Rattle.capl_meaning.specs.Names.{Function, Names, Scope, function_by, function_of_part, inside, inside_function, names_of}
 use Rattle.capl_meaning.specs.Calls.{function_numbered}
 use Rattle.capl_meaning.specs.Offences.{part_offences}
-use Rattle.capl_meaning.specs.Procedure.{Handler, event_of, handlers_of_part, handlers_in}
+use Rattle.capl_meaning.specs.Statement.{Handler, event_of, handlers_of_part, handlers_in}
 use Rattle.capl_meaning.specs.ProcedureRules.{Both, Channels, First, Second, all_on, channels_of, head_offences, identifiers_on, inner_name_offences, keys_on, ranges_of, selector_of}
 use Rattle.capl_meaning.specs.StatementRules.{in_body, statement_offences}
 use Rattle.typed_laws.specs.Laid.{IsAmong}

@@ -20,7 +20,7 @@ use Rattle.typed_tree.specs.declared.program.Typed.{Typed}
 use Rattle.capl_meaning.specs.Variable.{Part, Globals, Procedure, parts_of, parts_of_files, parts_of_items}
 use Rattle.capl_meaning.specs.Names.{Function, Names, function_by, function_of_part, inside, inside_function, names_of}
 use Rattle.capl_meaning.specs.Calls.{function_numbered}
-use Rattle.capl_meaning.specs.Procedure.{Handler, event_of, handlers_of_part, handlers_in}
+use Rattle.capl_meaning.specs.Statement.{Handler, event_of, handlers_of_part, handlers_in}
 use Rattle.typed_source.specs.Program.{HasNoOther, formats_of_body, formats_of_function, formats_of_functions, formats_of_handlers, functions_of, typed_handlers, typed_program}
 use Rattle.sound_programs.specs.Given.{HasShortLists}
 use Rattle.sound_programs.proofs.FormatCounts.{body_light}

@@ -7,7 +7,7 @@ use Rattle.std.specs.Option.{option_map_or}
 use Rattle.std.proofs.lemmas.List.{length-map}
 use Rattle.std.proofs.lemmas.List.Elements.{All-from_recursion, recursion_from_All}
 use Rattle.std.proofs.lemmas.Option.{slice_get_within}
-use Rattle.write_format.specs.Format.{FormatText}
+use Rattle.write_format.specs.Line.{FormatText}
 use Rattle.dbc_reader.specs.declared.message.DbcMessage.{DbcMessage}
 use Rattle.capl_tree.specs.declared.file.Program.{Program}
 use Rattle.capl_tree.specs.declared.statement.Stmt.{Stmt}
@@ -21,7 +21,7 @@ use Rattle.capl_meaning.specs.Variable.{parts_of, variables_of}
 use Rattle.capl_meaning.specs.Names.{Callee, Function, Names, OfProgram, Scope, callee, function_of_part, inside_function, names_of}
 use Rattle.capl_meaning.specs.Calls.{called_by, called_by_number, names_called, function_numbered, number_of_callee}
 use Rattle.capl_meaning.specs.Offences.{offences_of}
-use Rattle.capl_meaning.specs.Procedure.{Handler}
+use Rattle.capl_meaning.specs.Statement.{Handler}
 use Rattle.capl_meaning.specs.StatementRules.{in_body, statement_offences}
 use Rattle.capl_meaning.specs.Inside.Procedure.{handlers_of}
 use Rattle.typed_laws.specs.Agreement.{ArePlain, parameter_slots}

@@ -3,9 +3,8 @@ use Rattle.std.proofs.Common.{◌≡◌, ℕ, inl, inr, List, [], ◌∷◌, Opt
 use Rattle.std.specs.Prelude.{All, filter_map}
 use Rattle.std.specs.List.{AllByRecursion, cons_option}
 use Rattle.std.proofs.lemmas.List.Elements.{All-from_recursion}
-use Rattle.run_effects.specs.Duration.{IsUnit}
-use Rattle.write_format.specs.Arrays.{IsCharArray}
-use Rattle.write_format.specs.Format.{FormatText, IsShort, char_arrays}
+use Rattle.run_effects.specs.Effect.{IsUnit}
+use Rattle.write_format.specs.Line.{IsCharArray, FormatText, IsShort, char_arrays}
 use Rattle.dbc_reader.specs.declared.message.DbcMessage.{DbcMessage}
 use Rattle.capl_tree.specs.declared.expr.Expr.{Expr}
 use Rattle.capl_tree.specs.declared.file.Program.{Program}
@@ -14,7 +13,7 @@ use Rattle.capl_meaning.specs.Variable.{Form, Timer, Variable}
 use Rattle.capl_meaning.specs.Names.{Function, Names, Scope, inside_function, names_of}
 use Rattle.capl_meaning.specs.Calls.{function_numbered}
 use Rattle.capl_meaning.specs.Offences.{offences_of}
-use Rattle.capl_meaning.specs.Procedure.{Handler}
+use Rattle.capl_meaning.specs.Statement.{Handler}
 use Rattle.capl_meaning.specs.Store.{unit_of}
 use Rattle.capl_meaning.specs.Inside.Procedure.{handlers_of}
 use Rattle.typed_laws.specs.Laid.{IsAmong}

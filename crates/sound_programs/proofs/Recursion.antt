@@ -31,8 +31,7 @@ use Rattle.capl_meaning.specs.Calls.{called_by, called_by_number, calls_in, call
 use Rattle.capl_meaning.specs.Message.{signals_of_type}
 use Rattle.capl_meaning.specs.Sort.{is_recursive, sort_of}
 use Rattle.capl_meaning.specs.ExpressionRules.{call_rules, function_rules, integer_needed, integer_offences, offence, offences, offences_of_field, offences_of_row}
-use Rattle.capl_meaning.specs.InitialiserRules.{array_item_rules, constant_offences, field_item_rules, initialiser_offences, item_offences, many_rules, message_item_rules}
-use Rattle.capl_meaning.specs.DeclarationRules.{const_rule, declaration_offences, declarator_offences, form_rule, size_offences, type_rules}
+use Rattle.capl_meaning.specs.DeclarationRules.{array_item_rules, constant_offences, field_item_rules, initialiser_offences, item_offences, many_rules, message_item_rules, const_rule, declaration_offences, declarator_offences, form_rule, size_offences, type_rules}
 use Rattle.capl_meaning.specs.StatementRules as source
 use Rattle.capl_meaning.specs.StatementRules.{alone_offences, in_body, in_loop, label_offences, labels_said, labels_rule, needed_offences, offences_of_arms, offences_of_else, offences_of_groups, offences_of_statements, return_rule, statement_offences}
 use Rattle.capl_meaning.specs.Offences.{offences_of}

@@ -6,7 +6,7 @@ use Rattle.capl_tree.specs.Weight.{weight}
 use Rattle.typed_tree.specs.Sound.{IsSound}
 use Rattle.capl_meaning.specs.Names.{names_of}
 use Rattle.capl_meaning.specs.Offences.{offences_of}
-use Rattle.capl_meaning.specs.Size.{cells_of_program}
+use Rattle.capl_meaning.specs.Store.{cells_of_program}
 use Rattle.typed_source.specs.Program.{IsGoodOrder, typed_program}
 use Rattle.sound_programs.specs.Given.{IsReadable}
 use Rattle.sound_programs.proofs.Counts.{few_cells}

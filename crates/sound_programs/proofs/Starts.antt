@@ -42,7 +42,7 @@ use Rattle.capl_meaning.specs.Message.{NamedMember, IsField, IsSignal, IsUnusabl
 use Rattle.capl_meaning.specs.Sort.{sort_of_member}
 use Rattle.capl_meaning.specs.Constant.{Constant, constant, elements_of, first_number, known_before, length_at, scope_of}
 use Rattle.capl_meaning.specs.ExpressionRules.{offences}
-use Rattle.capl_meaning.specs.InitialiserRules.{initialiser_offences, one_for_array, one_rules}
+use Rattle.capl_meaning.specs.DeclarationRules.{initialiser_offences, one_for_array, one_rules}
 use Rattle.capl_meaning.specs.Offences.{offences_of}
 use Rattle.capl_meaning.specs.Initial.{declared_message, element_of_form, first_element, first_message, first_store, initial_items, message_of_form, constant_number, number_of_form, number_of_item, number_of_text, plain_message, with_bytes_at, with_field_item, with_item, with_member}
 use Rattle.capl_meaning.specs.Store.{MessageRecord, byte_after, event_kinds, kinds_by, laid_kinds, lay, message_cells, payload, row, with_bytes, with_field, with_payload, with_signal}

@@ -12,10 +12,8 @@ use Rattle.write_format.specs.declared.code.Conversion.TheVariants as conversion
 use Rattle.write_format.specs.declared.code.Field.{Field}
 use Rattle.write_format.specs.declared.piece.Piece.{Piece}
 use Rattle.write_format.specs.declared.piece.Piece.TheVariants as piece
-use Rattle.write_format.specs.Format.{IsShort, IsShortArgument, IsShortElement, element_of, format_elements}
-use Rattle.write_format.specs.Front.{piece_at}
-use Rattle.write_format.specs.Line.{before_zero}
-use Rattle.write_format.specs.Reading.{codes_of, pieces_of, pieces_within}
+use Rattle.write_format.specs.Line.{IsShort, IsShortArgument, IsShortElement, element_of, format_elements, before_zero}
+use Rattle.write_format.specs.Reading.{piece_at, codes_of, pieces_of, pieces_within}
 use Rattle.capl_tree.specs.declared.expr.Expr.{Expr}
 use Rattle.capl_tree.specs.declared.expr.Expr.TheVariants as expr
 use Rattle.capl_tree.specs.Forms as tree

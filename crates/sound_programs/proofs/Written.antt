@@ -16,8 +16,7 @@ use Rattle.write_format.specs.declared.code.Conversion.TheVariants as conversion
 use Rattle.write_format.specs.declared.code.Field.{Field}
 use Rattle.write_format.specs.declared.piece.Piece.{Piece}
 use Rattle.write_format.specs.declared.piece.Piece.TheVariants as piece
-use Rattle.write_format.specs.Element.{Element}
-use Rattle.write_format.specs.Format.{element_of, format_elements, takes_number}
+use Rattle.write_format.specs.Line.{Element, element_of, format_elements, takes_number}
 use Rattle.write_format.specs.Reading.{codes_of, is_fit, pieces_of}
 use Rattle.capl_tree.specs.declared.expr.Expr.{Expr, Row_of-Expr, end_of-Expr, more_of-Expr, items-the_row-Expr}
 use Rattle.capl_tree.specs.Place.{expression_place}

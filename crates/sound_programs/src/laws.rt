@@ -1,10 +1,8 @@
 //! Laws of programs without offences. Each call does nothing: its contract is the law.
 
 ghost use Rattle.std.specs.Prelude.{◌≡◌, ◌≢◌, ◌≤◌, ◌<◌, ◌^◌, ℕ, List, [], Some, false, length, slice_get, All, AllPairs};
-ghost use Rattle.run_effects.specs.Duration.{IsUnit};
-ghost use Rattle.run_effects.specs.Event.{KeepsSelectors, KeepsTimers};
-ghost use Rattle.write_format.specs.Arrays.{IsCharArray};
-ghost use Rattle.write_format.specs.Format.{IsShort, char_arrays};
+ghost use Rattle.run_effects.specs.Effect.{IsUnit, KeepsSelectors, KeepsTimers};
+ghost use Rattle.write_format.specs.Line.{IsCharArray, IsShort, char_arrays};
 ghost use Rattle.message_cells.specs.Cells.{IsHeldStart};
 ghost use Rattle.dbc_reader.specs.declared.message.DbcMessage.{DbcMessage};
 ghost use Rattle.capl_tree.specs.declared.expr.Expr.{Expr};
@@ -19,7 +17,7 @@ ghost use Rattle.capl_meaning.specs.Calls.{called_by_number, reaches};
 ghost use Rattle.capl_meaning.specs.ExpressionRules.{integer_offences};
 ghost use Rattle.capl_meaning.specs.Names.{Scope, names_of};
 ghost use Rattle.capl_meaning.specs.Offences.{offences_of};
-ghost use Rattle.capl_meaning.specs.Size.{cells_of_program};
+ghost use Rattle.capl_meaning.specs.Store.{cells_of_program};
 ghost use Rattle.capl_meaning.specs.Sort.{sort_of};
 ghost use Rattle.typed_source.specs.Program.{HasNoOther, IsGoodOrder, typed_program};
 ghost use Rattle.typed_source.specs.Sound.{HasTables, IsOfNumber};

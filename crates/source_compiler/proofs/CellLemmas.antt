@@ -14,14 +14,13 @@ use Rattle.typed_tree.specs.Sound.{IsSound}
 use Rattle.typed_tree.specs.declared.program.Typed.{Typed}
 use Rattle.capl_meaning.specs.Constant.{elements_of}
 use Rattle.capl_meaning.specs.Names.{Names, names_of}
-use Rattle.capl_meaning.specs.Size.{cells_of_program, size_of_form}
-use Rattle.capl_meaning.specs.Store.{event_kinds, kinds_by, laid_kinds, unit_of}
+use Rattle.capl_meaning.specs.Store.{cells_of_program, size_of_form, event_kinds, kinds_by, laid_kinds, unit_of}
 use Rattle.capl_meaning.specs.Variable.{Form, Number, Array, Message, Timer, Misfit, Variable}
 use Rattle.gen_stmt.specs.Cells.{cell_count}
 use Rattle.typed_source.specs.Program.{HasNoOther, typed_program}
 use Rattle.check_types.specs.Accepted.{IsAccepted}
 use Rattle.check_types.specs.Lines.{line_in}
-use Rattle.source_compiler.specs.Program.{most}
+use Rattle.source_compiler.specs.Source.{most}
 
 cons_counted : (unit : Option ℕ) (more : List ℕ) → length (cons_option unit more) ≡ length (cons_option unit []) + length more
 cons_counted None more = omega arith

@@ -21,7 +21,7 @@ use Rattle.capl_parser.proofs.Whole.{only_parsed}
 use Rattle.capl_tree.specs.declared.file.FileTree.{FileTree}
 use Rattle.capl_tree.specs.declared.file.Program.{Program}
 use Rattle.capl_include.specs.declared.expanded.SourceFile.{SourceFile}
-use Rattle.source_compiler.specs.Program.{AreTreesOf, HasTree, IsFirstFile, IsParsed, IsScreened, IsTokenBlame, IsTreeBlame, wrong_blame}
+use Rattle.source_compiler.specs.Source.{AreTreesOf, HasTree, IsFirstFile, IsParsed, IsScreened, IsTokenBlame, IsTreeBlame, wrong_blame}
 use Rattle.source_compiler.proofs.WrongLemmas.{one_wrong}
 
 -- ---- the first file

@@ -5,7 +5,7 @@ use Rattle.std.specs.Option.{option_map_or}
 use Rattle.capl_lexer.specs.declared.token.Token.{Token}
 use Rattle.capl_include.specs.declared.expanded.SourceFile.{SourceFile}
 use Rattle.check_types.specs.Lines.{line_in}
-use Rattle.source_compiler.specs.Program.{lines_of, token_in}
+use Rattle.source_compiler.specs.Source.{lines_of, token_in}
 
 line_at : (tokens : List Token) (number : ℕ) → unwrap_or (slice_get (map (λ token. token.line) tokens) number) 0 ≡ option_map_or (λ token. token.line) (slice_get tokens number) 0
 line_at [] number = refl

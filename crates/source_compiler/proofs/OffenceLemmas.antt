@@ -12,7 +12,7 @@ use Rattle.capl_meaning.specs.Offences.{IsFirst, IsNoLater, offences_of}
 use Rattle.capl_meaning.specs.declared.offence.Offence.{Offence}
 use Rattle.capl_tree.specs.declared.file.Program.{Program}
 use Rattle.dbc_reader.specs.declared.message.DbcMessage.{DbcMessage}
-use Rattle.source_compiler.specs.Program.{IsOffenceBlame, offence_blame, token_in}
+use Rattle.source_compiler.specs.Source.{IsOffenceBlame, offence_blame, token_in}
 
 -- two offences of which none is later are at one place, by rules of one number
 record AreAtOnePlace (a b : Offence) : Type 0 where

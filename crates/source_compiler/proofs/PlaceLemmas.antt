@@ -6,7 +6,7 @@ use Rattle.capl_include.specs.Text.{IsOfText}
 use Rattle.capl_lexer.specs.Reading.{Piece, Blank, Comment, Lexeme, AreFront, byte_order_mark, column_at, line_at, first_place, tokens_at}
 use Rattle.capl_lexer.specs.declared.token.Tok.{Tok}
 use Rattle.capl_lexer.specs.declared.token.Token.{Token}
-use Rattle.source_compiler.specs.Program.{column_past}
+use Rattle.source_compiler.specs.Source.{column_past}
 
 -- what is given is one
 some_same : (one other : Token) → (let found : Option Token = Some one in found) ≡ Some other → one ≡ other

@@ -23,7 +23,7 @@ use Rattle.check_names.specs.Few.{IsFew}
 use Rattle.sound_programs.specs.Given.{IsReadable}
 use Rattle.sound_programs.specs.Small.{IsShortList}
 use Rattle.small_trees.specs.Tokens.{AreBytes, AreSmallToks, IsSmallText}
-use Rattle.source_compiler.specs.Program.{AreTreesOf, HasTree}
+use Rattle.source_compiler.specs.Source.{AreTreesOf, HasTree}
 
 -- what the tokens of each file are
 abbrev texts_of : List SourceFile → List (List Tok)

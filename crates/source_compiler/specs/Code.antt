@@ -7,7 +7,7 @@ use Rattle.capl_include.specs.declared.expanded.SourceFile.{SourceFile}
 use Rattle.typed_tree.specs.declared.program.Typed.{Typed}
 use Rattle.code_listing.specs.Program.{IsCodeOf}
 use Rattle.check_types.specs.Accepted.{IsAccepted}
-use Rattle.source_compiler.specs.Program.{lines_of}
+use Rattle.source_compiler.specs.Source.{lines_of}
 
 -- code is that of a typed program of such a source
 abbrev pub IsCodeFor : List DbcMessage → List SourceFile → Program → Code → Type 0

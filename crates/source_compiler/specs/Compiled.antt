@@ -5,10 +5,9 @@ use Rattle.capl_tree.specs.Weight.{weight}
 use Rattle.capl_tree.specs.declared.file.Program.{Program}
 use Rattle.capl_include.specs.Expansion.{Contents}
 use Rattle.capl_include.specs.declared.expanded.SourceFile.{SourceFile}
-use Rattle.capl_meaning.specs.Size.{cells_of_program}
-use Rattle.source_compiler.specs.Source.{IsSource}
+use Rattle.capl_meaning.specs.Store.{cells_of_program}
+use Rattle.source_compiler.specs.Source.{IsSource, AreTreesOf, IsScreened, most}
 use Rattle.source_compiler.specs.Code.{IsCodeFor}
-use Rattle.source_compiler.specs.Program.{AreTreesOf, IsScreened, most}
 use Rattle.source_compiler.specs.declared.compiled.Compiled.{Compiled}
 
 -- the code is that of a program, the cells and the weight are those of the same program, and the names are

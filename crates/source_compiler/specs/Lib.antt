@@ -1,5 +1,4 @@
 -- The definitions of this crate.
 pub mod Code
 pub mod Compiled
-pub mod Program
 pub mod Source

@@ -16,10 +16,9 @@ ghost use Rattle.gen_stmt.specs.Cells.{cell_count};
 ghost use Rattle.code_listing.specs.Program.{IsCodeOf};
 ghost use Rattle.typed_tree.specs.Size.{size};
 ghost use Rattle.typed_tree.specs.Sound.{IsSound};
-ghost use Rattle.source_compiler.specs.Source.{IsProgramBlame};
+ghost use Rattle.source_compiler.specs.Source.{IsProgramBlame, AreTreesOf, HasTree, IsFirstFile, IsOffenceBlame, IsParsed, IsScreened, IsSizeBlame, IsTokenBlame, IsTreeBlame, column_past, lines_of, most, offence_blame, wrong_blame};
 ghost use Rattle.input_refusals.specs.Agreement.{IsBlamedOrNoMemory, Judges};
 ghost use Rattle.source_compiler.specs.Compiled.{IsCompiled};
-ghost use Rattle.source_compiler.specs.Program.{AreTreesOf, HasTree, IsFirstFile, IsOffenceBlame, IsParsed, IsScreened, IsSizeBlame, IsTokenBlame, IsTreeBlame, column_past, lines_of, most, offence_blame, wrong_blame};
 
 use crate::compiled::Compiled;
 use crate::rules::{NOT_SPELLED, TOO_DEEP, TOO_LARGE, source_rule};

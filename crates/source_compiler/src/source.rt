@@ -7,10 +7,9 @@ ghost use Rattle.capl_include.specs.Text.{AreOfTexts};
 ghost use Rattle.capl_lexer.specs.Reading.{token_limit};
 ghost use Rattle.check_names.specs.Names.{messages_of};
 ghost use Rattle.texts.specs.Fault.{HasRisen};
-ghost use Rattle.source_compiler.specs.Source.{IsSourceBlame};
+ghost use Rattle.source_compiler.specs.Source.{IsSourceBlame, FilesAt, most};
 ghost use Rattle.input_refusals.specs.Agreement.{Agrees};
 ghost use Rattle.source_compiler.specs.Compiled.{IsCoded, IsCompiledSource};
-ghost use Rattle.source_compiler.specs.Program.{FilesAt, most};
 
 use crate::compiled::Compiled;
 use crate::program::code_of;

@@ -15,8 +15,7 @@ use Rattle.int_kinds.specs.Kind.{join, wrap}
 use Rattle.int_kinds.specs.Arithmetic.{value}
 use Rattle.message_cells.specs.Message.{size}
 use Rattle.write_format.specs.declared.piece.Piece.{Piece}
-use Rattle.run_effects.specs.Duration.{micros}
-use Rattle.run_effects.specs.Effect.{Effect, Line, Send, Stop, Set, Cancel}
+use Rattle.run_effects.specs.Effect.{micros, Effect, Line, Send, Stop, Set, Cancel}
 use Rattle.run_effects.specs.declared.outcome.Outcome.TheVariants.{Trapped}
 use Rattle.run_effects.specs.declared.outcome.TrapKind.TheVariants.{Index, ZeroDivisor}
 use Rattle.control_flow.specs.World.{World, Run, Gives, Fails, after_effect, and_then, run_map, taking_turn_of}
@@ -40,8 +39,7 @@ use Rattle.capl_meaning.specs.Constant.{branches_kind, elements_of, operands_kin
 use Rattle.capl_meaning.specs.Calls.{calls_in, calls_in_labels, calls_in_part, calls_in_row, names_called, calls_of_arms, calls_of_else, calls_of_groups, calls_of_row}
 use Rattle.capl_meaning.specs.Store.{MessageRecord, timer_number, unit_of, frame_sent}
 use Rattle.capl_meaning.specs.Expression.{InBytes, InElement, InField, InNumber, InSignal, Memory, Nowhere, Setting, Spot, call_value, calling, element_spot, field_spot, held_message, indexing, kind_of_elements, operates, part_spot, place_spot, reads, spot_of, step_by_one, stores, timer_in, value_of, values_of, with_arguments, with_store}
-use Rattle.capl_meaning.specs.Statement.{alone_of, arms_of, assigns, calls_alone, cancels, drops, else_of, fitting_pieces, group_for, groups_of, group_labels, numbers_of, part_of, returns, sends, sets, sets_timer, stmt_of, stmts_of, unless_closed, with_line, with_timer}
-use Rattle.capl_meaning.specs.Procedure.{runs}
+use Rattle.capl_meaning.specs.Statement.{alone_of, arms_of, assigns, calls_alone, cancels, drops, else_of, fitting_pieces, group_for, groups_of, group_labels, numbers_of, part_of, returns, sends, sets, sets_timer, stmt_of, stmts_of, unless_closed, with_line, with_timer, runs}
 use Rattle.capl_meaning.specs.Inside.Expression.{step_operator, value_of_name}
 use Rattle.capl_meaning.specs.Inside.Statement.{for_test, wrapped_to, writes_line}
 

@@ -21,15 +21,14 @@ use Rattle.capl_meaning.specs.Variable.{parts_of}
 use Rattle.capl_meaning.specs.Names.{names_of}
 use Rattle.capl_meaning.specs.Store.{Store, This, event_cells, event_kinds, laid_kinds, lay}
 use Rattle.capl_meaning.specs.Expression.{Memory}
-use Rattle.capl_meaning.specs.Procedure as source
-use Rattle.capl_meaning.specs.Procedure.{Ending, ending_of, handlers_in}
-use Rattle.source_laws.specs.Reaction.{handler_end, this_of}
+use Rattle.capl_meaning.specs.Statement as source
+use Rattle.capl_meaning.specs.Statement.{Ending, ending_of, handlers_in}
+use Rattle.source_laws.specs.Reaction.{handler_end, this_of, SourceMemory, by_source, first_source_node, with_end}
 use Rattle.typed_laws.specs.Seen.{SameSeen}
 use Rattle.typed_laws.proofs.EventCells.{some_event}
 use Rattle.typed_laws.proofs.SeenStatements.{ending_seen}
 use Rattle.source_laws.specs.Code.{HasSourceTables, IsEntryOf, IsSourceCode}
 use Rattle.source_laws.specs.Ends.{HasEndedAs, IsBegun}
-use Rattle.source_laws.specs.Source.{SourceMemory, by_source, first_source_node, with_end}
 use Rattle.source_laws.specs.Stands.{StandsFor}
 use Rattle.source_laws.proofs.SourceCode.{source_tables}
 use Rattle.source_laws.proofs.SourceRuns.{ends_as_source, zip_left}

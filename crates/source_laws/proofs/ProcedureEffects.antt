@@ -4,8 +4,7 @@ use Rattle.std.specs.Prelude.{ℤ, if◌then◌else◌, true, false, find, unwra
 use Rattle.std.specs.List.{flat_map}
 use Rattle.std.specs.Option.{option_map_or}
 use Rattle.std.proofs.lemmas.List.Elements.{All-head, All-nil, All-tail}
-use Rattle.run_effects.specs.Duration.{micros}
-use Rattle.run_effects.specs.Effect.{Effect, Line, Send, Stop, Set, Cancel}
+use Rattle.run_effects.specs.Effect.{micros, Effect, Line, Send, Stop, Set, Cancel}
 use Rattle.control_flow.specs.World.{Run, Gives, Fails, run_map}
 use Rattle.control_flow.specs.Control.{Calls, End, number_given}
 use Rattle.capl_tree.specs.declared.expr.Expr.{Expr}
@@ -16,7 +15,7 @@ use Rattle.capl_meaning.specs.Names.{Function, OfLanguage, Scope, callee}
 use Rattle.capl_meaning.specs.Calls.{names_called as calls_in_statement, function_numbered}
 use Rattle.capl_meaning.specs.Store.{MessageRecord, timer_number, unit_of, frame_sent}
 use Rattle.capl_meaning.specs.Expression.{Memory, Setting, timer_in}
-use Rattle.capl_meaning.specs.Procedure.{calls_of, ending, function_runs, runs}
+use Rattle.capl_meaning.specs.Statement.{calls_of, ending, function_runs, runs}
 use Rattle.capl_meaning.specs.Inside.Procedure.{in_function, runs_numbered}
 use Rattle.source_laws.proofs.Effects.{Fine, Keeps, map_fine, runs_fine, turn_fine}
 

@@ -6,8 +6,7 @@ use Rattle.std.specs.List.{AllByRecursion, AllZip, position_from}
 use Rattle.std.specs.Option.{option_map_or, option_or}
 use Rattle.std.proofs.lemmas.Int.{ints}
 use Rattle.std.proofs.lemmas.List.{length-map}
-use Rattle.can_frame.specs.Arbitration.{selection_key}
-use Rattle.can_frame.specs.Frame.{FrameFields}
+use Rattle.can_frame.specs.Frame.{selection_key, FrameFields}
 use Rattle.int_kinds.specs.declared.kinds.Kind.TheVariants.{Dword}
 use Rattle.int_kinds.specs.Arithmetic.{truth}
 use Rattle.int_kinds.specs.Kind.{Holds, wrap}
@@ -27,7 +26,7 @@ use Rattle.capl_meaning.specs.Variable.{Form, Number, Array, Message, Timer, Mis
 use Rattle.capl_meaning.specs.Names.{Names, NoThis, ThisForm, ThisFrame, ThisKey, inside, this_form}
 use Rattle.capl_meaning.specs.Constant.{elements_of}
 use Rattle.capl_meaning.specs.Store.{Key, Store, This, cells_by, cells_of, event_cells, event_kinds, variable_key, kinds_by, laid_kinds, lay, message_cells, row}
-use Rattle.capl_meaning.specs.Procedure.{Handler, event_of, handlers_of_part}
+use Rattle.capl_meaning.specs.Statement.{Handler, event_of, handlers_of_part}
 use Rattle.source_laws.specs.Reaction.{seen_message, this_of}
 use Rattle.typed_laws.specs.Seen.{SameSeen}
 use Rattle.typed_laws.proofs.Declared.{all_append}

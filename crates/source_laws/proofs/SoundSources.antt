@@ -9,7 +9,7 @@ use Rattle.node_rounds.specs.Follows.{IsFor}
 use Rattle.node_rounds.specs.Reaction.{Done, DoesProcedure, NodeState, RunEnd, timers_at_begin, with_procedure, without_procedure}
 use Rattle.node_rounds.proofs.MovingTimers.{count_at_begin, reaction_moves_timers}
 use Rattle.source_laws.specs.Sound.{IsSoundSource}
-use Rattle.source_laws.specs.Source.{SourceMemory, by_source, by_source_reaction}
+use Rattle.source_laws.specs.Reaction.{SourceMemory, by_source, by_source_reaction}
 use Rattle.source_laws.proofs.Tasks.{source_does}
 
 -- ---- timers

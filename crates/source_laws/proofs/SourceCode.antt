@@ -17,7 +17,7 @@ use Rattle.code_listing.specs.Program.{handler_table, program_code}
 use Rattle.code_listing.proofs.ProgramSizes.{program_long}
 use Rattle.capl_meaning.specs.Variable.{variables_of}
 use Rattle.capl_meaning.specs.Names.{names_of}
-use Rattle.capl_meaning.specs.Procedure.{Handler, handlers_in}
+use Rattle.capl_meaning.specs.Statement.{Handler, handlers_in}
 use Rattle.typed_laws.specs.Laid.{AreDistinct}
 use Rattle.typed_laws.specs.Agreement.{ProgramDoesAs}
 use Rattle.typed_laws.specs.Starts.{started}

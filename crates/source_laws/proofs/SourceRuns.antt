@@ -17,7 +17,7 @@ use Rattle.code_meaning.proofs.ProgramRuns.{code_means}
 use Rattle.capl_meaning.specs.Names.{Names, names_of}
 use Rattle.capl_meaning.specs.Store.{This}
 use Rattle.capl_meaning.specs.Expression.{Memory}
-use Rattle.capl_meaning.specs.Procedure.{Ending, Handler, ending_of, handlers_in}
+use Rattle.capl_meaning.specs.Statement.{Ending, Handler, ending_of, handlers_in}
 use Rattle.typed_laws.specs.Laid.{laid_memory}
 use Rattle.typed_laws.specs.Agreement.{HandlerDoesAs, laid_ending}
 use Rattle.typed_laws.proofs.Programs.{program_ends}

@@ -13,11 +13,10 @@ use Rattle.node_rounds.specs.Procedures.{procedures_for}
 use Rattle.node_rounds.specs.Reaction.{Done, DoesProcedure, NodeState, RunEnd, is_closed, timers_at_begin, with_procedure, without_procedure}
 use Rattle.capl_meaning.specs.Store.{Store}
 use Rattle.capl_meaning.specs.Offences.{offences_of}
-use Rattle.capl_meaning.specs.Procedure.{Handler, handlers_in}
-use Rattle.source_laws.specs.Reaction.{handler_end, this_of}
+use Rattle.capl_meaning.specs.Statement.{Handler, handlers_in}
+use Rattle.source_laws.specs.Reaction.{handler_end, this_of, HasItsTimers, SourceMemory, by_source, by_source_reaction, with_end}
 use Rattle.typed_laws.proofs.Distinct.{distinct_without_offences}
 use Rattle.typed_source.proofs.Units.{have_units}
-use Rattle.source_laws.specs.Source.{HasItsTimers, SourceMemory, by_source, by_source_reaction, with_end}
 use Rattle.source_laws.proofs.SeenEvents.{procedure_sees}
 use Rattle.source_laws.proofs.TimerEffects.{ending_on_timers}
 

@@ -12,15 +12,14 @@ use Rattle.dbc_reader.specs.declared.message.DbcMessage.{DbcMessage}
 use Rattle.capl_tree.specs.declared.expr.Expr.{Expr}
 use Rattle.capl_tree.specs.declared.file.Program.{Program}
 use Rattle.capl_tree.specs.declared.statement.Stmt.{Stmt}
-use Rattle.run_effects.specs.Duration.{IsUnit, micros}
-use Rattle.run_effects.specs.Effect.{Effect, Set, Cancel}
+use Rattle.run_effects.specs.Effect.{IsUnit, micros, Effect, Set, Cancel}
 use Rattle.timer_queue.specs.Timers.{IsDuration}
 use Rattle.node_rounds.specs.Effects.{IsTimerEffect}
 use Rattle.capl_meaning.specs.Variable.{Timer, Variable, parts_of}
 use Rattle.capl_meaning.specs.Names.{Names, Scope, names_of}
 use Rattle.capl_meaning.specs.Store.{This, timer_number, timer_units, unit_of}
 use Rattle.capl_meaning.specs.Expression.{Memory, Setting, timer_in}
-use Rattle.capl_meaning.specs.Procedure.{Handler, calls_of, ending, ending_of, handlers_in, runs}
+use Rattle.capl_meaning.specs.Statement.{Handler, calls_of, ending, ending_of, handlers_in, runs}
 use Rattle.capl_meaning.specs.Inside.Procedure.{setting_of}
 use Rattle.typed_laws.specs.Laid.{AreDistinct, HasForm}
 use Rattle.typed_laws.proofs.Declared.{handlers_named}

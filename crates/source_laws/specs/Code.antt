@@ -12,8 +12,8 @@ use Rattle.code_listing.specs.Program.{IsCodeOf}
 use Rattle.capl_meaning.specs.Names.{names_of}
 use Rattle.capl_meaning.specs.Store.{event_kinds, laid_kinds, lay, timer_units}
 use Rattle.capl_meaning.specs.Initial.{first_store}
-use Rattle.capl_meaning.specs.Procedure as source
-use Rattle.capl_meaning.specs.Procedure.{handlers_in}
+use Rattle.capl_meaning.specs.Statement as source
+use Rattle.capl_meaning.specs.Statement.{handlers_in}
 use Rattle.check_types.specs.Accepted.{IsAccepted}
 use Rattle.check_types.specs.Lines.{line_in}
 

@@ -7,7 +7,7 @@ use Rattle.bytecode.specs.Runs.{EndsIn, HoldKinds, IsStartOf}
 use Rattle.capl_meaning.specs.Names.{Names}
 use Rattle.capl_meaning.specs.Store.{This, event_cells, event_kinds, laid_kinds, lay, timer_units}
 use Rattle.capl_meaning.specs.Expression.{Memory}
-use Rattle.capl_meaning.specs.Procedure.{Ending, Handler, ending_of}
+use Rattle.capl_meaning.specs.Statement.{Ending, Handler, ending_of}
 
 -- the cells of an event, and behind them those that a store is laid out in
 abbrev pub cells_with : Names → This → Memory → List ℤ

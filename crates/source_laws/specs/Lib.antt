@@ -2,6 +2,5 @@
 pub mod Code
 pub mod Reaction
 pub mod Ends
-pub mod Source
 pub mod Stands
 pub mod Sound

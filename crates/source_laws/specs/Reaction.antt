@@ -1,4 +1,4 @@
--- How a node reacts whose program is a source (CAPL manual, event procedures, this).
+-- How nodes react whose programs are sources (CAPL manual, event procedures, this).
 use Rattle.std.specs.Prelude.{◌≡◌, ℕ, ◌/◌, Bool, false, List, length, map, slice_get, slice_index_or, IsSomeAnd, pos}
 use Rattle.can_frame.specs.Frame.{FrameFields}
 use Rattle.int_kinds.specs.declared.kinds.Kind.TheVariants.{Dword}
@@ -9,12 +9,14 @@ use Rattle.timer_queue.specs.Timers.{inactive}
 use Rattle.dbc_reader.specs.declared.message.DbcMessage.{DbcMessage}
 use Rattle.capl_tree.specs.declared.file.Program.{Program}
 use Rattle.node_rounds.specs.declared.occurrence.Occurrence.{Occurrence}
-use Rattle.node_rounds.specs.declared.occurrence.Occurrence.TheVariants as happens
 use Rattle.node_rounds.specs.Reaction.{NodeState, Reacts, RunEnd, Runner, is_closed, reaction_of}
 use Rattle.capl_meaning.specs.Names.{names_of}
 use Rattle.capl_meaning.specs.Store.{MessageRecord, Store, This, timer_units}
 use Rattle.capl_meaning.specs.Initial.{first_store, plain_message}
-use Rattle.capl_meaning.specs.Procedure.{Ending, Handler, ending_of, handlers_in}
+use Rattle.capl_meaning.specs.Statement.{Ending, Handler, ending_of, handlers_in}
+use Rattle.node_rounds.specs.declared.occurrence.Occurrence.TheVariants as happens
+
+-- ---- How a node reacts whose program is a source (CAPL manual, event procedures, this).
 
 -- the message that a frame is that ended on the bus at a moment, sent by the node itself or by another: the
 -- direction is TX or RX, the time in units of ten microseconds
@@ -68,3 +70,52 @@ first_node base program = record {
   timers = inactive (length (timer_units (names_of base program)));
   is_halted = false;
 }
+
+-- ---- Nodes of different sources: a memory that has its own program with it.
+
+-- the memory of a node with a source: its program with the database, how many turns each task has, and what
+-- its variables hold
+pub record SourceMemory : Type 0 where
+  pub base : List DbcMessage
+  pub program : Program
+  pub turns : ℕ
+  pub store : Store
+
+-- how the procedures of a memory's own program run
+abbrev pub own_runner : SourceMemory → Runner Store
+own_runner memory = source_runner memory.base memory.program memory.turns
+
+-- a run of a memory's own program that ended so
+abbrev pub with_end : SourceMemory → RunEnd Store → RunEnd SourceMemory
+with_end memory end = record {
+  memory = record memory { store = end.memory };
+  effects = end.effects;
+  turns = end.turns;
+  outcome = end.outcome;
+}
+
+-- how procedures run by their sources
+abbrev pub by_source : Runner SourceMemory
+by_source = record {
+  events = λ memory. (own_runner memory).events memory.store;
+  ends = λ memory procedure occurrence now active end. (own : RunEnd Store) ×
+      (own_runner memory).ends memory.store procedure occurrence now active own × (end ≡ with_end memory own);
+}
+
+-- a node has as many timers as its program
+abbrev pub HasItsTimers : NodeState SourceMemory → Type 0
+HasItsTimers node = node.timers.count ≡ length (timer_units (names_of node.memory.base node.memory.program))
+
+-- how nodes react by their sources
+abbrev pub by_source_reaction : Reacts (NodeState SourceMemory)
+by_source_reaction = reaction_of by_source
+
+-- a node with a source before the measurement
+abbrev pub first_source_node : List DbcMessage → Program → ℕ → NodeState SourceMemory
+first_source_node base program turns =
+    let first : NodeState Store = first_node base program in
+    record {
+      memory = record { base = base; program = program; turns = turns; store = first.memory };
+      timers = first.timers;
+      is_halted = first.is_halted;
+    }

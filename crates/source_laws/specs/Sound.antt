@@ -3,7 +3,7 @@ use Rattle.std.specs.Prelude.{◌≡◌, []}
 use Rattle.timer_queue.specs.Timers.{IsTimers}
 use Rattle.node_rounds.specs.Reaction.{NodeState}
 use Rattle.capl_meaning.specs.Offences.{offences_of}
-use Rattle.source_laws.specs.Source.{HasItsTimers, SourceMemory}
+use Rattle.source_laws.specs.Reaction.{HasItsTimers, SourceMemory}
 
 -- the source of a node is accepted, and its timers are those of the source
 pub record IsSoundSource (node : NodeState SourceMemory) : Type 0 where

@@ -4,7 +4,7 @@ use Rattle.node_run.specs.Code.{CodeMemory}
 use Rattle.capl_meaning.specs.Names.{names_of}
 use Rattle.capl_meaning.specs.Store.{lay}
 use Rattle.source_laws.specs.Code.{IsSourceCode}
-use Rattle.source_laws.specs.Source.{SourceMemory}
+use Rattle.source_laws.specs.Reaction.{SourceMemory}
 
 -- The memory of code stands for that of a source. The code is that of the source's program, tasks have as
 -- many turns, and behind any 15 cells, which the last event left, are those that the store is laid out in.

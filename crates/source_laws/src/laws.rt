@@ -13,10 +13,10 @@ ghost use Rattle.capl_meaning.specs.Names.{names_of};
 ghost use Rattle.capl_meaning.specs.Store.{This};
 ghost use Rattle.capl_meaning.specs.Expression.{Memory};
 ghost use Rattle.capl_meaning.specs.Offences.{offences_of};
-ghost use Rattle.capl_meaning.specs.Procedure.{Handler, handlers_in};
+ghost use Rattle.capl_meaning.specs.Statement.{Handler, handlers_in};
 ghost use Rattle.source_laws.specs.Code.{HasSourceTables, IsSourceCode};
 ghost use Rattle.source_laws.specs.Ends.{IsHeld, RunsAsSource};
-ghost use Rattle.source_laws.specs.Source.{HasItsTimers, SourceMemory, by_source, by_source_reaction, first_source_node};
+ghost use Rattle.source_laws.specs.Reaction.{HasItsTimers, SourceMemory, by_source, by_source_reaction, first_source_node};
 ghost use Rattle.source_laws.specs.Stands.{StandsFor};
 
 /// The code of an accepted source has the source's tables. The machine runs each event procedure as the

@@ -11,7 +11,7 @@ use Rattle.capl_tree.specs.declared.procedure.Head.TheVariants as head
 use Rattle.capl_tree.specs.declared.statement.Stmt.{Stmt}
 use Rattle.capl_meaning.specs.Variable.{Globals, Part, Procedure}
 use Rattle.capl_meaning.specs.Names.{Function, Names, function_by, function_of_part, inside}
-use Rattle.capl_meaning.specs.Procedure.{Handler, event_of, handlers_of_part}
+use Rattle.capl_meaning.specs.Statement.{Handler, event_of, handlers_of_part}
 use Rattle.source_laws.proofs.Effects.{All-back, All-front}
 use Rattle.source_laws.proofs.ProcedureEffects.{AllCalled}
 use Rattle.source_logs.specs.Silent.{called_by_part}

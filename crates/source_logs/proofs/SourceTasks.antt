@@ -17,13 +17,12 @@ use Rattle.node_run.proofs.SentFrames.{IsFrame-frame_of}
 use Rattle.capl_meaning.specs.declared.builtin.Builtin.{Builtin}
 use Rattle.capl_meaning.specs.declared.builtin.Builtin.TheVariants as builtin
 use Rattle.capl_meaning.specs.Names.{Function, Names, OfLanguage, builtin_named, names_of, OfProgram, Unknown}
-use Rattle.capl_meaning.specs.Procedure.{Handler, handlers_in}
+use Rattle.capl_meaning.specs.Statement.{Handler, handlers_in}
 use Rattle.capl_meaning.specs.Store.{MessageRecord, Store, message_cells, frame_sent}
 use Rattle.capl_meaning.specs.Variable.{parts_of}
 use Rattle.capl_meaning.specs.Inside.Procedure.{setting_of}
 use Rattle.typed_laws.proofs.Declared.{handlers_named}
-use Rattle.source_laws.specs.Reaction.{handler_end, this_of}
-use Rattle.source_laws.specs.Source.{SourceMemory, by_source, by_source_reaction}
+use Rattle.source_laws.specs.Reaction.{handler_end, this_of, SourceMemory, by_source, by_source_reaction}
 use Rattle.source_laws.proofs.ProcedureEffects.{AllCalled, body_fine}
 use Rattle.replay_laws.specs.Tasks.{AsksLoggable, AsksNothing}
 use Rattle.source_logs.specs.Silent.{IsSilent, called_in}

@@ -13,7 +13,7 @@ ghost use Rattle.replay_node.specs.declared.replay.Request.{Request};
 ghost use Rattle.node_rounds.specs.Reaction.{NodeState};
 ghost use Rattle.run_meaning.specs.Run.{IsRun, Passed, RunState, new_run};
 ghost use Rattle.run_meaning.specs.Steps.{entries, steps};
-ghost use Rattle.source_laws.specs.Source.{SourceMemory, by_source_reaction};
+ghost use Rattle.source_laws.specs.Reaction.{SourceMemory, by_source_reaction};
 ghost use Rattle.replay_laws.specs.Log.{log_of};
 ghost use Rattle.replay_laws.specs.Tasks.{AllTasks, AsksLoggable, AsksNothing};
 ghost use Rattle.source_logs.specs.Silent.{IsSilent};

@@ -1,7 +1,7 @@
 // How nodes react by their sources.
 
 ghost use Rattle.node_rounds.specs.Reaction.{NodeState};
-ghost use Rattle.source_laws.specs.Source.{SourceMemory, by_source_reaction};
+ghost use Rattle.source_laws.specs.Reaction.{SourceMemory, by_source_reaction};
 
 use replay_laws::laws::Reaction;
 

@@ -7,8 +7,7 @@ use Rattle.std.proofs.lemmas.Option.{get_or_from_slice_get}
 use Rattle.int_kinds.specs.Kind.{Holds}
 use Rattle.int_kinds.specs.declared.kinds.Kind.{Kind}
 use Rattle.int_kinds.specs.declared.kinds.Kind.TheVariants.{Char}
-use Rattle.write_format.specs.Arrays.{HoldsBytes, IsCharArray}
-use Rattle.write_format.specs.Format.{FormatText, char_arrays}
+use Rattle.write_format.specs.Line.{HoldsBytes, IsCharArray, FormatText, char_arrays}
 use Rattle.bytecode.specs.declared.code.Code.{Code}
 use Rattle.bytecode.specs.Runs.{HoldKinds}
 use Rattle.bytecode.specs.Verified.{IsVerified}

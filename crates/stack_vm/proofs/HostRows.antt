@@ -3,8 +3,8 @@ use Rattle.std.proofs.Common.{◌≡◌, ◌<◌, ◌≤◌, ◌+◌, ℕ, Bool,
 use Rattle.std.specs.Prelude.{ℤ, pos, IsTrue, nat_le, ◌&&◌, if◌then◌else◌}
 use Rattle.std.specs.List.{list_all}
 use Rattle.std.proofs.lemmas.Option.{slice_get-get_or}
-use Rattle.write_format.specs.Format.{FormatText, char_arrays, numbers_taken, rendered}
-use Rattle.run_effects.specs.Effect.{Effect}
+use Rattle.write_format.specs.Line.{FormatText, char_arrays, numbers_taken, rendered}
+use Rattle.run_effects.specs.Effect.{Effect, micros}
 use Rattle.run_effects.specs.Effect as effect
 use Rattle.vm_host.specs.Host.{HostMeaning, TakesUnlessClosed}
 use Rattle.bytecode.specs.declared.code.Code.{Code}
@@ -12,7 +12,6 @@ use Rattle.bytecode.specs.declared.instr.Instr.{Instr}
 use Rattle.bytecode.specs.declared.instr.Instr.TheVariants.{Send, Set, Write}
 use Rattle.bytecode.specs.Machine.{Machine, Next, Goes, Stuck}
 use Rattle.message_cells.specs.Message.{frame_of, message_at}
-use Rattle.run_effects.specs.Duration.{micros}
 use Rattle.bytecode.specs.Step.{after_effect, after_set, goes_on, needing, row, unless, writes}
 use Rattle.stack_vm.specs.Inside.State.{RunState, machine}
 use Rattle.stack_vm.specs.Inside.Step.{DoesOn, GivesLineOrFrame, RefusesOn}

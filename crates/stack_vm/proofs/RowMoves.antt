@@ -7,7 +7,7 @@ use Rattle.int_kinds.specs.declared.kinds.Kind.{Kind}
 use Rattle.int_kinds.specs.declared.operators.BinOp.{BinOp}
 use Rattle.int_kinds.specs.declared.operators.BinOp.TheVariants.{OrElse, AndAlso}
 use Rattle.int_kinds.specs.Arithmetic.{value}
-use Rattle.write_format.specs.Format.{FormatText, char_arrays, numbers_taken, rendered}
+use Rattle.write_format.specs.Line.{FormatText, char_arrays, numbers_taken, rendered}
 use Rattle.run_effects.specs.Effect as effect
 use Rattle.bytecode.specs.declared.code.Code.{Code}
 use Rattle.bytecode.specs.declared.code.Fun.{Fun}
@@ -18,7 +18,7 @@ use Rattle.message_cells.specs.Message.{frame_of, message_at, size, write_rules}
 use Rattle.bytecode.specs.Rule.{IsReached, Target, targets}
 use Rattle.bytecode.specs.Shape.{numbers_given, shape_of}
 use Rattle.std.specs.Option.{option_map_or}
-use Rattle.run_effects.specs.Duration.{micros}
+use Rattle.run_effects.specs.Effect.{micros}
 use Rattle.bytecode.specs.Step.{after_cancel, after_effect, after_set, gives_or_traps, goes_on, indexing, needing, operates, returns_to, row, stores, taking_one, taking_turn, taking_two, unless, writes}
 
 -- the machine goes to a place of its function that is at most one deeper, with the same open calls

@@ -3,14 +3,13 @@
 ghost use Rattle.std.specs.Prelude.{◌≡◌, ◌^◌, ◌<◌, ◌≤◌, length, reverse, take, All, IfOk, IsErrOf, None, OnErr, OnOk};
 ghost use Rattle.bytecode.specs.declared.code.Code.{Code};
 ghost use Rattle.bytecode.specs.declared.instr.Instr.TheVariants.{Stop, Send, Set, Write, Cancel, Active, Now};
-ghost use Rattle.run_effects.specs.Duration.{micros};
+ghost use Rattle.run_effects.specs.Effect.{micros};
 ghost use Rattle.bytecode.specs.Verified.{IsVerified};
 ghost use Rattle.int_kinds.specs.Kind.{IsNumber};
 ghost use Rattle.stack_vm.specs.Inside.State.{HasSameRoom};
 ghost use Rattle.stack_vm.specs.Inside.Step.{DoesOn, IsReady, RefusesOn};
 ghost use Rattle.vm_host.specs.Host.{FaultsRise, HostStays};
-ghost use Rattle.write_format.specs.Arrays.{HoldsBytes};
-ghost use Rattle.write_format.specs.Format.{char_arrays, numbers_taken, rendered};
+ghost use Rattle.write_format.specs.Line.{HoldsBytes, char_arrays, numbers_taken, rendered};
 
 use crate::frame::frame;
 use crate::state::State;

@@ -12,9 +12,8 @@ use Rattle.node_rounds.specs.declared.round.Round.TheVariants as rounds_of
 use Rattle.node_rounds.specs.Reaction.{Reacts}
 use Rattle.node_rounds.specs.Round.{IsDone, Task}
 use Rattle.run_meaning.specs.Moments.{keys_at}
-use Rattle.run_meaning.specs.Order.{tasks_in_order, picks_after, task_count}
+use Rattle.run_meaning.specs.Steps.{tasks_in_order, picks_after, task_count, Step, ended_steps, round_steps, steps, task_done, task_steps}
 use Rattle.run_meaning.specs.Run.{AreInstants, AreParts, IsEnded, IsRound, IsRun, IsSecond, Passed, RunState, after_round, finished, new_run, quiet_round, settled}
-use Rattle.run_meaning.specs.Steps.{Step, ended_steps, round_steps, steps, task_done, task_steps}
 use Rattle.run_meaning.proofs.Counts.{by_order}
 use Rattle.run_meaning.proofs.OrderLemmas.{put_task}
 use Rattle.task_orders.specs.Moves.{BeginsAfter, BeginsNext, BeginsSecond, IsInterleaving, IsPossible, Move, MoveAll, closes, does_task}

@@ -18,10 +18,9 @@ use Rattle.node_rounds.specs.declared.round.Round.TheVariants as rounds
 use Rattle.node_rounds.specs.Reaction.{Reacts}
 use Rattle.node_rounds.specs.Round.{IsDone, Task}
 use Rattle.run_meaning.specs.Moments.{keys_at}
-use Rattle.run_meaning.specs.Order.{first_tasks, nodes_with_tasks, picked, picks_after}
+use Rattle.run_meaning.specs.Steps.{first_tasks, nodes_with_tasks, picked, picks_after, Step, steps, task_done, task_steps}
 use Rattle.run_meaning.specs.Rest.{RunsOn}
 use Rattle.run_meaning.specs.Run.{AreParts, IsRun, IsSecond, Passed, RunState, after_round, finished, new_run, quiet_round, settled}
-use Rattle.run_meaning.specs.Steps.{Step, steps, task_done, task_steps}
 use Rattle.run_meaning.proofs.OrderLemmas.{picks_put, put_task, steps_put}
 use Rattle.task_orders.specs.Moves.{BeginsAfter, BeginsInstant, BeginsNext, BeginsSecond, BeginsStop, DoesTask, IsInterleaving, IsPossible, Move, MoveAll, closes, does_task}
 use Rattle.task_orders.specs.World.{Stage, World, all_begin, at_round, first_world, in_first, in_pre_start, in_second, in_start, in_stop, is_last, round_of, run_in}

@@ -7,9 +7,8 @@ use Rattle.can_frame.specs.Frame.{FrameFields}
 use Rattle.node_rounds.specs.declared.round.Round.{Round}
 use Rattle.node_rounds.specs.Reaction.{Reacts}
 use Rattle.node_rounds.specs.Round.{Doing, DoesNext, IsDone, PartOf, Task}
-use Rattle.run_meaning.specs.Bus.{after_all_tasks}
-use Rattle.run_meaning.specs.Order.{nodes_with_tasks, task_count}
-use Rattle.run_meaning.specs.Run.{AreParts, ask_stop}
+use Rattle.run_meaning.specs.Run.{after_all_tasks, AreParts, ask_stop}
+use Rattle.run_meaning.specs.Steps.{nodes_with_tasks, task_count}
 use Rattle.run_meaning.proofs.Once.{some_same}
 use Rattle.run_meaning.proofs.OrderLemmas.{count_cons, put_task}
 use Rattle.task_orders.specs.World.{all_begin}

@@ -5,7 +5,7 @@ use Rattle.std.proofs.lemmas.List.{append_assoc, set_comm}
 use Rattle.can_bus.specs.Laws.{RequestsCommute}
 use Rattle.can_bus.specs.Meaning.{BusMeaning}
 use Rattle.can_frame.specs.Frame.{FrameFields}
-use Rattle.node_rounds.specs.Entries.{after_requests}
+use Rattle.node_rounds.specs.Effects.{after_requests}
 use Rattle.node_rounds.specs.Reaction.{Reacts}
 use Rattle.node_rounds.specs.Round.{Doing, DoesNext}
 use Rattle.run_meaning.specs.Steps.{Step, task_done}

@@ -7,9 +7,8 @@ use Rattle.std.proofs.lemmas.List.{append-nil}
 use Rattle.std.proofs.lemmas.List.Elements.{filter-append}
 use Rattle.can_bus.specs.declared.bus.Ended.{Ended}
 use Rattle.node_rounds.specs.Round.{Task}
-use Rattle.run_meaning.specs.Order.{tasks_in_order, picks_after}
+use Rattle.run_meaning.specs.Steps.{tasks_in_order, picks_after, Step, ended_steps, steps, task_done, task_steps}
 use Rattle.run_meaning.specs.Run.{Passed}
-use Rattle.run_meaning.specs.Steps.{Step, ended_steps, steps, task_done, task_steps}
 use Rattle.run_meaning.proofs.Counts.{order_parts}
 use Rattle.task_orders.specs.Values.{DifferInOrder, frames_in, frames_of, is_frame, is_of, own_steps, steps_in, steps_of}
 

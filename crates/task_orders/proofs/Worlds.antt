@@ -7,15 +7,13 @@ use Rattle.can_bus.specs.declared.bus.Ended.{Ended}
 use Rattle.can_bus.specs.Laws.{RequestsCommute}
 use Rattle.can_bus.specs.Meaning.{BusMeaning}
 use Rattle.node_rounds.specs.declared.round.Round.TheVariants as round
-use Rattle.node_rounds.specs.Entries.{after_requests}
+use Rattle.node_rounds.specs.Effects.{after_requests}
 use Rattle.node_rounds.specs.Reaction.{Reacts}
 use Rattle.node_rounds.specs.Round.{Doing, IsDone, Task, next_of}
-use Rattle.run_meaning.specs.Bus.{after_all_tasks}
+use Rattle.run_meaning.specs.Run.{after_all_tasks, IsRound, IsSecond, Passed, RunState, after_round, ask_stop, finished, quiet_round, settled}
 use Rattle.run_meaning.specs.Moments.{keys_at}
-use Rattle.run_meaning.specs.Order.{picks_after, task_count}
+use Rattle.run_meaning.specs.Steps.{picks_after, task_count, Step, ended_steps, steps, task_steps}
 use Rattle.run_meaning.specs.Rest.{RunsOn}
-use Rattle.run_meaning.specs.Run.{IsRound, IsSecond, Passed, RunState, after_round, ask_stop, finished, quiet_round, settled}
-use Rattle.run_meaning.specs.Steps.{Step, ended_steps, steps, task_steps}
 use Rattle.run_meaning.proofs.OrderLemmas.{bus_put, put_task, stop_put}
 use Rattle.task_orders.specs.World.{Stage, at_round, in_first, in_pre_start, in_second, in_start, in_stop, is_last, round_of, run_in}
 use Rattle.task_orders.proofs.Lefts.{begun_states, none_bus, none_stop}

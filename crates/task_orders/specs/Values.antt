@@ -4,9 +4,8 @@ use Rattle.std.specs.Prelude.{◌≡◌, ◌==◌, ℕ, Bool, true, false, List,
 use Rattle.std.specs.List.{filter, flat_map}
 use Rattle.can_bus.specs.Meaning.{BusMeaning}
 use Rattle.node_rounds.specs.Reaction.{Reacts}
-use Rattle.run_meaning.specs.Order.{tasks_of}
+use Rattle.run_meaning.specs.Steps.{tasks_of, Step, ended_steps, frame_ended, task_done}
 use Rattle.run_meaning.specs.Run.{Passed, RunState}
-use Rattle.run_meaning.specs.Steps.{Step, ended_steps, frame_ended, task_done}
 use Rattle.task_orders.specs.Moves.{DoesTask}
 use Rattle.task_orders.specs.World.{World, run_in}
 

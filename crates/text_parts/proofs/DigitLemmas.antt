@@ -2,7 +2,7 @@
 use Rattle.std.proofs.Common.{◌≡◌, ℕ, ◌-◌, ◌^◌, List, [], ◌++◌, length, replicate, Some, false, append-nil, arith, ap, ◌∙◌}
 use Rattle.std.specs.Prelude.{◌==◌, decimal}
 use Rattle.std.specs.Fmt.{padded_integral, format_spec, char_count, digits_output, styled_decimal, styled_digits_output}
-use Rattle.text_parts.specs.Digits.{zero_filled, hexadecimal}
+use Rattle.text_parts.specs.Number.{zero_filled, hexadecimal}
 
 -- a numeral behind the zeros that a width asks for
 pub zero_filled_is : (width : ℕ) (numeral : List ℕ) → padded_integral (format_spec 32 0 4 width (2 ^ 64 - 1)) false [] numeral ≡ zero_filled width numeral

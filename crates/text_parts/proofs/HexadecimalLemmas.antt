@@ -7,8 +7,7 @@ use Rattle.std.proofs.lemmas.Bool.Decides.{nat_tests}
 use Rattle.std.proofs.lemmas.List.{length-replicate}
 use Rattle.std.proofs.lemmas.List.Elements.{All-nil, All-cons, All-push, All-append, All-replicate}
 use Rattle.std.proofs.lemmas.List.Sums.{fold-append}
-use Rattle.text_parts.specs.Number.{IsHexDigit, digit_value, number_in}
-use Rattle.text_parts.specs.Digits.{zero_filled, hexadecimal}
+use Rattle.text_parts.specs.Number.{IsHexDigit, digit_value, number_in, zero_filled, hexadecimal}
 
 -- one digit is read as what was written
 digit_is : (d : ℕ) → d < 16 → digit_value (digit_glyph true d) ≡ d

@@ -6,8 +6,7 @@ use Rattle.std.proofs.lemmas.Fmt.{digits_decimal, digits_value-decimal, first_de
 use Rattle.std.proofs.lemmas.List.Elements.{All-nil, All-cons, All-head, All-tail}
 use Rattle.std.proofs.lemmas.Str.Parse.{IsNumeralModel, IsDigitsTest, FoldsDigits, numerals_by_fold}
 use Rattle.std.specs.Fmt.{digits}
-use Rattle.text_parts.specs.Number.{IsDigit, digit_value, number_in}
-use Rattle.text_parts.specs.Digits.{zero_filled, IsNumeral}
+use Rattle.text_parts.specs.Number.{IsDigit, digit_value, number_in, zero_filled, IsNumeral}
 
 -- decimal digits, byte by byte
 tells_digits : IsDigitsTest (All IsDigit)

@@ -1,4 +1,3 @@
 -- The definitions of this crate.
-pub mod Digits
-pub mod Line
 pub mod Number
+pub mod Line

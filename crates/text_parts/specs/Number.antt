@@ -1,6 +1,9 @@
--- Digits, and the numbers that they stand for, the most significant digit first.
-use Rattle.std.specs.Prelude.{◌≤◌, ◌-◌, ◌+◌, ◌*◌, ◌^◌, ℕ, Bool, List, ◌⊎◌, fold, length, nat_lt, nat_le, ◌&&◌, if◌then◌else◌, Option, Some, None}
+-- Numbers, and the digits that spell them, the most significant digit first.
+use Rattle.std.specs.Prelude.{◌≡◌, ◌≢◌, ℕ, ◌-◌, ◌<◌, ◌≤◌, List, ◌++◌, length, replicate, slice_index, All, true, ◌+◌, ◌*◌, ◌^◌, Bool, ◌⊎◌, fold, nat_lt, nat_le, ◌&&◌, if◌then◌else◌, Option, Some, None}
+use Rattle.std.specs.Fmt.{digits}
 use Rattle.std.specs.List.{list_all}
+
+-- ---- Digits, and the numbers that they stand for, the most significant digit first.
 
 -- 0 to 9
 abbrev pub IsDigit : ℕ → Type 0
@@ -31,3 +34,20 @@ abbrev pub number_up_to : ℕ → List ℕ → Option ℕ
 number_up_to limit bytes =
     if nat_lt 0 (length bytes) && list_all is_digit bytes && nat_le (number_in 10 bytes) limit
     then Some (number_in 10 bytes) else None
+
+-- ---- Numbers in the digits of a base.
+
+-- a numeral behind as many zeros as it lacks of so many digits
+abbrev pub zero_filled : ℕ → List ℕ → List ℕ
+zero_filled least numeral = replicate (least - length numeral) 48 ++ numeral
+
+-- the hexadecimal digits of a number, A to F in upper case
+abbrev pub hexadecimal : ℕ → List ℕ
+hexadecimal number = digits 16 true number
+
+-- decimal digits that stand for a number, at least so many, and no zero before more of them
+pub record IsNumeral (least number : ℕ) (numeral : List ℕ) : Type 0 where
+  pub decimal : All IsDigit numeral
+  pub value : number_in 10 numeral ≡ number
+  pub enough : least ≤ length numeral
+  pub no_more_zeros : least < length numeral → slice_index numeral 0 ≢ 48

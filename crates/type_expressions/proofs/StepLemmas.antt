@@ -9,9 +9,8 @@ use Rattle.dbc_reader.specs.declared.message.DbcMessage.{DbcMessage}
 use Rattle.capl_meaning.specs.Variable.{Array, Form, Message, Misfit, Number, Timer, Variable}
 use Rattle.capl_meaning.specs.Names.{Names}
 use Rattle.capl_meaning.specs.Constant.{elements_of}
-use Rattle.capl_meaning.specs.Size.{size_of_form}
+use Rattle.capl_meaning.specs.Store.{size_of_form, Key, variable_key, kinds_by, same_key, unit_of}
 use Rattle.capl_meaning.specs.Message.{Held, HeldFrame, HeldVariable}
-use Rattle.capl_meaning.specs.Store.{Key, variable_key, kinds_by, same_key, unit_of}
 use Rattle.typed_laws.specs.Laid.{cell_count, cells_before, cells_by_form, message_slot}
 use Rattle.check_names.specs.declared.variable.Declared.{Declared}
 use Rattle.check_names.specs.Variable.{variables_in}

@@ -4,7 +4,7 @@ use Rattle.std.specs.Prelude.{◌≡◌, ℕ, ◌+◌, ◌<◌, ◌≤◌, List,
 use Rattle.capl_meaning.specs.Variable.{Form, Timer, Variable}
 use Rattle.capl_meaning.specs.Names.{Names}
 use Rattle.capl_meaning.specs.Constant.{elements_of}
-use Rattle.capl_meaning.specs.Size.{size_of_form}
+use Rattle.capl_meaning.specs.Store.{size_of_form}
 use Rattle.typed_laws.specs.Laid.{cell_count}
 use Rattle.type_expressions.specs.declared.layout.Laid.{Laid}
 use Rattle.type_expressions.specs.declared.layout.Layout.{Layout}

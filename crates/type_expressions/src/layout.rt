@@ -3,8 +3,7 @@
 ghost use Rattle.std.specs.Prelude.{◌≡◌, ◌+◌, ◌<◌, ◌^◌, ℕ, IfOk, Some, slice_get};
 ghost use Rattle.capl_meaning.specs.Constant.{elements_of};
 ghost use Rattle.capl_meaning.specs.Names.{Names};
-ghost use Rattle.capl_meaning.specs.Size.{size_of_form};
-ghost use Rattle.capl_meaning.specs.Store.{variable_key, timer_number};
+ghost use Rattle.capl_meaning.specs.Store.{size_of_form, variable_key, timer_number};
 ghost use Rattle.capl_meaning.specs.Variable.{Variable};
 ghost use Rattle.typed_laws.specs.Laid.{AreDistinct, cells_by_form, slot};
 ghost use Rattle.check_sorts.specs.Constant.{AreConstantsOf};

@@ -11,8 +11,7 @@ use Rattle.capl_meaning.specs.Variable.{Array, Form, Message, MessageType, Misfi
 use Rattle.capl_meaning.specs.Names.{Names, Scope}
 use Rattle.capl_meaning.specs.Constant.{elements_of, scope_of}
 use Rattle.capl_meaning.specs.Initial.{element_of_form, first_message}
-use Rattle.capl_meaning.specs.Size.{size_of_form}
-use Rattle.capl_meaning.specs.Store.{MessageRecord, message_cells, row}
+use Rattle.capl_meaning.specs.Store.{size_of_form, MessageRecord, message_cells, row}
 use Rattle.typed_laws.specs.Laid.{cell_count, cells_by_form}
 use Rattle.typed_laws.proofs.Lists.{row_long, row_parts}
 use Rattle.type_starts.specs.declared.message.Message as held

@@ -4,8 +4,7 @@ ghost use Rattle.std.specs.Prelude.{◌≡◌, ◌+◌, ◌<◌, ◌≤◌, ◌^
 ghost use Rattle.std.specs.Option.{option_copied, option_map};
 ghost use Rattle.capl_meaning.specs.Constant.{elements_of};
 ghost use Rattle.capl_meaning.specs.Initial.{first_element, first_store};
-ghost use Rattle.capl_meaning.specs.Size.{size_of_form};
-ghost use Rattle.capl_meaning.specs.Store.{MessageRecord, lay, message_cells, row};
+ghost use Rattle.capl_meaning.specs.Store.{size_of_form, MessageRecord, lay, message_cells, row};
 ghost use Rattle.capl_meaning.specs.Variable.{Variable};
 ghost use Rattle.typed_laws.specs.Laid.{AreDistinct, cell_count};
 ghost use Rattle.typed_laws.specs.Starts.{first_cells_of};

@@ -14,7 +14,7 @@ use Rattle.write_format.specs.declared.code.Code.{Code}
 use Rattle.write_format.specs.declared.code.Conversion.{Conversion}
 use Rattle.write_format.specs.declared.code.Conversion.TheVariants as conversion
 use Rattle.write_format.specs.declared.piece.Piece.{Piece}
-use Rattle.write_format.specs.Format.{FormatText, format_elements}
+use Rattle.write_format.specs.Line.{FormatText, format_elements}
 use Rattle.write_format.specs.Reading.{AreSpelled, HasCodesFor, IsFirstUnfit, codes_of, first_unfit, is_fit, pieces_of}
 use Rattle.capl_tree.specs.declared.expr.Expr.{Expr}
 use Rattle.capl_meaning.specs.declared.sort.Sort.{Sort}

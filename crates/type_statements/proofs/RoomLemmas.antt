@@ -1,6 +1,6 @@
 -- Room for the formats of the parts of a statement, where there is room for those of the whole.
 use Rattle.std.proofs.Common.{◌≡◌, ◌<◌, ◌^◌, ◌++◌, ◌∙◌, List, append_assoc, length, length-append, sym, ap, subst, arith}
-use Rattle.write_format.specs.Format.{FormatText}
+use Rattle.write_format.specs.Line.{FormatText}
 
 -- there are numbers for so many formats
 abbrev pub HaveNumbers : List FormatText → Type 0

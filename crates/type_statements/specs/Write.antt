@@ -3,7 +3,7 @@ use Rattle.std.specs.Prelude.{◌≡◌, ℕ, List, Option, Some, None, length, 
 use Rattle.std.specs.Option.{option_map}
 use Rattle.write_format.specs.declared.argument.ArgKind.{ArgKind}
 use Rattle.write_format.specs.declared.piece.Piece.{Piece}
-use Rattle.write_format.specs.Format.{FormatText, format_elements}
+use Rattle.write_format.specs.Line.{FormatText, format_elements}
 use Rattle.write_format.specs.Reading.{codes_of, first_unfit, pieces_of}
 use Rattle.capl_tree.specs.declared.expr.Expr.{Expr}
 use Rattle.capl_meaning.specs.declared.sort.Sort.{Sort}

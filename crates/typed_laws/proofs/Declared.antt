@@ -19,7 +19,7 @@ use Rattle.capl_tree.specs.declared.statement.Stmt.{Stmt}
 use Rattle.capl_meaning.specs.declared.builtin.Builtin.{Builtin}
 use Rattle.capl_meaning.specs.Variable.{Part, Globals, Procedure, parameters_of, parts_of, parts_of_files, parts_of_items, variable_of_parameter, variables_of, variables_of_part}
 use Rattle.capl_meaning.specs.Names.{Function, Names, OfLanguage, OfProgram, Unknown, builtin_named, callee, function_by, function_of_part, inside, names_of}
-use Rattle.capl_meaning.specs.Procedure.{Handler, event_of, handlers_of_part}
+use Rattle.capl_meaning.specs.Statement.{Handler, event_of, handlers_of_part}
 use Rattle.typed_laws.specs.Laid.{AreDistinct, IsAmong}
 use Rattle.typed_laws.specs.Agreement.{ArePlain}
 use Rattle.typed_laws.proofs.Places.{found_among}

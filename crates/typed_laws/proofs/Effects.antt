@@ -6,9 +6,8 @@ use Rattle.std.specs.Option.{option_map_or}
 use Rattle.texts.specs.declared.text.Text.{Text}
 use Rattle.write_format.specs.declared.argument.ArgKind.{ArgKind}
 use Rattle.write_format.specs.declared.piece.Piece.{Piece}
-use Rattle.write_format.specs.Format.{FormatText, format_elements}
-use Rattle.write_format.specs.Line.{line_of}
-use Rattle.run_effects.specs.Duration.{micros}
+use Rattle.write_format.specs.Line.{FormatText, format_elements, line_of}
+use Rattle.run_effects.specs.Effect.{micros}
 use Rattle.run_effects.specs.Effect as effect
 use Rattle.message_cells.specs.Message.{frame_of, message_of, with_message as with_message_at}
 use Rattle.control_flow.specs.World.{World, Gives, after_effect}

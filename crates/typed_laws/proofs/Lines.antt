@@ -10,9 +10,7 @@ use Rattle.write_format.specs.declared.code.Conversion.TheVariants as conversion
 use Rattle.write_format.specs.declared.code.Field.{Field}
 use Rattle.write_format.specs.declared.piece.Piece.{Piece}
 use Rattle.write_format.specs.declared.piece.Piece.TheVariants as piece
-use Rattle.write_format.specs.Element.{Element}
-use Rattle.write_format.specs.Format.{element_of, format_elements}
-use Rattle.write_format.specs.Line.{before_zero, character_of, filled, first_argument, line_of, number_text}
+use Rattle.write_format.specs.Line.{Element, element_of, format_elements, before_zero, character_of, filled, first_argument, line_of, number_text}
 use Rattle.control_flow.specs.World.{World, and_then, run_map}
 use Rattle.capl_tree.specs.declared.expr.Expr.{Expr}
 use Rattle.typed_tree.specs.declared.expression.TExpr.{TExpr}

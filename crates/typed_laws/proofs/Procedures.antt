@@ -16,7 +16,7 @@ use Rattle.capl_meaning.specs.Names.{Names, Scope, ThisForm, inside_function}
 use Rattle.capl_meaning.specs.Store.{This}
 use Rattle.capl_meaning.specs.Inside.Procedure.{runs_numbered}
 use Rattle.capl_meaning.specs.Expression as source
-use Rattle.capl_meaning.specs.Procedure as source_procedure
+use Rattle.capl_meaning.specs.Statement as source_procedure
 use Rattle.typed_laws.specs.Laid.{laid, laid_memory, laid_run}
 use Rattle.typed_laws.specs.Agreement.{ArePlain, Beside, DoesAs, Fits, FunctionsDoAs, SameCalls, laid_ending}
 use Rattle.typed_laws.proofs.Runs.{map_same, turn_same}

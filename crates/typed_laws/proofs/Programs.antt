@@ -11,9 +11,9 @@ use Rattle.capl_meaning.specs.Variable.{parts_of, variables_of}
 use Rattle.capl_meaning.specs.Names.{Names, names_of}
 use Rattle.capl_meaning.specs.Store.{This}
 use Rattle.capl_meaning.specs.Expression as source
-use Rattle.capl_meaning.specs.Procedure.{Handler, handlers_in}
+use Rattle.capl_meaning.specs.Statement.{Handler, handlers_in}
 use Rattle.capl_meaning.specs.Inside.Procedure.{handlers_of}
-use Rattle.capl_meaning.specs.Procedure as source_procedure
+use Rattle.capl_meaning.specs.Statement as source_procedure
 use Rattle.typed_laws.specs.Laid.{AreDistinct, laid_memory}
 use Rattle.typed_laws.specs.Agreement.{ArePlain, Fits, FunctionsDoAs, HandlerDoesAs, ProgramDoesAs, laid_ending}
 use Rattle.typed_laws.proofs.Declared.{handlers_named, plain_names}

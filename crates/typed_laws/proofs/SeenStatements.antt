@@ -24,8 +24,7 @@ use Rattle.capl_meaning.specs.Sort.{is_number, sort_of}
 use Rattle.capl_meaning.specs.Constant.{prefix_kind}
 use Rattle.capl_meaning.specs.Store.{This, variable_key, with_message, frame_sent}
 use Rattle.capl_meaning.specs.Expression.{Memory, Setting, held_message, timer_in, value_of, with_store}
-use Rattle.capl_meaning.specs.Procedure.{Handler, calls_of, ending, ending_of, function_runs, runs}
-use Rattle.capl_meaning.specs.Statement.{alone_of, arms_of, assigns, calls_alone, drops, else_of, fitting_pieces, group_for, groups_of, group_labels, numbers_of, part_of, returns, sends, sets, sets_timer, stmt_of, stmts_of, with_line}
+use Rattle.capl_meaning.specs.Statement.{Handler, calls_of, ending, ending_of, function_runs, runs, alone_of, arms_of, assigns, calls_alone, drops, else_of, fitting_pieces, group_for, groups_of, group_labels, numbers_of, part_of, returns, sends, sets, sets_timer, stmt_of, stmts_of, with_line}
 use Rattle.capl_meaning.specs.Inside.Statement.{for_test, wrapped_to, writes_line}
 use Rattle.capl_meaning.specs.Inside.Procedure.{runs_numbered}
 use Rattle.typed_laws.specs.Seen.{SameSeen}

@@ -5,7 +5,7 @@ use Rattle.std.specs.Prelude.{ℤ, pos, filter_map, length, slice_get, unwrap_or
 use Rattle.std.specs.List.{AllZip}
 use Rattle.int_kinds.specs.declared.kinds.Kind.{Kind}
 use Rattle.int_kinds.specs.Kind.{wrap}
-use Rattle.write_format.specs.Format.{FormatText}
+use Rattle.write_format.specs.Line.{FormatText}
 use Rattle.control_flow.specs.World.{World, Run, Gives, Fails, and_then, run_map}
 use Rattle.control_flow.specs.Control.{Calls, Computes, Does, End, GoesOn, Breaks, Continues, Returns, deciding, followed_by, in_order, leaving_switch, nothing}
 use Rattle.capl_tree.specs.declared.expr.Expr.{Expr}

@@ -6,7 +6,7 @@ use Rattle.std.specs.List.{AllZip}
 use Rattle.int_kinds.specs.declared.kinds.Kind.{Kind}
 use Rattle.write_format.specs.declared.argument.ArgKind.{ArgKind}
 use Rattle.write_format.specs.declared.argument.ArgKind.TheVariants as argument
-use Rattle.write_format.specs.Format.{FormatText}
+use Rattle.write_format.specs.Line.{FormatText}
 use Rattle.control_flow.specs.World.{World, Run, Gives}
 use Rattle.control_flow.specs.Control.{Calls, Computes, Does}
 use Rattle.capl_tree.specs.declared.expr.Expr.{Expr}
@@ -42,8 +42,7 @@ use Rattle.capl_meaning.specs.Sort.{is_number, sort_of}
 use Rattle.capl_meaning.specs.Constant.{elements_of}
 use Rattle.capl_meaning.specs.Store.{This, event_kinds, variable_key, laid_kinds, timer_units}
 use Rattle.capl_meaning.specs.Expression as source
-use Rattle.capl_meaning.specs.Procedure.{Handler, handlers_in}
-use Rattle.capl_meaning.specs.Procedure as source_procedure
+use Rattle.capl_meaning.specs.Statement.{Handler, handlers_in}
 use Rattle.capl_meaning.specs.Statement as source_statement
 use Rattle.typed_laws.specs.Laid.{AreDistinct, GivesOnly, IsAmong, IsOpen, IsReal, laid, laid_memory, laid_run, laid_spot, mapped, slot}
 use Rattle.typed_laws.specs.Starts.{StartsAs}
@@ -258,7 +257,7 @@ pub record ProgramDoesAs (base : List DbcMessage) (program : Program) (typed_pro
       (handlers_in base program) typed_program.handlers
 
 -- how an event procedure ends, with its memory laid out
-abbrev pub laid_ending : Names → This → source_procedure.Ending → typed_procedure.Ending
+abbrev pub laid_ending : Names → This → source_statement.Ending → typed_procedure.Ending
 laid_ending names this e = record {
   memory = laid_memory names this e.memory;
   turns_taken = e.turns_taken;

@@ -5,7 +5,7 @@ use Rattle.std.specs.List.{AllZip}
 use Rattle.std.specs.Option.{option_map_or}
 use Rattle.texts.specs.declared.text.Text.{Text}
 use Rattle.write_format.specs.declared.piece.Piece.{Piece}
-use Rattle.write_format.specs.Format.{FormatText}
+use Rattle.write_format.specs.Line.{FormatText}
 use Rattle.control_flow.specs.World.{World}
 use Rattle.control_flow.specs.Control.{GoesOn}
 use Rattle.capl_tree.specs.declared.expr.Expr.{Expr, items-the_row-Expr, items_hidden-the_row-Expr-1}

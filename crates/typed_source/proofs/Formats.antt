@@ -1,7 +1,7 @@
 -- Formats among others.
 use Rattle.std.proofs.Common.{◌≡◌, ℕ, suc, ◌+◌, List, [], ◌∷◌, ◌++◌, length, ap, ◌∙◌, arith}
 use Rattle.std.specs.Prelude.{slice_get}
-use Rattle.write_format.specs.Format.{FormatText}
+use Rattle.write_format.specs.Line.{FormatText}
 use Rattle.typed_laws.proofs.Statements.{stand_before}
 use Rattle.typed_source.specs.Statement.{StandFrom}
 

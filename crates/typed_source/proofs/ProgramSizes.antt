@@ -29,7 +29,7 @@ use Rattle.typed_tree.specs.SoundStatement.{Around, IsSoundStmt}
 use Rattle.capl_meaning.specs.Variable.{Part, Globals, Procedure, parts_of, parts_of_files, parts_of_items}
 use Rattle.capl_meaning.specs.Names.{Function, Names, Scope, function_by, function_of_part, inside, inside_function, names_of}
 use Rattle.capl_meaning.specs.Calls.{function_numbered}
-use Rattle.capl_meaning.specs.Procedure.{Handler, event_of, handlers_of_part, timer_named}
+use Rattle.capl_meaning.specs.Statement.{Handler, event_of, handlers_of_part, timer_named}
 use Rattle.capl_meaning.specs.ProcedureRules.{ranges_of}
 use Rattle.capl_meaning.specs.Inside.Procedure.{handlers_of}
 use Rattle.typed_source.specs.Statement.{formats_of, statement_of}

@@ -3,7 +3,7 @@ use Rattle.std.proofs.Common.{◌≡◌, ℕ, zero, suc, ◌+◌, List, [], ◌�
 use Rattle.std.specs.Prelude.{slice_get}
 use Rattle.std.specs.List.{AllByRecursion, AllZip}
 use Rattle.std.specs.Option.{option_map_or}
-use Rattle.write_format.specs.Format.{FormatText}
+use Rattle.write_format.specs.Line.{FormatText}
 use Rattle.dbc_reader.specs.declared.message.DbcMessage.{DbcMessage}
 use Rattle.capl_tree.specs.declared.file.Program.{Program}
 use Rattle.capl_tree.specs.declared.statement.Stmt.{Stmt}
@@ -15,7 +15,7 @@ use Rattle.capl_meaning.specs.Variable.{parts_of}
 use Rattle.capl_meaning.specs.Names.{Function, Names, Scope, inside_function, names_of}
 use Rattle.capl_meaning.specs.Calls.{function_numbered}
 use Rattle.capl_meaning.specs.Initial.{first_store}
-use Rattle.capl_meaning.specs.Procedure.{Handler}
+use Rattle.capl_meaning.specs.Statement.{Handler}
 use Rattle.capl_meaning.specs.Inside.Procedure.{handlers_of}
 use Rattle.typed_laws.specs.Agreement.{DoesAs, HandlerDoesAs, ProgramDoesAs, parameter_slots}
 use Rattle.typed_laws.proofs.Declared.{handlers_named}

@@ -7,7 +7,7 @@ use Rattle.std.specs.List.{list_any}
 use Rattle.std.specs.Option.{option_map}
 use Rattle.int_kinds.specs.declared.kinds.Kind.{Kind}
 use Rattle.int_kinds.specs.Kind.{wrap}
-use Rattle.write_format.specs.Format.{FormatText}
+use Rattle.write_format.specs.Line.{FormatText}
 use Rattle.control_flow.specs.World.{World, Run, Gives, Fails, and_then, run_map}
 use Rattle.control_flow.specs.Control.{Does, End, leaving_switch}
 use Rattle.capl_tree.specs.declared.expr.Expr.{Expr}

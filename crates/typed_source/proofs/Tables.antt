@@ -5,7 +5,7 @@ use Rattle.std.proofs.lemmas.Bool.{ltb-false, ltb-true}
 use Rattle.std.proofs.lemmas.List.{get_or_past}
 use Rattle.int_kinds.specs.declared.kinds.Kind.{Kind}
 use Rattle.int_kinds.specs.declared.kinds.Kind.TheVariants.{Long}
-use Rattle.run_effects.specs.Duration.{IsUnit}
+use Rattle.run_effects.specs.Effect.{IsUnit}
 use Rattle.message_cells.specs.Cells.{BeginWithEvent}
 use Rattle.message_cells.specs.Message.{IsMessage, message_kinds}
 use Rattle.capl_tree.specs.declared.expr.Expr.{Expr}

@@ -2,7 +2,7 @@
 use Rattle.std.proofs.Common.{ℕ, inl, inr, List, [], ◌∷◌, ◌++◌, Option, Some, None, refl, subst}
 use Rattle.std.specs.Prelude.{⊤, flat_map, map}
 use Rattle.std.specs.List.{AllByRecursion}
-use Rattle.run_effects.specs.Duration.{IsUnit}
+use Rattle.run_effects.specs.Effect.{IsUnit}
 use Rattle.dbc_reader.specs.declared.message.DbcMessage.{DbcMessage}
 use Rattle.capl_tree.specs.declared.declaration.Decl.{Decl}
 use Rattle.capl_tree.specs.declared.declaration.DeclType.{DeclType}

@@ -1,7 +1,7 @@
 -- The typed program of a source: its functions, event procedures and tables.
 use Rattle.std.specs.Prelude.{◌≡◌, ◌≢◌, ℕ, suc, ◌+◌, ◌<◌, List, [], ◌∷◌, ◌++◌, flat_map, length, slice_get, Option, Some, None, All, AllPairs, Contains, ℤ, pos, if◌then◌else◌}
 use Rattle.std.specs.Ordering.{int_eq}
-use Rattle.write_format.specs.Format.{FormatText}
+use Rattle.write_format.specs.Line.{FormatText}
 use Rattle.dbc_reader.specs.declared.message.DbcMessage.{DbcMessage}
 use Rattle.capl_tree.specs.declared.file.Program.{Program}
 use Rattle.capl_tree.specs.declared.statement.Stmt.{Stmt}
@@ -13,7 +13,7 @@ use Rattle.capl_meaning.specs.Names.{Function, Names, Scope, inside_function, na
 use Rattle.capl_meaning.specs.Calls.{called_by_number, function_numbered}
 use Rattle.capl_meaning.specs.Store.{event_kinds, laid_kinds, lay, timer_units}
 use Rattle.capl_meaning.specs.Initial.{first_store}
-use Rattle.capl_meaning.specs.Procedure.{Handler, handlers_in}
+use Rattle.capl_meaning.specs.Statement.{Handler, handlers_in}
 use Rattle.typed_laws.specs.Agreement.{parameter_slots}
 use Rattle.typed_source.specs.Statement.{formats_of, statement_of}
 

@@ -3,7 +3,7 @@
 use Rattle.std.specs.Prelude.{◌≡◌, ℕ, ◌≤◌, ◌<◌, ◌^◌, Bool, true, false, List, length, slice_get, Option, Some, None, ⊤}
 use Rattle.int_kinds.specs.declared.kinds.Kind.{Kind}
 use Rattle.int_kinds.specs.declared.operators.BinOp.{BinOp}
-use Rattle.run_effects.specs.Duration.{IsUnit}
+use Rattle.run_effects.specs.Effect.{IsUnit}
 use Rattle.message_cells.specs.Cells.{BeginWithEvent}
 use Rattle.message_cells.specs.Message.{IsMessage}
 use Rattle.capl_tree.specs.declared.expr.Expr.{Expr, Row_of-Expr, end_of-Expr, more_of-Expr}

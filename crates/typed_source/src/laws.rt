@@ -2,7 +2,7 @@
 
 ghost use Rattle.std.specs.Prelude.{◌≡◌, ◌≢◌, ℕ, ◌≤◌, List, ◌++◌, AllPairs};
 ghost use Rattle.dbc_reader.specs.declared.message.DbcMessage.{DbcMessage};
-ghost use Rattle.write_format.specs.Format.{FormatText};
+ghost use Rattle.write_format.specs.Line.{FormatText};
 ghost use Rattle.capl_tree.specs.declared.expr.Expr.{Expr};
 ghost use Rattle.capl_tree.specs.declared.file.Program.{Program};
 ghost use Rattle.capl_tree.specs.declared.statement.Stmt.{Stmt};

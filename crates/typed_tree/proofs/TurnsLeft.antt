@@ -10,7 +10,7 @@ use Rattle.int_kinds.specs.Arithmetic.{value}
 use Rattle.run_effects.specs.declared.outcome.Outcome.TheVariants.{Trapped}
 use Rattle.run_effects.specs.declared.outcome.TrapKind.TheVariants.{Index}
 use Rattle.run_effects.specs.Effect as effect
-use Rattle.write_format.specs.Format.{FormatText, rendered}
+use Rattle.write_format.specs.Line.{FormatText, rendered}
 use Rattle.control_flow.specs.World.{World, Gives, Fails, after_effect}
 use Rattle.control_flow.specs.Control.{Calls, Does}
 use Rattle.control_flow.specs.Turns.{AddsNoTurns, LeavesAtMost}
@@ -26,7 +26,7 @@ use Rattle.typed_tree.specs.declared.statement.TStmt.TheBlock.{Held-TStmt-If-1, 
 use Rattle.typed_tree.specs.Forms.{Binary, Both, Bytes, Cond, Convert, Do, Either, Elem, For, NoPart, Part, Store, Unary, Update, While}
 use Rattle.typed_tree.specs.Memory.{Memory, read, with_timer}
 use Rattle.typed_tree.specs.Expression.{Setting, gives_or_traps, indexing, operates, spot_of, stores, value_of, values_of}
-use Rattle.run_effects.specs.Duration.{micros}
+use Rattle.run_effects.specs.Effect.{micros}
 use Rattle.typed_tree.specs.Statement.{arms_of, for_test, groups_of, group_for, labels_of, numbers_of, part_of, returns, sets, stmt_of, stmts_of, unless_closed, writes}
 use Rattle.typed_tree.specs.Program.{body_of, calls_of, runs}
 

@@ -1,11 +1,9 @@
 -- All that the compiler asks of a typed program.
 use Rattle.std.specs.Prelude.{◌≡◌, ◌≢◌, ℕ, ◌<◌, ◌^◌, false, List, length, is_some, slice_get, flat_map, filter_map, Option, Some, All, AllPairs}
 use Rattle.std.specs.List.{AllByRecursion}
-use Rattle.write_format.specs.Arrays.{IsCharArray}
-use Rattle.write_format.specs.Format.{IsShort, char_arrays}
+use Rattle.write_format.specs.Line.{IsCharArray, IsShort, char_arrays}
 use Rattle.run_effects.specs.declared.event.Selector.{Selector}
-use Rattle.run_effects.specs.Duration.{IsUnit}
-use Rattle.run_effects.specs.Event.{KeepsSelectors, KeepsTimers, key_of, selectors_of, timer_of}
+use Rattle.run_effects.specs.Effect.{IsUnit, KeepsSelectors, KeepsTimers, key_of, selectors_of, timer_of}
 use Rattle.message_cells.specs.Cells.{BeginWithEvent, IsHeldStart}
 use Rattle.typed_tree.specs.declared.program.TFun.{TFun}
 use Rattle.typed_tree.specs.declared.program.THandler.{THandler}

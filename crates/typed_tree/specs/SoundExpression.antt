@@ -7,7 +7,7 @@ use Rattle.int_kinds.specs.declared.operators.UnOp.{UnOp}
 use Rattle.int_kinds.specs.declared.operators.UnOp.TheVariants.{Up, Down}
 use Rattle.int_kinds.specs.Kind.{IsNumber, width}
 use Rattle.signal_codec.specs.Signal.{IsUsable}
-use Rattle.write_format.specs.Arrays.{cells_of}
+use Rattle.write_format.specs.Line.{cells_of}
 use Rattle.message_cells.specs.Message.{IsMessage}
 use Rattle.typed_tree.specs.declared.expression.Place.{Place}
 use Rattle.typed_tree.specs.declared.expression.Place.TheVariants.{Cell, Set, Signal}

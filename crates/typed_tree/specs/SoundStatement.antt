@@ -2,7 +2,7 @@
 use Rattle.std.specs.Prelude.{◌≡◌, ◌≢◌, ℕ, ◌<◌, ◌^◌, Bool, true, false, IsTrue, List, length, slice_get, flat_map, Option, Some, None, IfSome, IsSomeAnd, All, AllPairs, ℤ, ⊤}
 use Rattle.std.specs.List.{AllByRecursion}
 use Rattle.int_kinds.specs.Kind.{IsNumber}
-use Rattle.write_format.specs.Format.{numbers_taken}
+use Rattle.write_format.specs.Line.{numbers_taken}
 use Rattle.message_cells.specs.Message.{IsMessage}
 use Rattle.typed_tree.specs.declared.expression.TExpr.{TExpr}
 use Rattle.typed_tree.specs.declared.statement.TStmt.{TStmt, Row_of-TStmt, end_of-TStmt, more_of-TStmt, items-the_row-TStmt}

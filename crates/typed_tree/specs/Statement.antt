@@ -3,8 +3,8 @@ use Rattle.std.specs.Prelude.{ℕ, zero, suc, Bool, true, false, if◌then◌els
 use Rattle.std.specs.List.{list_any}
 use Rattle.std.specs.Option.{option_map_or}
 use Rattle.std.specs.Ordering.{int_eq}
-use Rattle.write_format.specs.Format.{FormatText, rendered}
-use Rattle.run_effects.specs.Duration.{micros}
+use Rattle.write_format.specs.Line.{FormatText, rendered}
+use Rattle.run_effects.specs.Effect.{micros}
 use Rattle.run_effects.specs.Effect as effect
 use Rattle.message_cells.specs.Message.{frame_of, message_of, with_message}
 use Rattle.control_flow.specs.World.{World, Run, Gives, and_then, run_map, after_effect}

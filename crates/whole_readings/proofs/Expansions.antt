@@ -6,9 +6,8 @@ use Rattle.texts.specs.Rule.{source_rule}
 use Rattle.capl_lexer.specs.Reading.{IsReading, IsBadPlace, line_at, column_at, token_limit}
 use Rattle.capl_lexer.specs.declared.token.Token.{Token}
 use Rattle.capl_include.specs.Blame.{too_long_rule, file_blame, place_blame}
-use Rattle.capl_include.specs.Expansion.{Contents, Expansion, Outcome, Include, Went, Stopped, Visits, GoesOn, IsIncluded, AreIncluded, StopsIf, VisitsTokens, VisitsText, VisitsHeld, IsVisit, IsExpansion, includes_of, meeting, appending, file_limit, byte_limit, nothing_met}
+use Rattle.capl_include.specs.Expansion.{Contents, Expansion, Outcome, Include, Went, Stopped, Visits, GoesOn, IsIncluded, AreIncluded, StopsIf, VisitsTokens, VisitsText, VisitsHeld, IsVisit, IsExpansion, includes_of, meeting, appending, file_limit, byte_limit, nothing_met, included_name, is_included_name}
 use Rattle.capl_include.specs.Inside.Step.{GoesPast, has_met}
-use Rattle.capl_include.specs.Name.{included_name, is_included_name}
 use Rattle.whole_readings.proofs.Lexing.{reading_or_bad_place}
 
 -- something has an outcome

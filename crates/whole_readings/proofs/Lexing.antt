@@ -4,8 +4,7 @@ use Rattle.std.specs.Prelude.{◌⊎◌}
 use Rattle.std.proofs.lemmas.Bool.{cases_lt}
 use Rattle.std.proofs.lemmas.List.Elements.{All-nil, All-cons}
 use Rattle.std.proofs.lemmas.List.{take_at, drop_at, drop-drop}
-use Rattle.capl_lexer.specs.Bytes.{IsBlank}
-use Rattle.capl_lexer.specs.Spelling.{Spells}
+use Rattle.capl_lexer.specs.Spelling.{IsBlank, Spells}
 use Rattle.capl_lexer.specs.Reading.{Piece, Blank, Comment, Lexeme, IsFront, AreFront, OpensComment, EndsLine, IsLineComment, IsBlockComment, IsLongest, line_opening, block_opening, block_closing, first_place, tokens_at, IsReading, IsBadPlace}
 use Rattle.capl_lexer.specs.declared.token.Tok.{Tok}
 use Rattle.capl_lexer.specs.declared.token.Token.{Token}

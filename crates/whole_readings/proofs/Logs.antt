@@ -7,15 +7,11 @@ use Rattle.text_parts.specs.Number.{IsDigit, IsHexDigit, number_in}
 use Rattle.can_frame.specs.Frame.{FrameFields}
 use Rattle.can_frame.specs.declared.Ident.{Ident}
 use Rattle.can_frame.specs.declared.Ident.TheVariants.{Std, Ext}
-use Rattle.log_line.specs.Fields.{log_fields, without_return}
-use Rattle.log_line.specs.Stamp.{IsStamp}
-use Rattle.log_line.specs.FrameText.{SpellsIdent, IsBetween, SpellsBytes, SpellsCode, SpellsData, SpellsFrame, IsFlexible, IsAbove, IsLongCode}
-use Rattle.log_line.specs.Reading.{IsPrintable, IsInterface, IsDirection, IsPassedOver, FieldsRead, Reads}
+use Rattle.log_line.specs.Reading.{log_fields, without_return, IsStamp, SpellsIdent, IsBetween, SpellsBytes, SpellsCode, SpellsData, SpellsFrame, IsFlexible, IsAbove, IsLongCode, IsPrintable, IsInterface, IsDirection, IsPassedOver, FieldsRead, Reads}
 use Rattle.log_line.specs.declared.line.Line.{Line}
 use Rattle.log_line.specs.declared.line.Line.TheVariants.{Entry, Skip, Empty}
 use Rattle.scenario.specs.declared.scenario.Epoch.{Epoch}
-use Rattle.replay_node.specs.Log.{is_ended, HasNoReading, LogReads, IsBadLine}
-use Rattle.replay_node.specs.Replay.{entries_on, skipped_on, epoch_seconds, requests_from, IsReplay}
+use Rattle.replay_node.specs.Replay.{is_ended, HasNoReading, LogReads, IsBadLine, entries_on, skipped_on, epoch_seconds, requests_from, IsReplay}
 use Rattle.replay_node.specs.declared.replay.Replay.{Replay}
 use Rattle.whole_readings.proofs.Known.{Known, known_by, known_both, known_three, known_either, known_not, known_same, known_le, known_text, known_all, known_split, HasSplit}
 use Rattle.whole_readings.proofs.Spellings.{known_digit, known_hex_digit}

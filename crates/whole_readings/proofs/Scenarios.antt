@@ -16,8 +16,7 @@ use Rattle.scenario.specs.declared.scenario.Epoch.TheVariants.{At}
 use Rattle.scenario.specs.declared.scenario.KeyItem.{KeyItem}
 use Rattle.scenario.specs.declared.scenario.Scenario.{Scenario}
 use Rattle.scenario.specs.declared.refusal.ScenarioRefusal.TheVariants.{Broken}
-use Rattle.scenario.specs.Item.{is_passed_over, is_gap, fields_of, item_of, item_of_one, item_of_two, item_of_picks, item_of_values, items_in, items_of}
-use Rattle.scenario.specs.Value.{picks_of, number_of, key_of}
+use Rattle.scenario.specs.Item.{is_passed_over, is_gap, fields_of, item_of, item_of_one, item_of_two, item_of_picks, item_of_values, items_in, items_of, picks_of, number_of, key_of}
 use Rattle.scenario.specs.Rule.{nodes_of, node_in, rule_at, AreRightBefore, IsFirstBroken, IsBroken}
 use Rattle.scenario.specs.Scenario.{database_in, bit_in, until_in, turns_in, epoch_in, interface_in, picks_in, key_in, replay_in, IsScenario, IsScenarioRefusal}
 use Rattle.whole_readings.proofs.Sorting.{sort_by, sort_same, sort_sorted, sort_stable, sort_long}

@@ -6,9 +6,8 @@ use Rattle.std.specs.Str.{bytes_eq}
 use Rattle.std.proofs.lemmas.Bool.{false≢true}
 use Rattle.std.proofs.lemmas.Slice.Eq.{bytes_eq-Decides}
 use Rattle.text_parts.specs.Number.{IsDigit, IsHexDigit, number_in, number_of_64_bits}
-use Rattle.capl_lexer.specs.Bytes.{IsBlank, IsBlankInLine, IsLetter, IsMark, IsHexDigitFront}
+use Rattle.capl_lexer.specs.Spelling.{IsBlank, IsBlankInLine, IsLetter, IsMark, IsHexDigitFront, word_spelling, sign_spelling, IsName, IsMarked, IsDecimal, IsHexadecimal, IsFloat, escaped, IsEscape, IsPlain, IsPlainInChar, IsItem, AreItems, IsChar, IsString, IsNameByte, IsInclude, IsDirective, Spells}
 use Rattle.capl_lexer.specs.Name.{reserved_words, is_reserved}
-use Rattle.capl_lexer.specs.Spelling.{word_spelling, sign_spelling, IsName, IsMarked, IsDecimal, IsHexadecimal, IsFloat, escaped, IsEscape, IsPlain, IsPlainInChar, IsItem, AreItems, IsChar, IsString, IsNameByte, IsInclude, IsDirective, Spells}
 use Rattle.capl_lexer.specs.declared.token.Word.{Word}
 use Rattle.capl_lexer.specs.declared.token.Word.TheVariants as word
 use Rattle.capl_lexer.specs.declared.token.Sign.{Sign}

@@ -8,8 +8,7 @@ ghost use Rattle.scenario.specs.declared.refusal.ScenarioRefusal.TheVariants.{Br
 ghost use Rattle.dbc_reader.specs.Database.{IsDatabase, IsDatabaseRefusal};
 ghost use Rattle.dbc_reader.specs.declared.message.DbcMessage.{DbcMessage};
 ghost use Rattle.dbc_reader.specs.declared.refusal.DbcRefusal.TheVariants as refusal;
-ghost use Rattle.replay_node.specs.Log.{IsBadLine};
-ghost use Rattle.replay_node.specs.Replay.{IsReplay};
+ghost use Rattle.replay_node.specs.Replay.{IsBadLine, IsReplay};
 ghost use Rattle.replay_node.specs.declared.replay.Replay.{Replay};
 ghost use Rattle.scenario.specs.declared.scenario.Epoch.{Epoch};
 ghost use Rattle.capl_lexer.specs.Reading.{IsReading, IsBadPlace};

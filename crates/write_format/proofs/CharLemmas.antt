@@ -7,7 +7,7 @@ use Rattle.std.proofs.lemmas.List.Elements.{All-nil, All-cons, All-head, All-tai
 use Rattle.std.proofs.lemmas.List.Sums.{sum_by-take-drop, sum_by-cons}
 use Rattle.int_kinds.specs.declared.kinds.Kind.{Kind}
 use Rattle.int_kinds.specs.declared.kinds.Kind.TheVariants.{Byte, Word, Dword, Qword, Int, Long, Int64, Char}
-use Rattle.write_format.specs.Arrays.{IsCharArray, cells_of}
+use Rattle.write_format.specs.Line.{IsCharArray, cells_of}
 use Rattle.write_format.specs.Inside.Chars.{CountsOthers, is_other}
 
 -- how many cells are no characters

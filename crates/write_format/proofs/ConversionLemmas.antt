@@ -10,7 +10,7 @@ use Rattle.int_kinds.specs.declared.kinds.Kind.TheVariants.{Dword, Long}
 use Rattle.text_parts.specs.Number.{is_digit}
 use Rattle.write_format.specs.Code as code
 use Rattle.write_format.specs.Code.{SpellsConversion}
-use Rattle.write_format.specs.Front.{conversion_at, conversion_behind, conversion_of, is_flag, long_conversion, plain_conversion, size_at, wide_conversion}
+use Rattle.write_format.specs.Reading.{conversion_at, conversion_behind, conversion_of, is_flag, long_conversion, plain_conversion, size_at, wide_conversion}
 use Rattle.write_format.specs.declared.code.Conversion.{Conversion}
 use Rattle.write_format.specs.declared.code.Conversion.TheVariants.{Number}
 use Rattle.write_format.specs.declared.code.Digits.TheVariants.{Decimal, LowerHexadecimal, UpperHexadecimal, Octal}

@@ -10,7 +10,7 @@ use Rattle.std.proofs.lemmas.Option.{cond_some}
 use Rattle.std.proofs.Math.Seq.{take-append_seam, drop-append_seam, drop-cons}
 use Rattle.text_parts.specs.Number.{IsDigit, is_digit, number_in}
 use Rattle.write_format.specs.Code.{IsFlag, IsWidth, SpellsField}
-use Rattle.write_format.specs.Front.{is_flag, field_of, flags_at, behind_flags, numeral_at, behind_numeral}
+use Rattle.write_format.specs.Reading.{is_flag, field_of, flags_at, behind_flags, numeral_at, behind_numeral}
 use Rattle.write_format.specs.declared.code.Field.{Field}
 
 -- bytes that pass a test, before a text whose first byte does not, are what passes it at the front

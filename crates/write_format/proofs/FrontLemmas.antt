@@ -7,8 +7,7 @@ use Rattle.std.proofs.lemmas.Bool.{eqb-true}
 use Rattle.std.proofs.lemmas.List.{length-append}
 use Rattle.std.proofs.lemmas.Option.{cond_some, none-some, same_Some}
 use Rattle.write_format.specs.Code.{SpellsCode, SpellsConversion, SpellsField}
-use Rattle.write_format.specs.Front.{behind_flags, behind_numeral, behind_percent, code_at, code_behind, conversion_at, field_of, flags_at, numeral_at, percent_at, piece_at}
-use Rattle.write_format.specs.Reading.{Spells}
+use Rattle.write_format.specs.Reading.{behind_flags, behind_numeral, behind_percent, code_at, code_behind, conversion_at, field_of, flags_at, numeral_at, percent_at, piece_at, Spells}
 use Rattle.write_format.specs.declared.code.Code as declared
 use Rattle.write_format.specs.declared.code.Conversion.{Conversion}
 use Rattle.write_format.specs.declared.piece.Piece.{Piece}

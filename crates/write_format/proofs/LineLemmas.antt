@@ -5,10 +5,7 @@ use Rattle.std.specs.Int.{w128}
 use Rattle.std.proofs.lemmas.Int.{ints, to_z-of_z}
 use Rattle.std.proofs.lemmas.List.{drop-drop, get_or-map, length-map, map-append, take-map, take_more}
 use Rattle.std.proofs.lemmas.List.Sums.{position_or_len_is, sum_by-cons}
-use Rattle.write_format.specs.Element.{Element, Byte, Number, Character, Chars, Str}
-use Rattle.write_format.specs.Format.{takes_number}
-use Rattle.write_format.specs.Line.{character_of, filled, first_argument, line_of, number_text, text_in}
-use Rattle.write_format.specs.Arrays.{cells_of}
+use Rattle.write_format.specs.Line.{Element, Byte, Number, Character, Chars, Str, takes_number, character_of, filled, first_argument, line_of, number_text, text_in, cells_of}
 use Rattle.write_format.specs.declared.part.Part.{Part}
 use Rattle.write_format.proofs.PartLemmas.{elements_more}
 

@@ -8,11 +8,9 @@ use Rattle.std.proofs.lemmas.List.{length-append, length-drop, take_more, take-a
 use Rattle.std.proofs.lemmas.List.{get_or_append_left}
 use Rattle.std.proofs.lemmas.List.Elements.{filter_map-append, All-append, All-cons, All-nil}
 use Rattle.std.proofs.lemmas.List.Sums.{sum_by-append, sum_by-cons}
-use Rattle.write_format.specs.Element.{Element, Byte}
-use Rattle.write_format.specs.Format.{FormatText, IsShort, IsShortElement, array_of, element_of, format_elements, numbers_taken, takes_number}
-use Rattle.write_format.specs.Front.{piece_at}
+use Rattle.write_format.specs.Line.{Element, Byte, FormatText, IsShort, IsShortElement, array_of, element_of, format_elements, numbers_taken, takes_number}
+use Rattle.write_format.specs.Reading.{piece_at, AreSpelled, HasCodesFor, codes_of}
 use Rattle.write_format.specs.Inside.Parts.{range_of}
-use Rattle.write_format.specs.Reading.{AreSpelled, HasCodesFor, codes_of}
 use Rattle.write_format.specs.declared.argument.ArgKind.{ArgKind}
 use Rattle.write_format.specs.declared.code.Code as declared
 use Rattle.write_format.specs.declared.part.Part.{Part}

@@ -2,8 +2,7 @@
 use Rattle.std.proofs.Common.{◌≡◌, ◌<◌, ◌≤◌, ◌∷◌, ◌∙◌, ℕ, zero, suc, List, [], length, Option, Some, None, ap, arith, refl, subst, sym}
 use Rattle.std.specs.Option.{option_and_then, option_map}
 use Rattle.std.proofs.lemmas.Option.{none-some, same_Some}
-use Rattle.write_format.specs.Front.{piece_at}
-use Rattle.write_format.specs.Reading.{AreSpelled, pieces_within}
+use Rattle.write_format.specs.Reading.{piece_at, AreSpelled, pieces_within}
 use Rattle.write_format.specs.declared.piece.Piece.{Piece}
 use Rattle.write_format.proofs.FrontLemmas.{piece_found, piece_shorter, piece_spelled}
 

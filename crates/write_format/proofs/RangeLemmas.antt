@@ -6,9 +6,8 @@ use Rattle.std.proofs.Math.Seq.{drop-append_seam, take-length}
 use Rattle.std.proofs.lemmas.Grind.{flat_map-append}
 use Rattle.std.proofs.lemmas.List.{length-append, length-drop, length-take-le}
 use Rattle.std.proofs.lemmas.List.Elements.{All-append, All-cons, All-nil}
-use Rattle.write_format.specs.Front.{piece_at}
+use Rattle.write_format.specs.Reading.{piece_at, Spells, codes_of, first_unfit}
 use Rattle.write_format.specs.Inside.Parts.{IsWithin, all_elements, elements_in, range_of}
-use Rattle.write_format.specs.Reading.{Spells, codes_of, first_unfit}
 use Rattle.write_format.specs.declared.argument.ArgKind.{ArgKind}
 use Rattle.write_format.specs.declared.part.Part.{Part}
 use Rattle.write_format.specs.declared.piece.Piece.{Piece}

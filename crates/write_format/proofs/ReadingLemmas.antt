@@ -9,8 +9,7 @@ use Rattle.std.proofs.lemmas.List.{length-append}
 use Rattle.std.proofs.lemmas.List.Folds.{prefix_len-append}
 use Rattle.std.proofs.lemmas.List.Sums.{prefix_len-le-length}
 use Rattle.std.proofs.lemmas.Option.{none-some, same_Some}
-use Rattle.write_format.specs.Front.{piece_at}
-use Rattle.write_format.specs.Reading.{AreSpelled, HasCodesFor, IsFirstUnfit, codes_of, first_unfit, is_fit}
+use Rattle.write_format.specs.Reading.{piece_at, AreSpelled, HasCodesFor, IsFirstUnfit, codes_of, first_unfit, is_fit}
 use Rattle.write_format.specs.declared.argument.ArgKind.{ArgKind}
 use Rattle.write_format.specs.declared.code.Code as declared
 use Rattle.write_format.specs.declared.piece.Piece.{Piece}

@@ -4,11 +4,8 @@ use Rattle.std.specs.Prelude.{◌==◌}
 use Rattle.std.specs.List.{position_or_len}
 use Rattle.std.proofs.lemmas.List.{length-append, length-take}
 use Rattle.std.proofs.lemmas.List.Elements.{All-append, All-cons, All-nil, All-head, All-tail}
-use Rattle.write_format.specs.Element.{Byte, Number, Character, Chars, Str}
-use Rattle.write_format.specs.Format.{FormatText, IsFormatOf, IsShort, IsShortArgument, IsShortElement, element_of, format_elements}
-use Rattle.write_format.specs.Line.{before_zero}
-use Rattle.write_format.specs.Front.{piece_at}
-use Rattle.write_format.specs.Reading.{AreSpelled}
+use Rattle.write_format.specs.Line.{Byte, Number, Character, Chars, Str, FormatText, IsFormatOf, IsShort, IsShortArgument, IsShortElement, element_of, format_elements, before_zero}
+use Rattle.write_format.specs.Reading.{piece_at, AreSpelled}
 use Rattle.write_format.specs.declared.argument.ArgKind.{ArgKind}
 use Rattle.write_format.specs.declared.argument.ArgKind.TheVariants as argument
 use Rattle.write_format.specs.declared.code.Conversion.{Conversion}

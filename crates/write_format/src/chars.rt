@@ -1,7 +1,7 @@
 // Which cells are characters.
 
 ghost use Rattle.std.specs.Prelude.{◌≡◌, ◌↔◌, ◌<◌, ◌^◌, IfOk, IsTrue};
-ghost use Rattle.write_format.specs.Arrays.{IsCharArray};
+ghost use Rattle.write_format.specs.Line.{IsCharArray};
 ghost use Rattle.write_format.specs.Inside.Chars.{is_other};
 
 use int_kinds::Kind;

@@ -5,7 +5,7 @@ ghost use Rattle.std.specs.Prelude.{◌≡◌};
 ghost use Rattle.std.specs.List.{AllPass, prefix_len};
 ghost use Rattle.std.specs.Option.{option_map};
 ghost use Rattle.text_parts.specs.Number.{is_digit};
-ghost use Rattle.write_format.specs.Front.{code_at, conversion_at, conversion_of, field_of, is_flag, long_conversion, plain_conversion, size_at, wide_conversion};
+ghost use Rattle.write_format.specs.Reading.{code_at, conversion_at, conversion_of, field_of, is_flag, long_conversion, plain_conversion, size_at, wide_conversion};
 
 use int_kinds::Kind;
 use text_parts::number_in_base;

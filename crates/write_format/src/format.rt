@@ -1,8 +1,7 @@
 // Formats.
 
 ghost use Rattle.std.specs.Prelude.{◌≡◌, ◌↔◌, ◌<◌, ◌^◌, ℕ, List, All, IfOk, IfErr, IsErrOf, IsTrue, Some, None, count_by, length};
-ghost use Rattle.write_format.specs.Arrays.{IsCharArray};
-ghost use Rattle.write_format.specs.Format.{IsFormatOf, IsShort, IsShortArgument, array_of, char_arrays, numbers_taken, takes_number};
+ghost use Rattle.write_format.specs.Line.{IsCharArray, IsFormatOf, IsShort, IsShortArgument, array_of, char_arrays, numbers_taken, takes_number};
 ghost use Rattle.write_format.specs.Inside.Parts.{AreFit, IsWithin, all_elements, elements_in, format_held};
 ghost use Rattle.write_format.specs.Reading.{HasCodesFor, IsFirstUnfit};
 ghost use Rattle.write_format.specs.declared.argument.ArgKind as argument;
@@ -35,7 +34,7 @@ pub struct Format {
 
 impl Model for Format {
     ghost use Rattle.std.specs.Prelude.{◌≡◌, All, count_by};
-    ghost use Rattle.write_format.specs.Format.{FormatText, IsFormatOf, takes_number};
+    ghost use Rattle.write_format.specs.Line.{FormatText, IsFormatOf, takes_number};
     ghost use Rattle.write_format.specs.Inside.Parts.{IsWithin, all_elements, format_held};
 
     ghost Value = { FormatText };

@@ -1,7 +1,7 @@
 //! Laws of formats. Each call does nothing: its contract is the law.
 
 ghost use Rattle.std.specs.Prelude.{◌≡◌, List, Some, ℕ};
-ghost use Rattle.write_format.specs.Format.{FormatText, IsFormatOf};
+ghost use Rattle.write_format.specs.Line.{FormatText, IsFormatOf};
 ghost use Rattle.write_format.specs.Reading.{AreSpelled, pieces_of};
 ghost use Rattle.write_format.specs.declared.argument.ArgKind as declared;
 ghost use Rattle.write_format.specs.declared.piece.Piece.{Piece};

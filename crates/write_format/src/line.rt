@@ -2,10 +2,8 @@
 
 ghost use Rattle.std.specs.Prelude.{◌≡◌, ◌≤◌, ◌<◌, ◌≤ℤ◌, ◌+◌, ◌++◌, All, IfOk, OnOk, count_by, drop, length, map, pos, take, unsigned_abs};
 ghost use Rattle.std.specs.List.{filter_map};
-ghost use Rattle.write_format.specs.Arrays.{HoldsBytes, cells_of};
-ghost use Rattle.write_format.specs.Format.{array_of, char_arrays, numbers_taken, rendered, takes_number};
+ghost use Rattle.write_format.specs.Line.{HoldsBytes, cells_of, array_of, char_arrays, numbers_taken, rendered, takes_number, line_of, text_in};
 ghost use Rattle.write_format.specs.Inside.Parts.{IsWithin, elements_in, range_of, text_at};
-ghost use Rattle.write_format.specs.Line.{line_of, text_in};
 
 use crate::argument::ArgKind;
 use crate::field::{append_filled, append_number};

@@ -1,7 +1,7 @@
 // The parts of a line, as a format holds them.
 
 ghost use Rattle.std.specs.Prelude.{◌≡◌, ◌↔◌, ◌≤◌, ◌++◌, ℕ, [], List, All, IfOk, IfSome, IsNone, IsTrue, OnOk, count_by, length};
-ghost use Rattle.write_format.specs.Format.{IsShortElement, element_of, format_elements, takes_number};
+ghost use Rattle.write_format.specs.Line.{IsShortElement, element_of, format_elements, takes_number};
 ghost use Rattle.write_format.specs.Inside.Parts.{IsArgumentAt, IsWithin, all_elements, elements_in};
 ghost use Rattle.write_format.specs.Reading.{AreSpelled, HasCodesFor};
 ghost use Rattle.write_format.specs.declared.argument.ArgKind as argument;

@@ -3,7 +3,7 @@
 ghost use Rattle.std.specs.Prelude.{◌≡◌, ◌≤◌, ◌==◌, length};
 ghost use Rattle.std.specs.List.{position_or_len};
 ghost use Rattle.std.specs.Option.{option_map};
-ghost use Rattle.write_format.specs.Front.{behind_percent, piece_at};
+ghost use Rattle.write_format.specs.Reading.{behind_percent, piece_at};
 
 use crate::code::{Code, code_at};
 use memchr::memchr;

@@ -3,8 +3,7 @@ use Rattle.std.specs.Prelude.{◌≡◌, ℕ, ◌+◌, ◌<◌, nat_le, false, i
 use Rattle.std.specs.List.{All, HoldsAt}
 use Rattle.std.specs.FinMap.{is_sorted}
 use Rattle.can_bus.specs.declared.waiting.Waiting.{Waiting}
-use Rattle.can_bus.specs.Order.{goes_before}
-use Rattle.can_bus.specs.Waiting.{name_cmp, entry_of}
+use Rattle.can_bus.specs.Waiting.{goes_before, name_cmp, entry_of}
 
 -- the requests stand by node and then by number
 abbrev pub InOrder : List Waiting → Type 0

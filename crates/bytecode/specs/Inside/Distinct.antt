@@ -1,7 +1,7 @@
 -- Selectors of one rank, as they are looked at one after another.
 use Rattle.std.specs.Prelude.{◌≡◌, ℕ}
 use Rattle.run_effects.specs.declared.event.Selector.{Selector}
-use Rattle.run_effects.specs.Event.{IsWithin}
+use Rattle.run_effects.specs.Effect.{IsWithin}
 
 -- two selectors have no key in common, if they are of this rank
 abbrev pub AreApartIn : ℕ → Selector → Selector → Type 0

@@ -5,8 +5,7 @@ use Rattle.std.specs.Str.{bytes_eq}
 use Rattle.texts.specs.declared.blame.Blame.{Blame}
 use Rattle.texts.specs.Rule.{source_rule}
 use Rattle.capl_include.specs.Blame.{place_blame}
-use Rattle.capl_include.specs.Name.{included_name, is_included_name}
-use Rattle.capl_include.specs.Expansion.{Expansion, Outcome, Include, Stopped, Visits, GoesOn}
+use Rattle.capl_include.specs.Expansion.{included_name, is_included_name, Expansion, Outcome, Include, Stopped, Visits, GoesOn}
 
 -- whether a file of this name was met
 abbrev pub has_met : List (List ℕ) → List ℕ → Bool

@@ -1,7 +1,7 @@
 -- The base in which a number is written.
 use Rattle.std.specs.Prelude.{◌≡◌, ℕ, List, ◌∷◌}
 use Rattle.text_parts.specs.Number.{IsHexDigit}
-use Rattle.capl_lexer.specs.Bytes.{IsMark}
+use Rattle.capl_lexer.specs.Spelling.{IsMark}
 use Rattle.capl_lexer.specs.declared.base.Base.{Base}
 use Rattle.capl_lexer.specs.declared.base.Base.TheVariants.{Ten, Sixteen}
 use Rattle.capl_lexer.specs.declared.byte_class.ByteClass.{ByteClass}

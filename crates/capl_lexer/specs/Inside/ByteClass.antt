@@ -1,8 +1,7 @@
 -- Runs of bytes of one class.
 use Rattle.std.specs.Prelude.{◌≡◌, ◌≤◌, ℕ, List, [], ◌∷◌, length, take, drop, All}
 use Rattle.text_parts.specs.Number.{IsDigit, IsHexDigit}
-use Rattle.capl_lexer.specs.Bytes.{IsBlank, IsBlankInLine, IsLetter, IsNameStart, IsNamePart, IsMark}
-use Rattle.capl_lexer.specs.Spelling.{IsPlain, IsPlainInChar, IsNameByte}
+use Rattle.capl_lexer.specs.Spelling.{IsBlank, IsBlankInLine, IsLetter, IsNameStart, IsNamePart, IsMark, IsPlain, IsPlainInChar, IsNameByte}
 use Rattle.capl_lexer.specs.declared.byte_class.ByteClass.{ByteClass}
 use Rattle.capl_lexer.specs.declared.byte_class.ByteClass.TheVariants as class
 

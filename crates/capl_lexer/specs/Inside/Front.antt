@@ -1,8 +1,7 @@
 -- The token at the front of a text.
 use Rattle.std.specs.Prelude.{◌≡◌, ◌≢◌, ◌≤◌, ⊤, ℕ, List, [], ◌∷◌, ◌++◌, length, take}
 use Rattle.text_parts.specs.Number.{IsDigit}
-use Rattle.capl_lexer.specs.Bytes.{IsNameStart}
-use Rattle.capl_lexer.specs.Spelling.{Spells, IsFloat}
+use Rattle.capl_lexer.specs.Spelling.{IsNameStart, Spells, IsFloat}
 use Rattle.capl_lexer.specs.Reading.{IsLongest}
 use Rattle.capl_lexer.specs.declared.token.Tok.{Tok}
 use Rattle.capl_lexer.specs.declared.front.Front.{Front}

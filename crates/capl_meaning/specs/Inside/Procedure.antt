@@ -8,7 +8,7 @@ use Rattle.capl_meaning.specs.Names.{Function, Names, inside_function}
 use Rattle.capl_meaning.specs.Calls.{function_numbered}
 use Rattle.capl_meaning.specs.Store.{This}
 use Rattle.capl_meaning.specs.Expression.{Memory, Setting}
-use Rattle.capl_meaning.specs.Procedure.{Handler, function_runs, handlers_of_part, runs}
+use Rattle.capl_meaning.specs.Statement.{Handler, function_runs, handlers_of_part, runs}
 
 -- the same setting in a function
 abbrev pub in_function : Setting → Function → Setting

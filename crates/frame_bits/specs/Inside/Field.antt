@@ -1,6 +1,6 @@
 -- The bits of the fields of which the code makes a frame.
 use Rattle.std.specs.Prelude.{Bool, List}
-use Rattle.can_frame.specs.Bits.{field_bits}
+use Rattle.can_frame.specs.Frame.{field_bits}
 use Rattle.frame_bits.specs.declared.field.Field.{Field}
 
 -- the bits of a field

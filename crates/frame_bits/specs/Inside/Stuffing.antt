@@ -1,7 +1,7 @@
 -- The stuffing of bits that come one by one.
 use Rattle.std.specs.Prelude.{◌≡◌, ℕ, ◌+◌, ◌*◌, ◌/◌, ◌%◌, ◌==◌, Bool, not, if◌then◌else◌, List, [], ◌∷◌, ◌++◌, length}
 use Rattle.std.specs.Bool.{beq}
-use Rattle.frame_bits.specs.Stuffing.{stuffing_of}
+use Rattle.frame_bits.specs.Length.{stuffing_of}
 
 -- how many equal bits end at b, where so many of the last value stood before it
 abbrev pub run_with : Bool → ℕ → Bool → ℕ

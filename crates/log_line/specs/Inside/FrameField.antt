@@ -3,7 +3,7 @@ use Rattle.std.specs.Prelude.{◌≡◌, ◌≢◌, ◌<◌, ◌≤◌, ℕ, Boo
 use Rattle.text_parts.specs.Number.{IsHexDigit, number_in}
 use Rattle.can_frame.specs.Frame.{FrameFields, IsIdent, ident_number}
 use Rattle.can_frame.specs.declared.Ident.{Ident}
-use Rattle.log_line.specs.FrameText.{digit_count, SpellsBytes, SpellsCode, SpellsData, SpellsFrame, IsFlexible, IsAbove, IsLongCode}
+use Rattle.log_line.specs.Reading.{digit_count, SpellsBytes, SpellsCode, SpellsData, SpellsFrame, IsFlexible, IsAbove, IsLongCode}
 use Rattle.log_line.specs.declared.frame_text.Bytes.{Bytes}
 use Rattle.log_line.specs.declared.frame_text.Data.{Data}
 use Rattle.log_line.specs.declared.frame_text.FrameField.{FrameField}

@@ -5,8 +5,7 @@ use Rattle.run_effects.specs.Effect.{Effect, Line, Send, Stop}
 use Rattle.run_records.specs.declared.record.Noted.TheVariants as entry
 use Rattle.run_records.specs.Record.{RecordMeaning, RefusesEntry, TakesEntry}
 use Rattle.timer_queue.specs.Timers.{Timers}
-use Rattle.node_rounds.specs.Effects.{IsTimerEffect, written_lines, requested_frames, stops_of, timers_after, timers_after_one}
-use Rattle.node_rounds.specs.Entries.{TakesEntries, after_requests, line_entries}
+use Rattle.node_rounds.specs.Effects.{IsTimerEffect, written_lines, requested_frames, stops_of, timers_after, timers_after_one, TakesEntries, after_requests, line_entries}
 
 -- the parts of a host: the number of its node, the moment, whether a stop was asked for, the bus, the record
 -- and the timers

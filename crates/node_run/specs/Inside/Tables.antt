@@ -3,7 +3,7 @@ use Rattle.std.specs.Prelude.{◌≡◌, ℕ, ◌+◌, ◌<◌, ◌^◌, Bool, L
 use Rattle.run_effects.specs.declared.event.Event.{Event}
 use Rattle.run_effects.specs.declared.event.Event.TheVariants as event
 use Rattle.run_effects.specs.declared.event.Selector.{Selector}
-use Rattle.run_effects.specs.Event.{selectors_of}
+use Rattle.run_effects.specs.Effect.{selectors_of}
 use Rattle.bytecode.specs.Verified.{IsVerified}
 use Rattle.msg_select.specs.declared.selector.MessageSelector.{MessageSelector}
 use Rattle.msg_select.specs.Selection.{IsChosen, NoneHolds}

@@ -6,11 +6,11 @@ use Rattle.int_kinds.specs.declared.kinds.Kind.TheVariants.{Byte, Word, Dword, Q
 use Rattle.run_effects.specs.declared.event.Event.{Event}
 use Rattle.run_effects.specs.declared.event.Event.TheVariants as event
 use Rattle.run_effects.specs.declared.event.Selector.{Selector}
-use Rattle.run_effects.specs.Event.{selectors_of}
+use Rattle.run_effects.specs.Effect.{selectors_of}
 use Rattle.write_format.specs.declared.argument.ArgKind.{ArgKind}
 use Rattle.write_format.specs.declared.argument.ArgKind.TheVariants as argument
 use Rattle.write_format.specs.declared.piece.Piece.{Piece}
-use Rattle.write_format.specs.Format.{FormatText, format_elements}
+use Rattle.write_format.specs.Line.{FormatText, format_elements}
 use Rattle.write_format.specs.Reading.{codes_of, first_unfit, pieces_of}
 use Rattle.bytecode.specs.declared.code.Fun.{Fun}
 use Rattle.bytecode.specs.declared.code.Handler.{Handler}

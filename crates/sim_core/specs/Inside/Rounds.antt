@@ -10,9 +10,8 @@ use Rattle.node_rounds.specs.Reaction.{NodeState}
 use Rattle.node_rounds.specs.Round.{Task}
 use Rattle.node_run.specs.Code.{CodeMemory, code_reaction}
 use Rattle.run_meaning.specs.Done.{AreCut, AreDone}
-use Rattle.run_meaning.specs.Order.{picks_after}
+use Rattle.run_meaning.specs.Steps.{picks_after, picks_left, steps, task_steps}
 use Rattle.run_meaning.specs.Run.{IsEnded, IsRound, Passed, RunState}
-use Rattle.run_meaning.specs.Steps.{picks_left, steps, task_steps}
 use Rattle.sim_core.specs.Core.{CoreState, KeepsNodes, rows_of, run_of, states_of}
 
 -- a simulation did a round: these are the tasks of each node

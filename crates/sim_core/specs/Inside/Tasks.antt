@@ -10,12 +10,10 @@ use Rattle.node_rounds.specs.Round.{Doing, DoesNext, IsDone, PartOf, Task, at_be
 use Rattle.node_run.specs.Code.{CodeMemory, code_reaction}
 use Rattle.node_run.specs.Node.{DoesTask, IsTaskRefused, NodeInRound}
 use Rattle.node_run.specs.Sound.{CanOccur, IsSound}
-use Rattle.run_meaning.specs.Bus.{after_all_tasks}
+use Rattle.run_meaning.specs.Run.{after_all_tasks, ask_stop, seen_by}
 use Rattle.run_meaning.specs.Done.{AreCut, AreDone}
 use Rattle.run_meaning.specs.Live.{AreDue, IsReady}
-use Rattle.run_meaning.specs.Order.{picks_after}
-use Rattle.run_meaning.specs.Run.{ask_stop, seen_by}
-use Rattle.run_meaning.specs.Steps.{task_steps}
+use Rattle.run_meaning.specs.Steps.{picks_after, task_steps}
 use Rattle.sim_core.specs.Core.{rows_of, states_of}
 
 -- whether a node has a further task in its round

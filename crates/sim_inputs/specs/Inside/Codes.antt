@@ -5,9 +5,9 @@ use Rattle.bytecode.specs.declared.code.Code.{Code}
 use Rattle.capl_include.specs.Expansion.{Contents}
 use Rattle.dbc_reader.specs.declared.message.DbcMessage.{DbcMessage}
 use Rattle.scenario.specs.declared.scenario.NodeItem.{NodeItem}
-use Rattle.source_compiler.specs.Program.{AreTreesOf}
+use Rattle.source_compiler.specs.Source.{AreTreesOf}
 use Rattle.sim_inputs.specs.Answer.{AreCodesFor}
-use Rattle.sim_inputs.specs.Nodes.{AreWithin, IsNodeSource, NodeSource, cells_in, file_names, weight_in}
+use Rattle.sim_inputs.specs.Accepted.{AreWithin, IsNodeSource, NodeSource, cells_in, file_names, weight_in}
 
 -- the sources of nodes are accepted, each by itself: one for each node, in order
 abbrev pub AreSources : Contents → List ℕ → List DbcMessage → List NodeItem → List NodeSource → Type 0

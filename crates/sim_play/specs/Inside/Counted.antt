@@ -5,8 +5,8 @@ use Rattle.std.specs.Option.{unwrap_or}
 use Rattle.bytecode.specs.declared.code.Handler.{Handler}
 use Rattle.stack_vm.specs.declared.meter.MeterRow.{MeterRow}
 use Rattle.node_run.specs.Node.{NodeInRound}
-use Rattle.sim_text.specs.Profile.{profile_line}
-use Rattle.sim_play.specs.Files.{file_of}
+use Rattle.sim_text.specs.Lines.{profile_line}
+use Rattle.sim_play.specs.Show.{file_of}
 use Rattle.sim_play.specs.Profile.{handler_lines}
 use Rattle.sim_play.specs.declared.labels.Labels.{Labels}
 use Rattle.sim_play.specs.declared.labels.Show.{Show}

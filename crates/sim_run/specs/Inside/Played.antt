@@ -9,12 +9,12 @@ use Rattle.replay_node.specs.declared.replay.Replay.{Replay}
 use Rattle.dbc_reader.specs.declared.message.DbcMessage.{DbcMessage}
 use Rattle.run_meaning.specs.Steps.{steps}
 use Rattle.sim_inputs.specs.Answer.{AreCodesFor}
-use Rattle.sim_inputs.specs.Nodes.{NodeSource, file_names}
+use Rattle.sim_inputs.specs.Accepted.{NodeSource, file_names}
 use Rattle.sim_inputs.specs.declared.inputs.Inputs.{Inputs}
 use Rattle.sim_play.specs.declared.labels.Labels.{Labels}
 use Rattle.sim_play.specs.declared.labels.Show.{Show}
 use Rattle.sim_run.specs.Answer.{IsShown, IsShownInPart}
-use Rattle.sim_run.specs.Shown.{shown_of}
+use Rattle.sim_run.specs.Run.{shown_of}
 
 -- under which names a scenario is shown whose nodes have these files
 abbrev pub labels_with : Scenario → List (List (List ℕ)) → Replay → Labels

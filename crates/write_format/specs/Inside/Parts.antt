@@ -1,7 +1,6 @@
 -- The parts of a line, as a format holds them: ranges of its text, and its arguments.
 use Rattle.std.specs.Prelude.{◌≡◌, ℕ, ◌+◌, ◌<◌, ◌≤◌, ⊤, List, [], ◌∷◌, None, drop, flat_map, length, map, slice_index_or, take}
-use Rattle.write_format.specs.Element.{Element, Byte, Number, Character, Chars, Str}
-use Rattle.write_format.specs.Format.{FormatText}
+use Rattle.write_format.specs.Line.{Element, Byte, Number, Character, Chars, Str, FormatText}
 use Rattle.write_format.specs.Reading.{AreMatched, codes_of, first_unfit}
 use Rattle.write_format.specs.declared.argument.ArgKind.{ArgKind}
 use Rattle.write_format.specs.declared.argument.ArgKind.TheVariants as argument

@@ -3,7 +3,7 @@ use Rattle.std.proofs.Common.{rules, ◌≤◌, List, sym, subst}
 use Rattle.std.specs.Prelude.{All, AllPairs}
 use Rattle.std.specs.List.Sorted.{IsNonDecreasingBy}
 use Rattle.std.proofs.lemmas.List.Sorted.{All-permutation, IsNonDecreasingBy-from_sort_by_key}
-use Rattle.run_effects.specs.Event.{AreApart}
+use Rattle.run_effects.specs.Effect.{AreApart}
 use Rattle.bytecode.proofs.ListPairs.{AllPairs-permutation, AllPairs-permuted}
 use Rattle.bytecode.proofs.SelectorRanks.{AreApart-turned}
 use Rattle.run_effects.specs.declared.event.Selector.{Selector}

@@ -1,6 +1,6 @@
 -- The key of a frame, by the format of its identifier.
 use Rattle.std.proofs.Common.{ap, ◌∙◌}
-use Rattle.can_frame.specs.Arbitration.{arbitration_key}
+use Rattle.can_frame.specs.Frame.{arbitration_key}
 use Rattle.can_frame.specs.Inside.Frame.{fields_of}
 use Rattle.can_frame.proofs.KeyBits.{std_key_is, ext_key_is}
 use Rattle.can_frame.proofs.arbitration.arb_key.Goals as goal

@@ -1,6 +1,6 @@
 -- The step of the include that the token is.
 use Rattle.std.proofs.Common.{◌≡◌, true, false, sym, ap, ◌∙◌}
-use Rattle.capl_include.specs.Name.{included_name, is_included_name}
+use Rattle.capl_include.specs.Expansion.{included_name, is_included_name}
 use Rattle.capl_include.specs.Inside.Step.{has_met}
 use Rattle.capl_include.proofs.StepLemmas.{step_refused, step_visited, refused_step}
 use Rattle.capl_include.proofs.expansion.next_name.Goals as goal

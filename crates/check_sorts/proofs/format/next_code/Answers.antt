@@ -1,6 +1,6 @@
 -- One more piece.
 use Rattle.std.proofs.Common.{◌≡◌, Some, sym, ap, ◌∙◌, arith}
-use Rattle.write_format.specs.Front.{piece_at}
+use Rattle.write_format.specs.Reading.{piece_at}
 use Rattle.write_format.specs.declared.piece.Piece.{Piece}
 use Rattle.write_format.specs.declared.piece.Piece.TheVariants.{Argument, Byte}
 use Rattle.write_format.proofs.FrontLemmas.{piece_shorter}

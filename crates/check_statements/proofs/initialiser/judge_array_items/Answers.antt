@@ -1,6 +1,6 @@
 -- One more.
 use Rattle.std.proofs.Common.{◌∙◌}
-use Rattle.capl_meaning.specs.InitialiserRules.{array_item_rules}
+use Rattle.capl_meaning.specs.DeclarationRules.{array_item_rules}
 use Rattle.check_statements.specs.Site.{place_of}
 use Rattle.check_statements.proofs.TurnLemmas.{noted_step}
 use Rattle.check_statements.proofs.initialiser.judge_array_items.Goals as goal

@@ -1,6 +1,6 @@
 -- One more.
 use Rattle.std.proofs.Common.{◌∙◌}
-use Rattle.capl_meaning.specs.InitialiserRules.{item_offences}
+use Rattle.capl_meaning.specs.DeclarationRules.{item_offences}
 use Rattle.check_statements.specs.Site.{place_of}
 use Rattle.check_statements.proofs.TurnLemmas.{noted_step}
 use Rattle.check_statements.proofs.initialiser.judge_items.Goals as goal

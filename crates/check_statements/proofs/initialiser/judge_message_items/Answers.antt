@@ -1,6 +1,6 @@
 -- One more.
 use Rattle.std.proofs.Common.{◌∙◌}
-use Rattle.capl_meaning.specs.InitialiserRules.{message_item_rules}
+use Rattle.capl_meaning.specs.DeclarationRules.{message_item_rules}
 use Rattle.check_sorts.specs.Form.{signals_in}
 use Rattle.check_statements.specs.Site.{place_of}
 use Rattle.check_statements.proofs.TurnLemmas.{noted_step}

@@ -1,7 +1,7 @@
 -- What was noted and what is left are the offences of all items.
 use Rattle.std.proofs.Common.{◌≡◌, drop}
 use Rattle.std.specs.Prelude.{flat_map}
-use Rattle.capl_meaning.specs.InitialiserRules.{message_item_rules}
+use Rattle.capl_meaning.specs.DeclarationRules.{message_item_rules}
 use Rattle.check_sorts.specs.Form.{signals_in}
 use Rattle.check_names.specs.First.{noted}
 use Rattle.check_statements.specs.Site.{place_of}

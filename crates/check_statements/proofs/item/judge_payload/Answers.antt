@@ -4,7 +4,7 @@ use Rattle.std.specs.Prelude.{not}
 use Rattle.std.specs.Option.{option_map_or}
 use Rattle.capl_meaning.specs.Constant.{constant_at}
 use Rattle.capl_meaning.specs.ExpressionRules.{broken_where}
-use Rattle.capl_meaning.specs.InitialiserRules.{constant_offences, is_payload_index}
+use Rattle.capl_meaning.specs.DeclarationRules.{constant_offences, is_payload_index}
 use Rattle.check_names.specs.First.{noted}
 use Rattle.check_statements.specs.Item.{payload_offences}
 use Rattle.check_statements.specs.Site.{place_of}

@@ -3,7 +3,7 @@ use Rattle.std.proofs.Common.{◌∙◌, ◌++◌, List, ap, length, subst, sym}
 use Rattle.std.specs.Prelude.{flat_map}
 use Rattle.std.specs.Option.{option_to_list}
 use Rattle.std.proofs.lemmas.List.{take_all}
-use Rattle.capl_meaning.specs.Procedure.{Handler, handlers_of_part}
+use Rattle.capl_meaning.specs.Statement.{Handler, handlers_of_part}
 use Rattle.check_names.specs.declared.part.ProgramPart.{ProgramPart}
 use Rattle.check_names.specs.Part.{part_in}
 use Rattle.check_types.specs.Lines.{line_in}

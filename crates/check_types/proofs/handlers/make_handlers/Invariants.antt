@@ -1,7 +1,7 @@
 -- The event procedures and formats are those of the parts so far.
 use Rattle.std.proofs.Common.{◌≡◌, ◌++◌, length, take}
 use Rattle.std.specs.Prelude.{flat_map}
-use Rattle.capl_meaning.specs.Procedure.{handlers_of_part}
+use Rattle.capl_meaning.specs.Statement.{handlers_of_part}
 use Rattle.check_names.specs.Part.{part_in}
 use Rattle.check_types.specs.Lines.{line_in}
 use Rattle.check_types.specs.Handlers.{lines_of}

@@ -8,7 +8,7 @@ use Rattle.typed_laws.proofs.Declared.{plain_names}
 use Rattle.type_starts.specs.Identifier.{IsDeclaredShort}
 use Rattle.check_names.specs.Part.{parts_in}
 use Rattle.check_types.proofs.IdentifierLemmas.{all_short}
-use Rattle.capl_meaning.specs.Procedure.{handlers_of_part}
+use Rattle.capl_meaning.specs.Statement.{handlers_of_part}
 use Rattle.capl_meaning.specs.Inside.Procedure.{handlers_of}
 use Rattle.check_types.proofs.RoomLemmas.{room_for_first, room_for_second}
 use Rattle.type_statements.specs.Tables.{order_of}

@@ -4,8 +4,7 @@ use Rattle.std.specs.Prelude.{ℤ, ◌≤ℤ◌}
 use Rattle.std.proofs.lemmas.List.Elements.{All-drop, All-take, All-weaker}
 use Rattle.int_kinds.specs.declared.kinds.Kind.{Kind}
 use Rattle.int_kinds.specs.declared.kinds.Kind.TheVariants.{Char}
-use Rattle.write_format.specs.Arrays.{HoldsBytes, IsCharArray}
-use Rattle.write_format.specs.Format.{char_arrays}
+use Rattle.write_format.specs.Line.{HoldsBytes, IsCharArray, char_arrays}
 use Rattle.format_tests.proofs.formats.line.Goals as goal
 
 -- the kinds of the test's cells

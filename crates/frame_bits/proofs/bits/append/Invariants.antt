@@ -1,6 +1,6 @@
 -- The bits of the field down to a place are appended.
 use Rattle.std.proofs.Common.{◌≡◌, ◌-◌, ◌/◌, ◌^◌, ◌++◌}
-use Rattle.can_frame.specs.Bits.{field_bits}
+use Rattle.can_frame.specs.Frame.{field_bits}
 use Rattle.frame_bits.proofs.bits.append.Given as goal
 
 abbrev pub invariant-loop-place : goal.invariant-loop-place

@@ -1,9 +1,8 @@
 -- Header, data and CRC are the unstuffed bits.
 use Rattle.std.proofs.Common.{◌≡◌, ◌++◌, ◌∙◌, ap}
-use Rattle.frame_bits.specs.Bits.{covered_bits}
+use Rattle.frame_bits.specs.Length.{covered_bits, crc_bits}
 use Rattle.frame_bits.specs.Inside.Field.{bits_in}
-use Rattle.can_frame.specs.Bits.{number_of}
-use Rattle.frame_bits.specs.Crc.{crc_bits}
+use Rattle.can_frame.specs.Frame.{number_of}
 use Rattle.frame_bits.proofs.Lengths.{covered-is, crc_piece}
 use Rattle.frame_bits.proofs.bits.bits_of.Goals as goal
 

@@ -1,6 +1,6 @@
 -- The table has what each nibble leaves.
 use Rattle.std.proofs.Common.{refl, sym, subst, ap, ◌∙◌, get_or}
-use Rattle.can_frame.specs.Bits.{field_bits}
+use Rattle.can_frame.specs.Frame.{field_bits}
 use Rattle.frame_bits.specs.declared.crc.TheConstants.{REMAINDERS}
 use Rattle.frame_bits.specs.Inside.Crc.{IsRegister}
 use Rattle.frame_bits.proofs.NibbleSteps.{entry, left_by, left_by-is}

@@ -3,7 +3,7 @@ use Rattle.std.proofs.Common.{◌≡◌, ◌+◌, ◌*◌, ◌/◌, ◌%◌, ◌
 use Rattle.std.proofs.lemmas.Nat.{and_mask}
 use mir.Val.{bool_byte}
 use Rattle.can_frame.specs.Frame.{IsIdent}
-use Rattle.frame_bits.specs.Bits.{header_bits}
+use Rattle.frame_bits.specs.Length.{header_bits}
 use Rattle.frame_bits.proofs.FieldSteps.{number_field, header_std, header_ext}
 use Rattle.frame_bits.proofs.header.header.Goals as goal
 

@@ -1,8 +1,6 @@
 -- The walk over a whole frame counts its length.
 use Rattle.std.proofs.Common.{◌+◌, ◌++◌, [], ◌∙◌, sym, ap, subst, arith}
-use Rattle.frame_bits.specs.Bits.{covered_bits}
-use Rattle.frame_bits.specs.Bits.{unstuffed_bits}
-use Rattle.frame_bits.specs.Length.{IsFrameLength}
+use Rattle.frame_bits.specs.Length.{covered_bits, unstuffed_bits, IsFrameLength}
 use Rattle.frame_bits.specs.Inside.Walk.{HasWalked}
 use Rattle.frame_bits.proofs.Lengths.{covered-is, crc_piece, frame_length-is, IsFrameLength-frame_length, frame_length-least, frame_length-most}
 use Rattle.frame_bits.proofs.length.stuffed_len.Goals as goal

@@ -1,6 +1,6 @@
 -- The table has each step.
 use Rattle.std.proofs.Common.{◌+◌, ◌*◌, ◌<◌, ◌∙◌, refl, arith}
-use Rattle.can_frame.specs.Bits.{field_bits}
+use Rattle.can_frame.specs.Frame.{field_bits}
 use Rattle.frame_bits.specs.declared.stuffing.TheConstants.{STEPS}
 use Rattle.frame_bits.proofs.NibbleSteps.{entry, step_at, step_at-is}
 use Rattle.frame_bits.proofs.stuffing.nibble_step.Goals as goal

@@ -1,5 +1,5 @@
 -- The first space or tab.
-use Rattle.log_line.specs.Fields.{is_blank}
+use Rattle.log_line.specs.Reading.{is_blank}
 use Rattle.log_line.proofs.ByteTables.{first_is_position}
 use Rattle.log_line.proofs.fields.first_blank.Goals as goal
 

@@ -1,6 +1,6 @@
 -- One pair more, and the last.
 use Rattle.std.proofs.Common.{◌≡◌, ◌/◌, length, refl, subst, take, arith}
-use Rattle.log_line.specs.FrameText.{SpellsBytes}
+use Rattle.log_line.specs.Reading.{SpellsBytes}
 use Rattle.log_line.proofs.BytesLemmas.{taken_nothing, taken_all}
 use Rattle.log_line.proofs.PlainBytes.{taken_pair, taken_whole}
 use Rattle.log_line.proofs.frame_text.plain_bytes.Goals as goal

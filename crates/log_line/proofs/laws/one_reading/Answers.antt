@@ -1,5 +1,5 @@
 -- Its fields have at most one.
-use Rattle.log_line.specs.Fields.{log_fields, without_return}
+use Rattle.log_line.specs.Reading.{log_fields, without_return}
 use Rattle.log_line.proofs.OneReading.{one_fields_reading}
 use Rattle.log_line.proofs.laws.one_reading.Goals as goal
 

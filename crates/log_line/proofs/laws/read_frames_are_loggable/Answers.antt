@@ -1,5 +1,5 @@
 -- Its fields are those of an entry.
-use Rattle.log_line.specs.Fields.{log_fields, without_return}
+use Rattle.log_line.specs.Reading.{log_fields, without_return}
 use Rattle.log_line.proofs.LoggableLemmas.{entry_loggable}
 use Rattle.log_line.proofs.laws.read_frames_are_loggable.Goals as goal
 

@@ -1,6 +1,6 @@
 -- Each way that a line may have no reading.
 use Rattle.std.proofs.Common.{◌≡◌, ◌∷◌, sym, ap, subst, ◌∙◌}
-use Rattle.log_line.specs.Fields.{log_fields, without_return}
+use Rattle.log_line.specs.Reading.{log_fields, without_return}
 use Rattle.log_line.specs.Inside.FrameField.{IsFrameField}
 use Rattle.log_line.proofs.ReadingLemmas.{no_stamp, no_frame_field, no_direction, no_direction_behind_long}
 use Rattle.log_line.proofs.reading.view_line.Goals as goal

@@ -5,7 +5,7 @@ use Rattle.run_effects.specs.declared.outcome.Outcome.TheVariants.{Cut, Done, Tr
 use Rattle.control_flow.specs.World.{World, Run, Gives, Fails}
 use Rattle.control_flow.specs.Control.{End}
 use Rattle.capl_meaning.specs.Expression.{Memory}
-use Rattle.capl_meaning.specs.Procedure.{calls_of, ending, runs}
+use Rattle.capl_meaning.specs.Statement.{calls_of, ending, runs}
 use Rattle.capl_meaning.specs.Inside.Procedure.{setting_of}
 use Rattle.meaning_laws.proofs.Cuts.{EndsWithin, cut_with_none}
 use Rattle.meaning_laws.proofs.CutExpressions.{spot_cut, value_cut}

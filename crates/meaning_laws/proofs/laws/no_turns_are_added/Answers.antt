@@ -1,5 +1,5 @@
 -- Expressions, statements, bodies and calls add no turns.
-use Rattle.capl_meaning.specs.Procedure.{calls_of}
+use Rattle.capl_meaning.specs.Statement.{calls_of}
 use Rattle.meaning_laws.proofs.Expressions.{spot_adds_none, value_adds_none}
 use Rattle.meaning_laws.proofs.Statements.{alone_adds_none, runs_add_none, stmt_adds_none}
 use Rattle.meaning_laws.proofs.Calls.{program_calls_add_none}

@@ -1,6 +1,6 @@
 -- Expressions, statements, bodies, calls and event procedures do the same with each number that is not less than the turns left.
 use Rattle.std.proofs.Common.{[], ap, arith}
-use Rattle.capl_meaning.specs.Procedure.{calls_of, ending}
+use Rattle.capl_meaning.specs.Statement.{calls_of, ending}
 use Rattle.capl_meaning.specs.Inside.Procedure.{setting_of}
 use Rattle.meaning_laws.proofs.Calls.{program_calls_add_none}
 use Rattle.meaning_laws.proofs.SameExpressions.{same_spot, same_value}

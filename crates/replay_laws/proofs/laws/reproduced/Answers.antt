@@ -3,8 +3,7 @@ use Rattle.std.proofs.Common.{◌≡◌, List, map, sym, ap, subst, ◌∙◌}
 use Rattle.std.specs.Prelude.{All}
 use Rattle.std.proofs.lemmas.List.Elements.{All-weaker}
 use Rattle.can_bus.specs.Bus.{new_bus}
-use Rattle.replay_node.specs.Log.{LogReads}
-use Rattle.replay_node.specs.Replay.{entries_on, requests_from}
+use Rattle.replay_node.specs.Replay.{LogReads, entries_on, requests_from}
 use Rattle.replay_node.specs.Spaced.{lines_written}
 use Rattle.replay_node.specs.declared.replay.Request.{Request}
 use Rattle.replay_laws.proofs.Entries.{IsWithin, all_within, entry_of, frame_of, log_of_rounds, requests_are, same_entries, spaced_frames}

@@ -1,7 +1,7 @@
 -- The picks so far stand before those of the values that are left.
 use Rattle.std.proofs.Common.{◌≡◌, ◌++◌, map, drop}
 use Rattle.std.specs.Option.{option_map}
-use Rattle.scenario.specs.Value.{picks_of}
+use Rattle.scenario.specs.Item.{picks_of}
 use Rattle.scenario.proofs.value.picks_of.Given as goal
 
 abbrev pub invariant-loop-value : goal.invariant-loop-value

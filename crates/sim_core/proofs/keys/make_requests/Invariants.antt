@@ -1,6 +1,6 @@
 -- The requests that are left, made on the bus as it is, give the bus after all and the requests after the moment.
 use Rattle.std.proofs.Common.{◌≡◌, length}
-use Rattle.node_rounds.specs.Entries.{after_requests}
+use Rattle.node_rounds.specs.Effects.{after_requests}
 use Rattle.run_meaning.specs.Moments.{requests_after, requests_at}
 use Rattle.sim_core.proofs.keys.make_requests.Given as goal
 

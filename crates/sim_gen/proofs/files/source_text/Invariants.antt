@@ -1,6 +1,6 @@
 -- What stands between two sources.
 use Rattle.std.proofs.Common.{◌≡◌, drop}
-use Rattle.sim_gen.specs.Files.{source_text}
+use Rattle.sim_gen.specs.Generated.{source_text}
 use Rattle.sim_gen.proofs.files.source_text.Given as goal
 
 -- the sources that are left give what all sources give

@@ -1,7 +1,7 @@
 -- What the database that the scenario names decides.
 use Rattle.std.proofs.Common.{◌≡◌, Err, ◌∙◌}
-use Rattle.sim_outside.specs.Folder.{beside}
-use Rattle.sim_inputs.specs.Database.{BaseAt, DatabaseAt, IsBaseBlame, IsDatabaseBlame}
+use Rattle.sim_outside.specs.Files.{beside}
+use Rattle.sim_inputs.specs.Accepted.{BaseAt, DatabaseAt, IsBaseBlame, IsDatabaseBlame}
 use Rattle.input_refusals.specs.Agreement.{Agrees}
 use Rattle.sim_inputs.specs.Inside.Messages.{messages_in}
 use Rattle.sim_inputs.proofs.BaseLemmas.{base_found, base_refused}

@@ -1,8 +1,7 @@
 -- What the text of a database decides.
 use Rattle.std.proofs.Common.{inr, subst}
 use Rattle.dbc_reader.specs.Database.{IsDatabase}
-use Rattle.sim_inputs.specs.Blame.{Holds}
-use Rattle.sim_inputs.specs.Database.{DatabaseAt, IsDatabaseBlame, IsStatementBlame, database_limit}
+use Rattle.sim_inputs.specs.Accepted.{Holds, DatabaseAt, IsDatabaseBlame, IsStatementBlame, database_limit}
 use Rattle.input_refusals.specs.Agreement.{Agrees}
 use Rattle.input_refusals.proofs.Passing.{judged_told, told_from}
 use Rattle.sim_inputs.proofs.database.read_database.Goals as goal

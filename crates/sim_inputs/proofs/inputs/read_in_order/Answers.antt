@@ -4,14 +4,11 @@ use Rattle.std.specs.Prelude.{IfSome}
 use Rattle.check_names.specs.Names.{messages_of}
 use Rattle.dbc_reader.specs.declared.message.DbcMessage.{DbcMessage}
 use Rattle.sim_inputs.specs.Answer.{AreInputsOf, IsAnswer}
-use Rattle.sim_inputs.specs.Database.{BaseAt, IsBaseBlame}
+use Rattle.sim_inputs.specs.Accepted.{BaseAt, IsBaseBlame, IsNodesBlame, IsReplayBlame, ReplayAt, ScenarioAt}
 use Rattle.input_refusals.specs.Agreement.{Agrees}
 use Rattle.sim_inputs.specs.Inside.Codes.{AreNodeCodes}
 use Rattle.sim_inputs.specs.Inside.Messages.{messages_in}
-use Rattle.sim_inputs.specs.Nodes.{IsNodesBlame}
 use Rattle.replay_node.specs.declared.replay.Replay.{Replay}
-use Rattle.sim_inputs.specs.Replay.{IsReplayBlame, ReplayAt}
-use Rattle.sim_inputs.specs.Scenario.{ScenarioAt}
 use Rattle.sim_inputs.specs.declared.inputs.Inputs.{Inputs}
 use Rattle.sim_inputs.specs.declared.nodes.NodeCodes.{NodeCodes}
 use Rattle.sim_inputs.proofs.InputsLemmas.{coded_of, inputs_of, lent_base, nodes_blame, refused_answer, replay_blame, told_from_four}

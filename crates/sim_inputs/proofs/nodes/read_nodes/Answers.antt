@@ -8,9 +8,8 @@ use Rattle.source_compiler.specs.Source.{IsSourceBlame}
 use Rattle.source_compiler.specs.declared.compiled.Compiled.{Compiled}
 use Rattle.input_refusals.specs.Agreement.{Agrees}
 use Rattle.input_refusals.proofs.Passing.{agrees_judged, blamed, passed_on, told_always, told_from, told_from_two}
-use Rattle.sim_inputs.specs.Blame.{too_large_rule}
+use Rattle.sim_inputs.specs.Accepted.{too_large_rule, IsNodesBlame, most_together}
 use Rattle.sim_inputs.specs.Inside.Codes.{AreNodeCodes}
-use Rattle.sim_inputs.specs.Nodes.{IsNodesBlame, most_together}
 use Rattle.sim_inputs.specs.declared.nodes.NodeCodes.{NodeCodes}
 use Rattle.sim_inputs.proofs.NodeLemmas.{AreReadTo, all_read, memory_agrees, more_coded, more_read, named_beside, source_blamed, sum_blamed}
 use Rattle.sim_inputs.proofs.nodes.read_nodes.Goals as goal

@@ -2,7 +2,7 @@
 use Rattle.std.proofs.Common.{◌≡◌, ◌≤◌, length, IfSome}
 use Rattle.check_names.specs.Names.{messages_of}
 use Rattle.sim_inputs.specs.Inside.Codes.{AreOfSources}
-use Rattle.sim_inputs.specs.Nodes.{AreWithin}
+use Rattle.sim_inputs.specs.Accepted.{AreWithin}
 use Rattle.sim_inputs.proofs.NodeLemmas.{AreReadTo}
 use Rattle.sim_inputs.proofs.nodes.read_nodes.Given as goal
 

@@ -2,7 +2,7 @@
 use Rattle.std.proofs.Common.{[], refl}
 use Rattle.input_refusals.specs.Agreement.{Agrees}
 use Rattle.input_refusals.proofs.Passing.{told_always}
-use Rattle.sim_inputs.specs.Replay.{IsReplayBlame, ReplayAt}
+use Rattle.sim_inputs.specs.Accepted.{IsReplayBlame, ReplayAt}
 use Rattle.sim_inputs.proofs.ReplayLemmas.{without_log}
 use Rattle.sim_inputs.proofs.replay.read_replay.Goals as goal
 

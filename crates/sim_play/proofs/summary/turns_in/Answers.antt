@@ -6,7 +6,7 @@ use Rattle.std.proofs.lemmas.List.Sums.{sum_by_more}
 use Rattle.std.proofs.lemmas.Option.{slice_get-get_or}
 use Rattle.stack_vm.specs.declared.meter.MeterRow.{MeterRow}
 use Rattle.sim_play.specs.Inside.Counted.{row_in}
-use Rattle.sim_play.specs.Summary.{capped}
+use Rattle.sim_play.specs.Show.{capped}
 use Rattle.sim_play.proofs.RowLemmas.{no_runs}
 use Rattle.sim_play.proofs.summary.turns_in.Goals as goal
 

@@ -1,7 +1,7 @@
 -- What stands between two rows.
 use Rattle.std.proofs.Common.{◌≡◌, take}
 use Rattle.std.specs.List.{sum_by}
-use Rattle.sim_play.specs.Summary.{capped}
+use Rattle.sim_play.specs.Show.{capped}
 use Rattle.sim_play.proofs.summary.turns_in.Given as goal
 
 -- the turns of the rows that were passed

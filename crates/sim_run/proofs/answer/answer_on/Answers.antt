@@ -1,7 +1,7 @@
 -- What was written of the answer over the inputs of a name.
 use Rattle.std.proofs.Common.{◌∙◌, sym, subst}
 use Rattle.sim_inputs.specs.Accepted.{IsFirstBlame}
-use Rattle.sim_text.specs.Blame.{blame_line}
+use Rattle.sim_text.specs.Lines.{blame_line}
 use Rattle.sim_run.proofs.WrittenLemmas.{answer_of_blame, blame_partly, blame_whole, inputs_as_it_happens, inputs_partly, inputs_whole}
 use Rattle.sim_run.proofs.answer.answer_on.Goals as goal
 

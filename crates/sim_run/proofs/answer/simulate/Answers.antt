@@ -1,7 +1,7 @@
 -- The answer to the words is that over the inputs that they ask for.
 use Rattle.std.proofs.Common.{map, inl, refl}
 use Rattle.std.specs.Prelude.{Some, string_bytes}
-use Rattle.sim_gen.specs.Files.{made_contents}
+use Rattle.sim_gen.specs.Generated.{made_contents}
 use Rattle.sim_play.specs.declared.labels.Show.TheVariants.{Summary}
 use Rattle.sim_run.proofs.WrittenLemmas.{answer_by, answer_over, asks_generated, begun_of, none_fails, part_over}
 use Rattle.sim_run.proofs.answer.simulate.Goals as goal

@@ -1,7 +1,7 @@
 -- The digits of a rule.
 use Rattle.std.proofs.Common.{◌++◌, ◌∷◌, [], refl, ap, ◌∙◌, append_assoc}
 use Rattle.std.specs.Prelude.{decimal}
-use Rattle.text_parts.specs.Digits.{zero_filled}
+use Rattle.text_parts.specs.Number.{zero_filled}
 use Rattle.text_parts.proofs.DigitLemmas.{decimal_is}
 use Rattle.sim_text.proofs.blame.append_rule.Goals as goal
 

@@ -1,6 +1,6 @@
 -- What stands between two bytes.
 use Rattle.std.proofs.Common.{◌≡◌, ◌++◌, take}
-use Rattle.sim_text.specs.Shown.{shown_text}
+use Rattle.sim_text.specs.Lines.{shown_text}
 use Rattle.sim_text.proofs.shown.append_each_shown.Given as goal
 
 -- the line has the bytes that were passed, as they are shown

@@ -2,7 +2,7 @@
 use Rattle.std.proofs.Common.{◌≡◌, ◌≤◌, ℕ, List, ◌++◌, length, take, drop, sym, ap, ◌∙◌, arith, append-nil, append_assoc, take-append-drop}
 use Rattle.std.specs.Prelude.{◌<◌, codes, decimal}
 use Rattle.std.proofs.lemmas.Fmt.{length-decimal-le}
-use Rattle.text_parts.specs.Digits.{zero_filled}
+use Rattle.text_parts.specs.Number.{zero_filled}
 use Rattle.sim_text.proofs.ShownLemmas.{over_zeros}
 use Rattle.sim_text.proofs.window.append_micros.Goals as goal
 

@@ -7,10 +7,9 @@ use Rattle.capl_include.specs.Blame.{file_blame}
 use Rattle.capl_tree.specs.Weight.{weight}
 use Rattle.check_names.specs.Names.{messages_of}
 use Rattle.code_listing.specs.Program.{IsCodeOf}
-use Rattle.source_compiler.specs.Source.{IsProgramBlame}
+use Rattle.source_compiler.specs.Source.{IsProgramBlame, lines_of, most}
 use Rattle.source_compiler.specs.Compiled.{IsCompiled}
 use Rattle.source_compiler.specs.declared.compiled.Compiled.{Compiled}
-use Rattle.source_compiler.specs.Program.{lines_of, most}
 use Rattle.source_compiler.proofs.CellLemmas.{cells_told, few_cells, weight_told, within_weight}
 use Rattle.source_compiler.proofs.ReadableLemmas.{files_few, files_light, files_readable}
 use Rattle.input_refusals.proofs.Passing.{judged_on}

@@ -1,6 +1,6 @@
 -- What stands between two files.
 use Rattle.std.proofs.Common.{◌≡◌, map, take}
-use Rattle.source_compiler.specs.Program.{lines_of}
+use Rattle.source_compiler.specs.Source.{lines_of}
 use Rattle.source_compiler.proofs.program.lines_of.Given as goal
 
 -- the lines are those of the files that were passed

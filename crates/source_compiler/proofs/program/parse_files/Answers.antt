@@ -4,7 +4,7 @@ use Rattle.std.proofs.lemmas.List.{take_all}
 use Rattle.std.specs.List.{AllZip}
 use Rattle.capl_include.specs.declared.expanded.SourceFile.{SourceFile}
 use Rattle.capl_tree.specs.declared.file.FileTree.{FileTree}
-use Rattle.source_compiler.specs.Program.{AreTreesOf, HasTree, IsFirstFile, IsParsed, IsTreeBlame}
+use Rattle.source_compiler.specs.Source.{AreTreesOf, HasTree, IsFirstFile, IsParsed, IsTreeBlame}
 use Rattle.source_compiler.proofs.FileLemmas.{few_in_each, first_at, zip_more, zip_parsed}
 use Rattle.input_refusals.proofs.Passing.{judged_on}
 use Rattle.source_compiler.proofs.program.parse_files.Goals as goal

@@ -1,7 +1,7 @@
 -- What stands between two files.
 use Rattle.std.proofs.Common.{take}
 use Rattle.std.specs.List.{AllZip}
-use Rattle.source_compiler.specs.Program.{HasTree}
+use Rattle.source_compiler.specs.Source.{HasTree}
 use Rattle.source_compiler.proofs.program.parse_files.Given as goal
 
 -- the trees are those of the files that were passed

@@ -4,7 +4,7 @@ use Rattle.texts.specs.declared.blame.Rule.{Rule}
 use Rattle.capl_lexer.specs.Screening.{Breaks}
 use Rattle.capl_lexer.specs.declared.token.Token.{Token}
 use Rattle.capl_include.specs.Blame.{place_blame}
-use Rattle.source_compiler.specs.Program.{IsScreened, IsTokenBlame}
+use Rattle.source_compiler.specs.Source.{IsScreened, IsTokenBlame}
 use Rattle.source_compiler.proofs.FileLemmas.{token_blame}
 use Rattle.input_refusals.proofs.Passing.{blamed}
 use Rattle.source_compiler.proofs.program.screen_file.Goals as goal

@@ -1,7 +1,7 @@
 -- A file more, and one that is to blame.
 use Rattle.std.proofs.Common.{All, subst}
 use Rattle.std.proofs.lemmas.List.{take_all}
-use Rattle.source_compiler.specs.Program.{IsFirstFile, IsScreened, IsTokenBlame}
+use Rattle.source_compiler.specs.Source.{IsFirstFile, IsScreened, IsTokenBlame}
 use Rattle.source_compiler.proofs.FileLemmas.{all_more, first_at}
 use Rattle.input_refusals.proofs.Passing.{judged_on}
 use Rattle.source_compiler.proofs.program.screen_files.Goals as goal

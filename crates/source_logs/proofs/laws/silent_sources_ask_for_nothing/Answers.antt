@@ -5,7 +5,7 @@ use Rattle.std.specs.List.{AllByRecursion}
 use Rattle.std.proofs.lemmas.List.Elements.{All-head, All-tail}
 use Rattle.can_bus.specs.Bus.{one_channel}
 use Rattle.node_rounds.specs.Reaction.{NodeState}
-use Rattle.source_laws.specs.Source.{SourceMemory, by_source_reaction}
+use Rattle.source_laws.specs.Reaction.{SourceMemory, by_source_reaction}
 use Rattle.replay_laws.specs.Tasks.{AsksNothing}
 use Rattle.source_logs.specs.Silent.{IsSilent}
 use Rattle.source_logs.proofs.EachTask.{run_each}

@@ -4,7 +4,7 @@ use Rattle.std.specs.Prelude.{⊤}
 use Rattle.std.specs.List.{AllByRecursion}
 use Rattle.can_bus.specs.Bus.{one_channel}
 use Rattle.node_rounds.specs.Reaction.{NodeState}
-use Rattle.source_laws.specs.Source.{SourceMemory, by_source_reaction}
+use Rattle.source_laws.specs.Reaction.{SourceMemory, by_source_reaction}
 use Rattle.replay_laws.specs.Tasks.{AsksLoggable}
 use Rattle.source_logs.proofs.EachTask.{run_each}
 use Rattle.source_logs.proofs.SourceTasks.{task_logged}

@@ -4,7 +4,7 @@ use Rattle.std.specs.Prelude.{ℤ, pos, slice_set}
 use Rattle.run_effects.specs.Effect as effect
 use Rattle.vm_host.specs.Host.{TakesUnlessClosed}
 use Rattle.bytecode.specs.declared.instr.Instr.TheVariants.{Set}
-use Rattle.run_effects.specs.Duration.{micros}
+use Rattle.run_effects.specs.Effect.{micros}
 use Rattle.stack_vm.specs.Inside.State.{RunState, machine}
 use Rattle.stack_vm.proofs.HostRows.{does_unless_closed, set_row}
 use Rattle.stack_vm.proofs.ListLemmas.{item_read}

@@ -2,7 +2,7 @@
 use Rattle.std.proofs.Common.{◌≡◌, ◌≤◌, ◌+◌, ℕ, Bool, List, length, reverse, take, drop, slice_get, Option, Some, inl, inr, arith, ap, sym, ◌∙◌, subst, refl}
 use Rattle.std.specs.Option.{option_map_or}
 use Rattle.run_effects.specs.Effect as effect
-use Rattle.write_format.specs.Format.{FormatText, numbers_taken, rendered}
+use Rattle.write_format.specs.Line.{FormatText, numbers_taken, rendered}
 use Rattle.bytecode.specs.declared.instr.Instr.TheVariants.{Write}
 use Rattle.stack_vm.specs.Inside.State.{RunState, machine}
 use Rattle.stack_vm.proofs.ArrayLemmas.{arrays_hold, arrays_lie}

@@ -2,7 +2,7 @@
 use Rattle.std.proofs.Common.{◌≡◌, true, subst, sym, ap, ◌∙◌, arith, take, All}
 use Rattle.std.proofs.lemmas.List.Sums.{prefix_len-le-length}
 use Rattle.text_parts.specs.Number.{is_digit}
-use Rattle.write_format.specs.Front.{is_flag}
+use Rattle.write_format.specs.Reading.{is_flag}
 use Rattle.write_format.proofs.FieldLemmas.{passes_found}
 use Rattle.write_format.proofs.code.code_at.Goals as goal
 

@@ -1,7 +1,7 @@
 -- The first byte that is none.
 use Rattle.std.proofs.Common.{◌≡◌, false, length, get_or, sym, ◌∙◌, arith}
 use Rattle.std.proofs.lemmas.List.Sums.{prefix_len_is}
-use Rattle.write_format.specs.Front.{is_flag}
+use Rattle.write_format.specs.Reading.{is_flag}
 use Rattle.write_format.proofs.code.flag_count.Goals as goal
 
 pub returns-then-not-is_flag : goal.returns-then-not-is_flag

@@ -2,7 +2,7 @@
 use Rattle.std.proofs.Common.{take, ap, ◌≡◌, ◌∙◌, length, arith}
 use Rattle.std.specs.Prelude.{count_by}
 use Rattle.std.proofs.Math.Seq.{take-length}
-use Rattle.write_format.specs.Format.{takes_number}
+use Rattle.write_format.specs.Line.{takes_number}
 use Rattle.write_format.specs.Inside.Parts.{all_elements, elements_in}
 use Rattle.write_format.specs.declared.part.Part.TheVariants.{Text}
 use Rattle.write_format.proofs.PartLemmas.{numbers_more}

@@ -1,7 +1,7 @@
 -- What is required, and the numbers that were counted.
 use Rattle.std.proofs.Common.{ap, ◌∙◌}
 use Rattle.std.specs.Prelude.{count_by}
-use Rattle.write_format.specs.Format.{takes_number}
+use Rattle.write_format.specs.Line.{takes_number}
 use Rattle.write_format.specs.Inside.Parts.{all_elements}
 use Rattle.write_format.proofs.format.from_parts.Goals as goal
 

@@ -2,8 +2,7 @@
 use Rattle.std.proofs.Common.{rules, All, sym, ap, ◌∙◌, subst}
 use Rattle.std.specs.Prelude.{filter_map}
 use Rattle.std.proofs.lemmas.List.Elements.{All-nil}
-use Rattle.write_format.specs.Arrays.{IsCharArray}
-use Rattle.write_format.specs.Format.{array_of}
+use Rattle.write_format.specs.Line.{IsCharArray, array_of}
 use Rattle.write_format.specs.Inside.Parts.{elements_in, range_of}
 use Rattle.write_format.specs.declared.part.Part.{Part}
 use Rattle.write_format.proofs.PartLemmas.{text_no_arrays}

@@ -1,6 +1,6 @@
 -- One text, one reading.
 use Rattle.std.proofs.Common.{◌≡◌, sym, ap, ◌∙◌}
-use Rattle.write_format.specs.Format.{format_elements}
+use Rattle.write_format.specs.Line.{format_elements}
 use Rattle.write_format.proofs.ReadingLemmas.{one_reading}
 use Rattle.write_format.proofs.laws.one_format.Goals as goal
 

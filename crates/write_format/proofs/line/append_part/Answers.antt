@@ -2,10 +2,8 @@
 use Rattle.std.proofs.Common.{rules, ◌≡◌, ◌≤◌, ℕ, All, [], length, sym, ap, subst, ◌∙◌, arith}
 use Rattle.std.specs.Prelude.{ℤ, ◌≤ℤ◌, filter_map, pos}
 use Rattle.std.proofs.lemmas.List.Elements.{All-head}
-use Rattle.write_format.specs.Arrays.{HoldsBytes}
-use Rattle.write_format.specs.Format.{array_of}
+use Rattle.write_format.specs.Line.{HoldsBytes, array_of, line_of}
 use Rattle.write_format.specs.Inside.Parts.{IsWithin, elements_in, range_of, text_at}
-use Rattle.write_format.specs.Line.{line_of}
 use Rattle.write_format.specs.declared.part.Part.{Part}
 use Rattle.write_format.proofs.LineLemmas.{line_of_text}
 use Rattle.write_format.proofs.line.append_part.Goals as goal

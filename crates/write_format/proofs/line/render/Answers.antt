@@ -2,10 +2,8 @@
 use Rattle.std.proofs.Common.{◌++◌, All, get_or, take, length, ap, subst, ◌∙◌, arith}
 use Rattle.std.specs.Prelude.{filter_map, flat_map}
 use Rattle.std.proofs.lemmas.List.{length-drop}
-use Rattle.write_format.specs.Arrays.{HoldsBytes}
-use Rattle.write_format.specs.Format.{array_of}
+use Rattle.write_format.specs.Line.{HoldsBytes, array_of, line_of}
 use Rattle.write_format.specs.Inside.Parts.{elements_in}
-use Rattle.write_format.specs.Line.{line_of}
 use Rattle.write_format.specs.declared.part.Part.TheVariants.{Text}
 use Rattle.write_format.proofs.LineLemmas.{line_more}
 use Rattle.write_format.proofs.PartLemmas.{arrays_at, numbers_more, room}

@@ -1,9 +1,8 @@
 -- The line of the parts that were passed, and the numbers that they took.
 use Rattle.std.proofs.Common.{◌≡◌, take}
 use Rattle.std.specs.Prelude.{count_by}
-use Rattle.write_format.specs.Format.{takes_number}
+use Rattle.write_format.specs.Line.{takes_number, line_of}
 use Rattle.write_format.specs.Inside.Parts.{all_elements}
-use Rattle.write_format.specs.Line.{line_of}
 use Rattle.write_format.proofs.line.render.Given as goal
 
 abbrev pub invariant-loop-part : goal.invariant-loop-part

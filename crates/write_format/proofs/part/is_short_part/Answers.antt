@@ -3,8 +3,7 @@ use Rattle.std.proofs.Common.{rules, ◌≡◌, ◌<◌, ◌^◌, [], All, lengt
 use Rattle.std.proofs.lemmas.Bool.Decides.{nat_tests}
 use Rattle.std.proofs.lemmas.List.{length-take-le}
 use Rattle.std.proofs.lemmas.List.Elements.{All-cons, All-head, All-nil}
-use Rattle.write_format.specs.Element.{Str}
-use Rattle.write_format.specs.Format.{IsShortElement}
+use Rattle.write_format.specs.Line.{Str, IsShortElement}
 use Rattle.write_format.specs.Inside.Parts.{IsWithin, elements_in, range_of, text_at}
 use Rattle.write_format.proofs.PartLemmas.{text_short}
 use Rattle.write_format.proofs.part.is_short_part.Goals as goal

@@ -1,7 +1,7 @@
 -- Bytes take no number.
 use Rattle.std.proofs.Common.{sym, ap, ◌∙◌}
 use Rattle.std.specs.Prelude.{count_by}
-use Rattle.write_format.specs.Format.{takes_number}
+use Rattle.write_format.specs.Line.{takes_number}
 use Rattle.write_format.specs.Inside.Parts.{elements_in, range_of}
 use Rattle.write_format.specs.declared.part.Part.{Part}
 use Rattle.write_format.proofs.PartLemmas.{text_takes_none}

@@ -1,7 +1,7 @@
 -- A range has as many bytes as it says.
 use Rattle.std.proofs.Common.{length, sym, ap, subst, ◌∙◌}
 use Rattle.std.proofs.lemmas.List.{length-map}
-use Rattle.write_format.specs.Element.{Byte}
+use Rattle.write_format.specs.Line.{Byte}
 use Rattle.write_format.specs.Inside.Parts.{IsWithin, elements_in, range_of}
 use Rattle.write_format.specs.declared.part.Part.{Part}
 use Rattle.write_format.proofs.RangeLemmas.{range-length}

@@ -1,6 +1,6 @@
 -- One more piece, and the end.
 use Rattle.std.proofs.Common.{rules, ◌≡◌, ◌<◌, ◌≤◌, ◌+◌, ◌-◌, [], ◌∷◌, ◌++◌, All, Some, drop, length, refl, sym, ap, subst, ◌∙◌, arith}
-use Rattle.write_format.specs.Front.{piece_at}
+use Rattle.write_format.specs.Reading.{piece_at}
 use Rattle.write_format.specs.Inside.Parts.{IsArgumentAt, IsWithin, all_elements}
 use Rattle.write_format.specs.declared.part.Part.TheVariants.{Text}
 use Rattle.write_format.specs.declared.piece.Piece.{Piece}

@@ -1,8 +1,7 @@
 -- One more piece, and the end.
 use Rattle.std.proofs.Common.{◌≡◌, Some, None, true, false, not, [], length, refl, sym, ap, subst, ◌∙◌, arith}
 use Rattle.std.proofs.lemmas.List.{length-drop}
-use Rattle.write_format.specs.Front.{piece_at}
-use Rattle.write_format.specs.Reading.{is_fit}
+use Rattle.write_format.specs.Reading.{piece_at, is_fit}
 use Rattle.write_format.specs.declared.piece.Piece.{Piece}
 use Rattle.write_format.specs.declared.piece.Piece.TheVariants.{Argument, Byte}
 use Rattle.write_format.proofs.FrontLemmas.{piece_shorter}

@@ -1,7 +1,7 @@
 -- A step of the register over four bits.
 use Rattle.std.proofs.Common.{◌/◌, ◌^◌, subst}
 use Rattle.std.specs.Int.Bits.{bit_xor}
-use Rattle.can_frame.specs.Bits.{field_bits}
+use Rattle.can_frame.specs.Frame.{field_bits}
 use Rattle.frame_bits.specs.Inside.Crc.{IsRegister}
 use Rattle.frame_bits.proofs.NibbleSteps.{IsRegister-nibble, nibble_shifted, nibble_next-lt, leading-lt}
 use Rattle.frame_bits.proofs.crc.Crc.push_nibble.Goals as goal

@@ -1,6 +1,6 @@
 -- A step of the counter over four bits.
 use Rattle.std.proofs.Common.{ℕ, ◌<◌, length, sym, arith}
-use Rattle.can_frame.specs.Bits.{field_bits}
+use Rattle.can_frame.specs.Frame.{field_bits}
 use Rattle.can_frame.proofs.BitLists.{length-field_bits}
 use Rattle.frame_bits.proofs.NibbleSteps.{step_behind-is, CountsStuffing-step}
 use Rattle.frame_bits.proofs.stuffing.StuffCounter.push_nibble.Goals as goal

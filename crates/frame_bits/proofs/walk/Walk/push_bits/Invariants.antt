@@ -1,6 +1,6 @@
 -- The walk has gone over the bits of the field down to a place.
 use Rattle.std.proofs.Common.{◌+◌, ◌-◌, ◌*◌, ◌/◌, ◌^◌, ◌≤◌, Bool, List, ◌++◌}
-use Rattle.can_frame.specs.Bits.{field_bits}
+use Rattle.can_frame.specs.Frame.{field_bits}
 use Rattle.frame_bits.specs.Inside.Walk.{HasWalked}
 use Rattle.frame_bits.proofs.walk.Walk.push_bits.Given as goal
 

@@ -1,6 +1,6 @@
 -- One more byte.
 use Rattle.std.proofs.Common.{◌∙◌, subst, arith}
-use Rattle.can_frame.specs.Bits.{field_bits}
+use Rattle.can_frame.specs.Frame.{field_bits}
 use Rattle.frame_bits.specs.Inside.Field.{bits_in}
 use Rattle.frame_bits.specs.Inside.Walk.{HasWalked}
 use Rattle.frame_bits.proofs.FieldSteps.{fields_grow, fields_end, number_field}

@@ -1,6 +1,6 @@
 -- The walk has gone over the bytes so far.
 use Rattle.std.proofs.Common.{◌+◌, ◌*◌, ◌≤◌, Bool, List, ◌++◌, take}
-use Rattle.frame_bits.specs.Bits.{data_bits}
+use Rattle.frame_bits.specs.Length.{data_bits}
 use Rattle.frame_bits.specs.Inside.Walk.{HasWalked}
 use Rattle.frame_bits.proofs.walk.Walk.push_bytes.Given as goal
 

@@ -1,6 +1,6 @@
 -- The first selector that holds the key is one of the least rank.
 use Rattle.std.proofs.Common.{List, subst}
-use Rattle.can_frame.specs.Arbitration.{selection_key}
+use Rattle.can_frame.specs.Frame.{selection_key}
 use Rattle.msg_select.specs.declared.selector.MessageSelector.{MessageSelector}
 use Rattle.msg_select.specs.Selection.{IsChosen}
 use Rattle.msg_select.specs.Inside.Selectors.{IsFirstHolder}

@@ -5,8 +5,7 @@ use Rattle.std.specs.Prelude.{Err}
 use Rattle.stack_vm.specs.Memory.{IsMemoryOf}
 use Rattle.stack_vm.specs.Quiet.{IsQuietHandler}
 use Rattle.node_run.specs.Node.{HasQuietTask}
-use Rattle.node_rounds.specs.Effects.{halt_lines}
-use Rattle.node_rounds.specs.Entries.{TakesEntries, line_entries}
+use Rattle.node_rounds.specs.Effects.{halt_lines, TakesEntries, line_entries}
 use Rattle.node_run.proofs.HostRuns.{on_err}
 use Rattle.node_run.proofs.NodeTasks.{Runs, does_at, does_with, does_without, halt_told, halts_as_task, no_halt_told, not_halted, quiet_procedure, refused_at, refused_halt, refused_run, rises_from, sink_failed, took}
 use Rattle.node_run.proofs.node.Node.do_task.Goals as goal

@@ -1,7 +1,7 @@
 -- Its text and its arguments are read, and make it.
 use Rattle.std.proofs.Common.{◌++◌, length, All}
 use Rattle.std.specs.Prelude.{◌<◌, ◌^◌}
-use Rattle.write_format.specs.Format.{IsShortArgument}
+use Rattle.write_format.specs.Line.{IsShortArgument}
 use Rattle.object_file.specs.Number.{list, text}
 use Rattle.object_file.specs.Table.{argument_text}
 use Rattle.object_file.specs.Inside.Reading.{list_at, pair_at, text_at}

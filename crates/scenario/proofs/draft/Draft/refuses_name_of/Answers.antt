@@ -2,7 +2,7 @@
 use Rattle.std.proofs.Common.{◌≡◌, ℕ, List, not, ◌||◌, subst}
 use Rattle.std.specs.List.{list_any}
 use Rattle.std.specs.Str.{bytes_eq}
-use Rattle.scenario.specs.Value.{is_node_name}
+use Rattle.scenario.specs.Item.{is_node_name}
 use Rattle.scenario.proofs.draft.Draft.refuses_name_of.Goals as goal
 
 pub returns : goal.returns

@@ -3,8 +3,7 @@ use Rattle.std.proofs.Common.{rules, ◌≡◌, All, IsTrue, length, get_or, tak
 use Rattle.std.specs.Prelude.{filter_map, flat_map}
 use Rattle.std.proofs.Math.Seq.{take-length}
 use Rattle.std.proofs.lemmas.List.Elements.{All-append}
-use Rattle.write_format.specs.Arrays.{IsCharArray}
-use Rattle.write_format.specs.Format.{array_of, char_arrays}
+use Rattle.write_format.specs.Line.{IsCharArray, array_of, char_arrays}
 use Rattle.write_format.specs.Inside.Parts.{elements_in}
 use Rattle.write_format.specs.declared.part.Part.TheVariants.{Text}
 use Rattle.write_format.proofs.PartLemmas.{arrays_at, arrays_more}

@@ -1,8 +1,7 @@
 -- The arrays of the parts that were passed are there.
 use Rattle.std.proofs.Common.{All, take}
 use Rattle.std.specs.Prelude.{filter_map}
-use Rattle.write_format.specs.Arrays.{IsCharArray}
-use Rattle.write_format.specs.Format.{array_of}
+use Rattle.write_format.specs.Line.{IsCharArray, array_of}
 use Rattle.write_format.specs.Inside.Parts.{all_elements}
 use Rattle.write_format.proofs.format.Format.has_arrays_in.Given as goal
 

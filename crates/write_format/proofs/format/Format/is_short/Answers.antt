@@ -1,6 +1,6 @@
 -- One more part.
 use Rattle.std.proofs.Common.{rules, true, ◌≡◌, ◌<◌, ◌+◌, ◌^◌, All, get_or, length, arith}
-use Rattle.write_format.specs.Format.{IsShort, IsShortElement}
+use Rattle.write_format.specs.Line.{IsShort, IsShortElement}
 use Rattle.write_format.specs.Inside.Parts.{IsWithin, elements_in}
 use Rattle.write_format.specs.declared.part.Part.TheVariants.{Text}
 use Rattle.write_format.proofs.PartLemmas.{all_short, not_short, short_more}
