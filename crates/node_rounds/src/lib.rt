@@ -5,10 +5,10 @@
 //! none. How a node reacts is a parameter of all definitions here, the record `Reacts`: what its code
 //! does is one reaction, and what its source means is another.
 //!
-//! `Procedures` says which procedure an occurrence is for, `Effects` what the effects of a run come to,
-//! `Reaction` what a reaction is and how runs of procedures make one, `Round` what the tasks of a node in
-//! a round are, `Follows` when one reaction does what another does, and `Entries` what the tasks leave in
-//! a record and on a bus. Only the types below are code: [`laws`] has what holds of the definitions.
+//! `Procedures` says which procedure an occurrence is for, `Effects` what the effects of a run come to and
+//! what tasks leave in a record and on a bus, `Reaction` what a reaction is and how runs of procedures make
+//! one, `Round` what the tasks of a node in a round are, and `Follows` when one reaction does what another
+//! does. Only the types below are code: [`laws`] has what holds of the definitions.
 #![tactic(auto)]
 
 pub use occurrence::{Occurrence, Trigger};

@@ -2,8 +2,8 @@
 //!
 //! `Run` says what a run is: nodes on one bus, with keys and requests of a replay, go from instant to
 //! instant up to an end moment or until one asks to stop. An instant is a list of rounds. How the nodes
-//! react and what the bus does are parameters. `Order` says which node's task comes next where picks are
-//! given, `Steps` lists what happens in this order, `Counts` says how often each procedure ran, and `Done`
+//! react and what the bus does are parameters. `Steps` says which node's task comes next where picks are
+//! given, and lists what happens in this order; `Counts` says how often each procedure ran, and `Done`
 //! what steps leave in a record and a meter, all of them or those up to a fault.
 //!
 //! There is no code that runs: [`laws`] has what holds of every run.
