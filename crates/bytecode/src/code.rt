@@ -34,7 +34,7 @@ pub struct Handler {
 ///
 /// Cells 0 to 13 are the message of the event and cell 14 is its key. A message takes 14 cells: the
 /// identifier, the length, the remote bit, the channel, the direction, the time and 8 bytes.
-#[derive(Debug, Drop)]
+#[derive(Debug)]
 pub struct Code {
     /// The instructions.
     pub instrs: Items<Instr>,
@@ -52,4 +52,28 @@ pub struct Code {
     pub timers: Items<u64>,
     /// The formats of the lines that it writes.
     pub formats: Items<Format>,
+}
+
+// Written out, so that no crate that drops code has the drops of its lists proved once more.
+impl Drop for Code {
+    fn drop(self) {
+        let Code {
+            instrs,
+            depths,
+            functions,
+            handlers,
+            cells,
+            starts,
+            timers,
+            formats,
+        } = self;
+        drop(instrs);
+        drop(depths);
+        drop(functions);
+        drop(handlers);
+        drop(cells);
+        drop(starts);
+        drop(timers);
+        drop(formats);
+    }
 }

@@ -17,10 +17,17 @@ pub enum TopItem {
 }
 
 /// The tree of a file.
-#[derive(Drop)]
 pub struct FileTree {
     /// Its parts, in order.
     pub items: Items<TopItem>,
+}
+
+// Written out, so that no crate that drops files has the drops of all parts of trees proved once more.
+impl Drop for FileTree {
+    fn drop(self) {
+        let FileTree { items } = self;
+        drop(items);
+    }
 }
 
 /// The trees of the files of a program.

@@ -7,7 +7,6 @@ use run_effects::Event;
 use write_format::Format;
 
 /// A function.
-#[derive(Drop)]
 pub struct TFun {
     /// The cells of its parameters.
     pub params: Items<u32>,
@@ -18,8 +17,21 @@ pub struct TFun {
     pub body: Items<TStmt>,
 }
 
+// These two are written out, so that no crate that drops typed programs has the drops of all parts of their
+// trees proved once more.
+impl Drop for TFun {
+    fn drop(self) {
+        let TFun {
+            params,
+            gives: _,
+            body,
+        } = self;
+        drop(params);
+        drop(body);
+    }
+}
+
 /// An event procedure.
-#[derive(Drop)]
 pub struct THandler {
     /// What it reacts to.
     pub event: Event,
@@ -29,6 +41,19 @@ pub struct THandler {
     pub file: u32,
     /// The line of its first word.
     pub line: u32,
+}
+
+impl Drop for THandler {
+    fn drop(self) {
+        let THandler {
+            event,
+            body,
+            file: _,
+            line: _,
+        } = self;
+        drop(event);
+        drop(body);
+    }
 }
 
 /// A typed program.
