@@ -1,6 +1,6 @@
 -- Constants of a source and their values: numbers, characters, const integers declared before, RX and TX, and
 -- these under parentheses, casts, unary `- + ! ~`, binary operators and `?:`.
-use Rattle.std.specs.Prelude.{ℕ, ◌+◌, ◌^◌, ◌==◌, Bool, true, false, not, ◌&&◌, ◌||◌, if◌then◌else◌, nat_le, nat_lt, List, [], ◌∷◌, ◌++◌, filter, find, is_some, Option, Some, None, unwrap_or, ℤ, pos, negsuc}
+use Rattle.std.specs.Prelude.{ℕ, ◌==◌, Bool, true, false, not, ◌&&◌, ◌||◌, if◌then◌else◌, nat_le, nat_lt, List, [], ◌∷◌, ◌++◌, filter, find, is_some, Option, Some, None, unwrap_or, ℤ, pos, negsuc}
 use Rattle.std.specs.Option.{option_and_then, option_map, option_map_or}
 use Rattle.std.specs.Ordering.{int_eq}
 use Rattle.int_kinds.specs.declared.kinds.Kind.{Kind}
@@ -15,7 +15,7 @@ use Rattle.capl_tree.specs.declared.declaration.Init.TheVariants.{One}
 use Rattle.capl_tree.specs.declared.expr.Expr.{Expr}
 use Rattle.capl_tree.specs.declared.expr.Expr.TheVariants as expr
 use Rattle.capl_tree.specs.Forms as tree
-use Rattle.capl_meaning.specs.Variable.{Form, Number, Array, Variable}
+use Rattle.capl_meaning.specs.Variable.{Form, Number, Array, Variable, identifier}
 use Rattle.capl_meaning.specs.Names.{Names, NoThis, Scope, direction, means}
 use Rattle.capl_meaning.specs.Operator.{prefix_value, truth_of}
 use Rattle.capl_meaning.specs.Sort.{is_bad, kind_in, sort_of, sort_of_number, working_kind}
@@ -57,10 +57,6 @@ is_constant known s (tree.Cond test one other at) =
     is_constant known s test && (is_constant known s one && is_constant known s other)
 is_constant known s _ = false
 
--- the value of a number in the source
-abbrev pub number_value : ℕ → Bool → ℤ
-number_value n extended = pos (if extended then 2 ^ 31 + n else n)
-
 -- the kind in which a prefix operator works on an operand: its kind joined with itself
 abbrev pub prefix_kind : Scope → Expr → Kind
 prefix_kind s e = join (kind_in (sort_of s e)) (kind_in (sort_of s e))
@@ -87,7 +83,7 @@ operator_value operator k left right =
 
 -- the value of a constant; none where it divides by zero
 abbrev pub constant_value : List Constant → Scope → Expr → Option ℤ
-constant_value known s (expr.Num value extended at) = option_map (λ n. number_value n extended) value
+constant_value known s (expr.Num value extended at) = option_map (λ n. pos (identifier n extended)) value
 constant_value known s (expr.Char value at) = Some (pos value)
 constant_value known s (expr.Name name at) = constant_of_name known name (means s name at)
 constant_value known s (tree.Paren inner at) = constant_value known s inner

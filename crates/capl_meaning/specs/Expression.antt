@@ -25,12 +25,12 @@ use Rattle.capl_tree.specs.Forms as tree
 use Rattle.capl_meaning.specs.declared.builtin.Builtin.{Builtin}
 use Rattle.capl_meaning.specs.declared.builtin.Builtin.TheVariants as builtin
 use Rattle.capl_meaning.specs.declared.field.MessageField.{MessageField}
-use Rattle.capl_meaning.specs.Variable.{Form, Number, Array, Variable, is_timer}
+use Rattle.capl_meaning.specs.Variable.{Form, Number, Array, Variable, identifier, is_timer}
 use Rattle.capl_meaning.specs.Names.{Callee, Function, OfLanguage, OfProgram, Unknown, Scope, ThisForm, ThisKey, callee, direction, means}
 use Rattle.capl_meaning.specs.Message.{Held, HeldFrame, HeldVariable, NamedMember, IsField, IsSignal, array_in, is_number_place, member_named, message_in, signals_of}
 use Rattle.capl_meaning.specs.Sort.{kind_in, sort_of}
 use Rattle.capl_meaning.specs.Operator.{prefix_value, truth_of}
-use Rattle.capl_meaning.specs.Constant.{branches_kind, elements_of, number_value, operands_kind, prefix_kind}
+use Rattle.capl_meaning.specs.Constant.{branches_kind, elements_of, operands_kind, prefix_kind}
 use Rattle.capl_meaning.specs.Store.{MessageRecord, Store, This, variable_key, read_bytes, read_field, read_signal, timer_number, with_bytes, with_element, with_field, with_message, with_number, with_signal}
 
 -- the memory of a program: what its variables hold, and which timers are active
@@ -201,7 +201,7 @@ abbrev mutual
   -- the number that an expression gives
   pub value_of : Setting → Calls Memory → Expr → Computes Memory
   value_of s call (expr.Num value extended at) w =
-      Gives (option_map_or (λ n. number_value n extended) value (pos 0)) w
+      Gives (option_map_or (λ n. pos (identifier n extended)) value (pos 0)) w
   value_of s call (expr.Char value at) w = Gives (pos value) w
   value_of s call (expr.Str text at) w = Gives (pos 0) w
   value_of s call (expr.This at) w = Gives (value_of_this s.this s.scope.this) w

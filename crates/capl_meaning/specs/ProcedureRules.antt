@@ -1,6 +1,7 @@
 -- The rules that the heads of procedures and the names of declarations break (CAPL manual, event procedures,
 -- functions, variables).
-use Rattle.std.specs.Prelude.{ℕ, ◌+◌, ◌-◌, ◌^◌, ◌==◌, Bool, true, false, not, ◌&&◌, ◌||◌, if◌then◌else◌, nat_le, List, [], ◌∷◌, ◌++◌, flat_map, filter, filter_map, map, is_some, Option, Some, None}
+use Rattle.std.specs.Prelude.{ℕ, ◌+◌, ◌-◌, ◌^◌, ◌==◌, Bool, true, false, ◌&&◌, ◌||◌, if◌then◌else◌, nat_le, List, [], ◌∷◌, ◌++◌, flat_map, filter, filter_map, map, is_none, is_some, Option, Some, None}
+use Rattle.std.specs.Bool.{beq, then_some}
 use Rattle.std.specs.Option.{option_and_then, option_map, option_map_or}
 use Rattle.std.specs.Str.{bytes_eq}
 use Rattle.texts.specs.Rule.{source_rule}
@@ -15,7 +16,7 @@ use Rattle.capl_tree.specs.declared.procedure.Sel.{Sel}
 use Rattle.capl_tree.specs.declared.procedure.SelWhat.{SelWhat}
 use Rattle.capl_tree.specs.declared.procedure.SelWhat.TheVariants as selected
 use Rattle.capl_meaning.specs.declared.offence.Offence.{Offence}
-use Rattle.capl_meaning.specs.Variable.{Form, Timer, Misfit, Part, Globals, Procedure, Variable, is_timer, message_named}
+use Rattle.capl_meaning.specs.Variable.{Form, Timer, Misfit, Part, Globals, Procedure, Variable, identifier, is_timer, message_named}
 use Rattle.capl_meaning.specs.Names.{Names, Scope, builtin_named, global}
 use Rattle.capl_meaning.specs.DeclarationRules.{is_identifier, is_in_range, message_name_rule}
 use Rattle.capl_meaning.specs.ExpressionRules.{broken_where, offence}
@@ -23,63 +24,33 @@ use Rattle.capl_meaning.specs.StatementRules.{repeated}
 
 -- ---- selectors
 
--- a number of a selector as it is spelled: its value, and whether it is marked as extended
-pub record Number : Type 0 where
-  pub value : Option ℕ
-  pub extended : Bool
-
--- the number of a selector; a selector has no other expressions
-abbrev pub selector_number : Expr → Number
-selector_number (expr.Num value extended at) = record { value = value; extended = extended }
-selector_number _ = record { value = None; extended = false }
-
--- a number is an identifier
-abbrev pub names_identifier : Number → Bool
-names_identifier n = is_identifier n.value n.extended
-
--- the selection key of an identifier: bit 31 marks an extended one
-abbrev pub selected_key : Number → Option ℕ
-selected_key n =
-    if names_identifier n then option_map (λ id. if n.extended then 2 ^ 31 + id else id) n.value else None
-
--- two numbers are both marked as extended, or neither
-abbrev pub same_form : Bool → Bool → Bool
-same_form true extended = extended
-same_form false extended = not extended
-
--- the second of two values is not below the first
-abbrev pub does_not_fall : Option ℕ → Option ℕ → Bool
-does_not_fall (Some low) (Some high) = nat_le low high
-does_not_fall _ _ = false
-
--- a range is of two identifiers of one form and does not fall
-abbrev pub is_range : Number → Number → Bool
-is_range low high =
-    names_identifier low && (names_identifier high
-    && (same_form low.extended high.extended && does_not_fall low.value high.value))
+-- the selection key of a number that is an identifier; a selector has no other expressions
+abbrev pub selected_key : Expr → Option ℕ
+selected_key (expr.Num value extended at) =
+    if is_identifier value extended then option_map (λ n. identifier n extended) value else None
+selected_key _ = None
 
 -- the selector of one rank for the keys of a range
-abbrev pub keys_between : ℕ → Option ℕ → Option ℕ → Option Selector
-keys_between rank low high =
-    option_and_then (λ least. option_map (λ most. record { rank = rank; low = least; high = most }) high) low
+abbrev pub keys_between : ℕ → ℕ → ℕ → Selector
+keys_between rank low high = record { rank = rank; low = low; high = high }
+
+-- two keys are of one form, and the second is not below the first
+abbrev pub is_range : ℕ → ℕ → Bool
+is_range low high = beq (nat_le (2 ^ 31) low) (nat_le (2 ^ 31) high) && nat_le low high
 
 -- what a single identifier or a range selects; nothing where it breaks a rule
 abbrev pub selector_of_numbers : Expr → Option Expr → Option Selector
-selector_of_numbers low None =
-    keys_between 0 (selected_key (selector_number low)) (selected_key (selector_number low))
+selector_of_numbers low None = option_map (λ key. keys_between 0 key key) (selected_key low)
 selector_of_numbers low (Some high) =
-    if is_range (selector_number low) (selector_number high)
-    then keys_between 1 (selected_key (selector_number low)) (selected_key (selector_number high)) else None
-
--- what a message of the database selects: its identifier; nothing where that is out of range
-abbrev pub selector_of_message : DbcMessage → Option Selector
-selector_of_message m = if is_in_range m.id then keys_between 0 (Some m.id) (Some m.id) else None
+    option_and_then (λ least. option_and_then (λ most.
+    then_some (is_range least most) (keys_between 1 least most)) (selected_key high)) (selected_key low)
 
 -- what is selected, whichever the channel: `*` all keys, a message by name or a single identifier one, a
 -- range those in it
 abbrev pub selector_of : List DbcMessage → SelWhat → Option Selector
-selector_of base (selected.Any at) = keys_between 2 (Some 0) (Some 0xFFFFFFFF)
-selector_of base (selected.Name name at) = option_and_then selector_of_message (message_named base name)
+selector_of base (selected.Any at) = Some (keys_between 2 0 0xFFFFFFFF)
+selector_of base (selected.Name name at) =
+    option_and_then (λ m. then_some (is_in_range m.id) (keys_between 0 m.id m.id)) (message_named base name)
 selector_of base (selected.Ids low high at) = selector_of_numbers low high
 
 -- the channels that a selector is for
@@ -148,22 +119,13 @@ names_channel chan = chan == 1 || chan == 2
 abbrev pub selector_place : Sel → ℕ
 selector_place s = if names_channel s.chan then selection_place s.what - 2 else selection_place s.what
 
--- E21: an identifier of a selector is none; a range mixes both forms or falls
-abbrev pub numbers_rule : Scope → ℕ → Expr → Option Expr → List Offence
-numbers_rule s at low None = broken_where (not (names_identifier (selector_number low))) s at 21
-numbers_rule s at low (Some high) =
-    broken_where (not (is_range (selector_number low) (selector_number high))) s at 21
-
 -- what is selected, in a selector that begins at a token, breaks by itself: E11 and E23 of a name, at the
--- name, and E21 of numbers, at the selector
+-- name, and E21, at the selector, where numbers select nothing
 abbrev pub selection_offences : Scope → ℕ → SelWhat → List Offence
 selection_offences s first (selected.Any at) = []
 selection_offences s first (selected.Name name at) = message_name_rule s at name
-selection_offences s first (selected.Ids low high at) = numbers_rule s first low high
-
--- what a selector breaks by itself
-abbrev pub selector_offences : Scope → Sel → List Offence
-selector_offences s one = selection_offences s (selector_place one) one.what
+selection_offences s first (selected.Ids low high at) =
+    broken_where (is_none (selector_of_numbers low high)) s first 21
 
 -- ---- heads
 
@@ -173,15 +135,12 @@ timer_form_rule s at (Timer unit) = []
 timer_form_rule s at Misfit = []
 timer_form_rule s at _ = offence s at 9 ∷ []
 
--- E09: the name after `on timer` is no global timer
-abbrev pub timer_rule : Scope → ℕ → Option Variable → List Offence
-timer_rule s at None = offence s at 9 ∷ []
-timer_rule s at (Some v) = timer_form_rule s at v.form
-
--- what the head of a procedure breaks by itself
+-- what the head of a procedure breaks by itself; E09: the name after `on timer` is no global timer
 abbrev pub head_offences : Scope → Head → List Offence
-head_offences s (head.Message selectors) = flat_map (selector_offences s) selectors
-head_offences s (head.Timer name at) = timer_rule s at (global s.names name)
+head_offences s (head.Message selectors) =
+    flat_map (λ one. selection_offences s (selector_place one) one.what) selectors
+head_offences s (head.Timer name at) =
+    option_map_or (λ v. timer_form_rule s at v.form) (global s.names name) (offence s at 9 ∷ [])
 head_offences s _ = []
 
 -- what event procedures are for, of which no two may be: frames of a selector on channels, a timer by its

@@ -1,6 +1,7 @@
 -- What a program declares, in program order (CAPL manual, variables, procedures): file by file, and in a file
 -- from its beginning on.
 use Rattle.std.specs.Prelude.{ℕ, suc, ◌+◌, ◌^◌, Bool, true, false, if◌then◌else◌, List, [], ◌∷◌, ◌++◌, map, flat_map, find, Option, Some, None}
+use Rattle.std.specs.Option.{option_map_or}
 use Rattle.std.specs.Str.{bytes_eq}
 use Rattle.int_kinds.specs.declared.kinds.Kind.{Kind}
 use Rattle.dbc_reader.specs.declared.message.DbcMessage.{DbcMessage}
@@ -105,17 +106,17 @@ is_timer _ = false
 abbrev pub message_named : List DbcMessage → List ℕ → Option DbcMessage
 message_named base name = find (λ m. bytes_eq name m.name) base
 
--- the identifier of a declaration as it stands in its cell: bit 31 marks an extended one
-abbrev pub identifier : Option ℕ → Bool → ℕ
-identifier None extended = 0
-identifier (Some n) extended = if extended then 2 ^ 31 + n else n
+-- an identifier as it stands in a cell: bit 31 marks an extended one
+abbrev pub identifier : ℕ → Bool → ℕ
+identifier n extended = if extended then 2 ^ 31 + n else n
 
 -- what a declaration declares, by its type and the size behind the name
 abbrev pub form_of : List DbcMessage → DeclType → Option Expr → Form
 form_of base (decl_type.Number kind fixed) None = Number kind fixed
 form_of base (decl_type.Number kind fixed) (Some size) = Array kind fixed size
 form_of base decl_type.Any None = Message (ByIdentifier 0)
-form_of base (decl_type.ById value extended at) None = Message (ByIdentifier (identifier value extended))
+form_of base (decl_type.ById value extended at) None =
+    Message (ByIdentifier (option_map_or (λ n. identifier n extended) value 0))
 form_of base (decl_type.ByName name at) None = Message (ByName (message_named base name))
 form_of base decl_type.Seconds None = Timer 1000000
 form_of base decl_type.Millis None = Timer 1000

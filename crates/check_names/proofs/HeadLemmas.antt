@@ -1,10 +1,10 @@
 -- Heads and types break the same wherever in a file they stand.
-use Rattle.std.proofs.Common.{◌≡◌, ◌++◌, ◌∙◌, ℕ, Option, Some, None, ap, refl}
+use Rattle.std.proofs.Common.{◌≡◌, [], ◌∷◌, ◌++◌, ◌∙◌, ℕ, Option, Some, None, ap, refl}
 use Rattle.std.specs.Prelude.{flat_map}
+use Rattle.std.specs.Option.{option_map_or}
 use Rattle.capl_tree.specs.declared.declaration.Decl.{Decl}
 use Rattle.capl_tree.specs.declared.declaration.DeclType.{DeclType}
 use Rattle.capl_tree.specs.declared.declaration.DeclType.TheVariants as decl_type
-use Rattle.capl_tree.specs.declared.expr.Expr.{Expr}
 use Rattle.capl_tree.specs.declared.procedure.Head.{Head}
 use Rattle.capl_tree.specs.declared.procedure.Head.TheVariants as head
 use Rattle.capl_tree.specs.declared.procedure.Proc.{Proc}
@@ -12,10 +12,11 @@ use Rattle.capl_tree.specs.declared.procedure.Sel.{Sel}
 use Rattle.capl_tree.specs.declared.procedure.SelWhat.{SelWhat}
 use Rattle.capl_tree.specs.declared.procedure.SelWhat.TheVariants as selected
 use Rattle.capl_meaning.specs.DeclarationRules.{type_rules}
+use Rattle.capl_meaning.specs.ExpressionRules.{offence}
 use Rattle.capl_meaning.specs.Names.{Names, global, inside, outside}
-use Rattle.capl_meaning.specs.ProcedureRules.{head_offences, numbers_rule, selection_offences, selector_offences, selector_place, timer_form_rule, timer_rule}
+use Rattle.capl_meaning.specs.ProcedureRules.{head_offences, selection_offences, selector_place, timer_form_rule}
 use Rattle.capl_meaning.specs.Variable.{Form, Timer, Misfit, Number, Array, Message, Variable, declarations_in}
-use Rattle.check_names.specs.Named.{procedure_head_and_types, types_offences}
+use Rattle.check_names.specs.Named.{procedure_head_and_types, selector_offences, types_offences}
 use Rattle.check_names.proofs.IsIn.{flat_same}
 
 -- a type
@@ -27,18 +28,12 @@ type_same names number file h (decl_type.ByName name at) = refl
 type_same names number file h decl_type.Seconds = refl
 type_same names number file h decl_type.Millis = refl
 
--- numbers of a selector
-numbers_same : (names : Names) (number file : ℕ) (h : Head) (at : ℕ) (low : Expr) (high : Option Expr)
-    → numbers_rule (outside names file) at low high ≡ numbers_rule (inside names number file h) at low high
-numbers_same names number file h at low None = refl
-numbers_same names number file h at low (Some high) = refl
-
 -- what is selected
 selection_same : (names : Names) (number file : ℕ) (h : Head) (first : ℕ) (what : SelWhat)
     → selection_offences (outside names file) first what ≡ selection_offences (inside names number file h) first what
 selection_same names number file h first (selected.Any at) = refl
 selection_same names number file h first (selected.Name name at) = refl
-selection_same names number file h first (selected.Ids low high at) = numbers_same names number file h first low high
+selection_same names number file h first (selected.Ids low high at) = refl
 
 -- a selector
 selector_same : (names : Names) (number file : ℕ) (h : Head) (one : Sel) → selector_offences (outside names file) one ≡ selector_offences (inside names number file h) one
@@ -46,7 +41,8 @@ selector_same names number file h one = selection_same names number file h (sele
 
 -- a timer
 timer_same : (names : Names) (number file : ℕ) (h : Head) (at : ℕ) (v : Option Variable)
-    → timer_rule (outside names file) at v ≡ timer_rule (inside names number file h) at v
+    → option_map_or (λ v. timer_form_rule (outside names file) at v.form) v (offence (outside names file) at 9 ∷ [])
+    ≡ option_map_or (λ v. timer_form_rule (inside names number file h) at v.form) v (offence (inside names number file h) at 9 ∷ [])
 timer_same names number file h at None = refl
 timer_same names number file h at (Some v) = by v.form
   where

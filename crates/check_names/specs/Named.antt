@@ -4,12 +4,17 @@ use Rattle.std.specs.Prelude.{List, [], ◌++◌, flat_map}
 use Rattle.dbc_reader.specs.declared.message.DbcMessage.{DbcMessage}
 use Rattle.capl_tree.specs.declared.declaration.Decl.{Decl}
 use Rattle.capl_tree.specs.declared.procedure.Proc.{Proc}
+use Rattle.capl_tree.specs.declared.procedure.Sel.{Sel}
 use Rattle.capl_tree.specs.declared.file.Program.{Program}
 use Rattle.capl_meaning.specs.declared.offence.Offence.{Offence}
 use Rattle.capl_meaning.specs.Variable.{Part, Globals, Procedure, declarations_in, parts_of}
 use Rattle.capl_meaning.specs.Names.{Names, Scope, inside, names_of, outside}
 use Rattle.capl_meaning.specs.DeclarationRules.{type_rules}
-use Rattle.capl_meaning.specs.ProcedureRules.{head_offences, inner_name_offences, outer_name_offences, purpose_offences}
+use Rattle.capl_meaning.specs.ProcedureRules.{head_offences, inner_name_offences, outer_name_offences, purpose_offences, selection_offences, selector_place}
+
+-- what a selector breaks by itself
+abbrev pub selector_offences : Scope → Sel → List Offence
+selector_offences s one = selection_offences s (selector_place one) one.what
 
 -- what the types of declarations break
 abbrev pub types_offences : Scope → List Decl → List Offence

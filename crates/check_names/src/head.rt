@@ -4,9 +4,9 @@ ghost use Rattle.std.specs.Prelude.{◌≡◌, List, OnOk, flat_map};
 ghost use Rattle.std.specs.Borrow.{Bor};
 ghost use Rattle.capl_meaning.specs.DeclarationRules.{message_name_rule, type_rules};
 ghost use Rattle.capl_meaning.specs.Names.{inside, outside};
-ghost use Rattle.capl_meaning.specs.ProcedureRules.{head_offences, numbers_rule, selector_offences};
+ghost use Rattle.capl_meaning.specs.ProcedureRules.{head_offences};
 ghost use Rattle.check_names.specs.First.{noted};
-ghost use Rattle.check_names.specs.Named.{head_and_types, procedure_head_and_types, types_offences};
+ghost use Rattle.check_names.specs.Named.{head_and_types, procedure_head_and_types, selector_offences, types_offences};
 ghost use Rattle.check_names.specs.Part.{part_in, parts_in};
 ghost use Rattle.check_names.specs.Variable.{in_all, lent};
 
@@ -16,9 +16,9 @@ use crate::global::{names_misfit, names_timer};
 use crate::names::Names;
 use crate::part::ProgramPart;
 use crate::rule::{NO_IDENTIFIER, NO_MESSAGE, NO_TIMER, UNUSABLE, note_where};
-use crate::selector::{is_identifier, is_in_range, is_range, number_in, selector_place};
+use crate::selector::{is_identifier, is_in_range, selector_of_numbers, selector_place};
 use capl_meaning::Offence;
-use capl_tree::{Decl, DeclType, Expr, Head, Proc, Sel, SelWhat};
+use capl_tree::{Decl, DeclType, Head, Proc, Sel, SelWhat};
 use std::alloc::Global;
 use texts::NoMemory;
 
@@ -38,25 +38,6 @@ fn note_message_name(names: &Names, file: u32, name: &[u8], at: u32, first: &mut
     }
 }
 
-/// Notes what the numbers of a selector break.
-fn note_numbers(
-    names: &Names,
-    file: u32,
-    at: u32,
-    low: &Expr,
-    high: &Option<Expr>,
-    first: &mut Option<Offence>,
-)
-    ensures { first.new ≡ noted first.old (numbers_rule (outside names.now file) at low.now high.now) }
-{
-    let least = number_in(low);
-    let keeps = match high {
-        None => is_identifier(least.value, least.extended),
-        Some(high) => is_range(least, number_in(high)),
-    };
-    note_where(!keeps, file, at, NO_IDENTIFIER, first);
-}
-
 /// Notes what a selector breaks by itself.
 fn note_selector(names: &Names, file: u32, selector: &Sel, first: &mut Option<Offence>)
     ensures { first.new ≡ noted first.old (selector_offences (outside names.now file) selector.now) }
@@ -65,7 +46,8 @@ fn note_selector(names: &Names, file: u32, selector: &Sel, first: &mut Option<Of
         SelWhat::Any { .. } => {}
         SelWhat::Name { name, at } => note_message_name(names, file, name.bytes(), *at, first),
         SelWhat::Ids { low, high, .. } => {
-            note_numbers(names, file, selector_place(selector), low, high, first);
+            let misfit = selector_of_numbers(low, high).is_none();
+            note_where(misfit, file, selector_place(selector), NO_IDENTIFIER, first);
         }
     }
 }

@@ -1,11 +1,12 @@
 // What selectors select, and the identifiers of messages.
 
-ghost use Rattle.std.specs.Prelude.{◌≡◌, ◌≤◌, ◌<◌, ◌++◌, IfSome, OnOk};
-ghost use Rattle.std.specs.Bool.{OnTrue};
+ghost use Rattle.std.specs.Prelude.{◌≡◌, ◌≤◌, ◌<◌, ◌++◌, IfSome, None, OnOk, if◌then◌else◌};
+ghost use Rattle.std.specs.Bool.{OnTrue, then_some};
 ghost use Rattle.std.specs.Option.{option_map};
 ghost use Rattle.capl_meaning.specs.DeclarationRules.{is_identifier, is_in_range};
-ghost use Rattle.capl_meaning.specs.ProcedureRules.{all_on, channels_of, hold_first, hold_second, identifiers_on, is_range, selected_key, selector_number, on_second, ranges_of, selection_place, selector_of, selector_of_message, selector_of_numbers, selector_place};
-ghost use Rattle.check_names.specs.Selector.{IsProper, number_of, selector_of_range};
+ghost use Rattle.capl_meaning.specs.ProcedureRules.{all_on, channels_of, hold_first, hold_second, identifiers_on, is_range, keys_between, selected_key, on_second, ranges_of, selection_place, selector_of, selector_of_numbers, selector_place};
+ghost use Rattle.capl_meaning.specs.Variable.{identifier};
+ghost use Rattle.check_names.specs.Selector.{IsProper};
 
 use crate::names::Names;
 use capl_tree::{Expr, Sel, SelWhat};
@@ -24,31 +25,6 @@ const EXTENDED: u32 = 0x8000_0000;
 
 /// The bit that marks a frame of the second channel in a key.
 const SECOND_CHANNEL: u32 = 0x4000_0000;
-
-/// A number of a selector as it is spelled.
-#[derive(Clone, Copy, PartialEq, Eq)]
-pub(crate) struct Spelled {
-    /// Its value, if it is below 2^64.
-    pub value: Option<u64>,
-    /// Whether it is marked as extended.
-    pub extended: bool,
-}
-
-/// The number of a selector. A selector has no other expressions.
-pub(crate) fn number_in(e: &Expr) -> Spelled
-    ensures { number_of result ≡ selector_number e.now }
-{
-    match e {
-        Expr::Num { value, ext, .. } => Spelled {
-            value: *value,
-            extended: *ext,
-        },
-        _ => Spelled {
-            value: None,
-            extended: false,
-        },
-    }
-}
 
 /// Whether a number is an identifier.
 pub(crate) fn is_identifier(value: Option<u64>, extended: bool) -> bool
@@ -73,65 +49,70 @@ pub(crate) fn is_in_range(id: u32) -> bool
     id <= LAST_STANDARD
 }
 
-/// The selection key of an identifier, or None where the number is none.
-fn key_of(number: Spelled) -> Option<u32>
-    ensures value { result ≡ selected_key (number_of number) }
+/// The selection key of an identifier.
+fn key_of_number(value: Option<u64>, extended: bool) -> Option<u32>
+    ensures value { result ≡
+        if is_identifier value extended then option_map (λ n. identifier n extended) value else None }
     ensures room { IfSome result (λ key. key < 0xA0000000) }
 {
-    if !is_identifier(number.value, number.extended) {
+    if !is_identifier(value, extended) {
         return None;
     }
-    let id = u32::try_from(number.value?).ok()?;
-    Some(if number.extended { EXTENDED + id } else { id })
+    let id = u32::try_from(value?).ok()?;
+    Some(if extended { EXTENDED + id } else { id })
 }
 
-/// Whether two numbers are a range: identifiers of one form, of which the second is not below the first.
-pub(crate) fn is_range(low: Spelled, high: Spelled) -> bool
-    ensures { result ≡ is_range (number_of low) (number_of high) }
+/// The selection key of a number, or None where it is no identifier. A selector has no other expressions.
+fn key_of(e: &Expr) -> Option<u32>
+    ensures value { result ≡ selected_key e.now }
+    ensures room { IfSome result (λ key. key < 0xA0000000) }
 {
-    is_identifier(low.value, low.extended)
-        && is_identifier(high.value, high.extended)
-        && low.extended == high.extended
-        && low.value <= high.value
-}
-
-/// What a single identifier or a range selects, or None where it breaks a rule.
-fn selector_of_numbers(low: &Expr, high: &Option<Expr>) -> Option<Selector>
-    ensures value { result ≡ selector_of_numbers low.now high.now }
-    ensures proper { IfSome result IsProper }
-{
-    let least = number_in(low);
-    match high {
-        None => {
-            let key = key_of(least)?;
-            Some(Selector {
-                rank: 0,
-                low: key,
-                high: key,
-            })
-        }
-        Some(high) => range_of(least, number_in(high)),
+    match e {
+        Expr::Num { value, ext, .. } => key_of_number(*value, *ext),
+        _ => None,
     }
 }
 
-/// What a range selects, or None where it breaks a rule.
-fn range_of(low: Spelled, high: Spelled) -> Option<Selector>
-    ensures value { result ≡ selector_of_range (number_of low) (number_of high) }
+/// Whether two keys are of one form, and the second is not below the first.
+fn is_range(low: u32, high: u32) -> bool
+    ensures value { result ≡ is_range low high }
+    ensures ordered { OnTrue result (low ≤ high) }
+{
+    (low >= EXTENDED) == (high >= EXTENDED) && low <= high
+}
+
+/// What a range of keys selects, or None where it is none.
+fn range_of(low: u32, high: u32) -> Option<Selector>
+    requires room { high < 0xA0000000 }
+    ensures value { result ≡ then_some (is_range low high) (keys_between 1 low high) }
     ensures proper { IfSome result IsProper }
 {
     if !is_range(low, high) {
         return None;
     }
-    Some(Selector {
-        rank: 1,
-        low: key_of(low)?,
-        high: key_of(high)?,
-    })
+    Some(Selector { rank: 1, low, high })
+}
+
+/// What a single identifier or a range selects, or None where it breaks a rule.
+pub(crate) fn selector_of_numbers(low: &Expr, high: &Option<Expr>) -> Option<Selector>
+    ensures value { result ≡ selector_of_numbers low.now high.now }
+    ensures proper { IfSome result IsProper }
+{
+    let least = key_of(low)?;
+    match high {
+        None => Some(Selector {
+            rank: 0,
+            low: least,
+            high: least,
+        }),
+        Some(high) => range_of(least, key_of(high)?),
+    }
 }
 
 /// What a message of the database selects, or None where its identifier is out of range.
 fn selector_of_message(message: &DbcMessage) -> Option<Selector>
-    ensures value { result ≡ selector_of_message message.now }
+    ensures value { result ≡
+        then_some (is_in_range message.now.id) (keys_between 0 message.now.id message.now.id) }
     ensures proper { IfSome result IsProper }
 {
     is_in_range(message.id).then_some(Selector {

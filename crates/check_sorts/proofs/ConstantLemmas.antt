@@ -14,11 +14,11 @@ use Rattle.capl_tree.specs.declared.expr.Expr.TheVariants as expr
 use Rattle.capl_tree.specs.Forms as tree
 use Rattle.capl_meaning.specs.declared.sort.Sort.{Sort}
 use Rattle.capl_meaning.specs.declared.sort.Sort.TheVariants as sort
-use Rattle.capl_meaning.specs.Constant.{Constant, chosen, constant, constant_value, is_before, is_constant, number_value, operator_value, constant_of_name}
+use Rattle.capl_meaning.specs.Constant.{Constant, chosen, constant, constant_value, is_before, is_constant, operator_value, constant_of_name}
 use Rattle.capl_meaning.specs.Names.{Scope, direction, means}
 use Rattle.capl_meaning.specs.Operator.{prefix_value}
 use Rattle.capl_meaning.specs.Sort.{is_bad, kind_in, number_from, sort_of, sort_of_binary, sort_of_choice, sort_of_direction, sort_of_form, sort_of_name, sort_of_number, sort_of_prefix, working_kind}
-use Rattle.capl_meaning.specs.Variable.{Variable}
+use Rattle.capl_meaning.specs.Variable.{Variable, identifier}
 use Rattle.check_sorts.specs.declared.evaluation.Evaluated.{Evaluated}
 use Rattle.check_sorts.specs.Constant.{AreValues, binary_by, cast_by, choice_by, evaluated, name_by, number_by, precedes, prefix_by, stands_at}
 
@@ -35,11 +35,11 @@ SaysOf known s e r = Says (is_constant known s e) (sort_of s e) (constant_value 
 -- a number in the source
 number_says : (n : Option ℕ) (extended : Bool)
     → Says (not (is_bad (sort_of_number n extended))) (sort_of_number n extended)
-    (option_map (λ n. number_value n extended) n) (number_by n extended)
+    (option_map (λ n. pos (identifier n extended)) n) (number_by n extended)
 number_says n extended = by (is_bad (sort_of_number n extended))
   where
-    by : (b : Bool) → Says (not b) (sort_of_number n extended) (option_map (λ n. number_value n extended) n)
-        (if b then None else Some (record { sort = sort_of_number n extended; value = option_map (λ n. number_value n extended) n }))
+    by : (b : Bool) → Says (not b) (sort_of_number n extended) (option_map (λ n. pos (identifier n extended)) n)
+        (if b then None else Some (record { sort = sort_of_number n extended; value = option_map (λ n. pos (identifier n extended)) n }))
     by true = record { constant = refl; sort = tt; value = tt }
     by false = record { constant = refl; sort = refl; value = refl }
 

@@ -19,7 +19,7 @@ use Rattle.dbc_reader.specs.declared.message.DbcMessage.{DbcMessage}
 use Rattle.capl_tree.specs.declared.expr.Expr.{Expr}
 use Rattle.capl_tree.specs.declared.expr.Expr.TheVariants as expr
 use Rattle.capl_tree.proofs.FormLemmas as form
-use Rattle.capl_meaning.specs.Constant.{chosen, number_value, operator_value}
+use Rattle.capl_meaning.specs.Constant.{chosen, operator_value}
 use Rattle.capl_meaning.specs.Names.{Scope, direction}
 use Rattle.capl_meaning.specs.Operator.{prefix_value, truth_of}
 use Rattle.capl_meaning.specs.Sort.{kind_in}

@@ -13,11 +13,11 @@ use Rattle.capl_tree.specs.declared.expr.Expr.{Expr}
 use Rattle.capl_tree.specs.declared.expr.Expr.TheVariants as expr
 use Rattle.capl_tree.specs.Forms as tree
 use Rattle.capl_meaning.specs.declared.sort.Sort.TheVariants as sort
-use Rattle.capl_meaning.specs.Constant.{Constant, chosen, constant_by, constants_of, elements_of, is_constant_prefix, number_value, operator_value, scope_of}
+use Rattle.capl_meaning.specs.Constant.{Constant, chosen, constant_by, constants_of, elements_of, is_constant_prefix, operator_value, scope_of}
 use Rattle.capl_meaning.specs.Names.{Names, Scope, direction, means}
 use Rattle.capl_meaning.specs.Operator.{prefix_value}
 use Rattle.capl_meaning.specs.Sort.{is_bad, kind_in, number_from, sort_of_binary, sort_of_choice, sort_of_form, sort_of_number, sort_of_prefix, working_kind}
-use Rattle.capl_meaning.specs.Variable.{Form, Number, Variable}
+use Rattle.capl_meaning.specs.Variable.{Form, Number, Variable, identifier}
 use Rattle.check_sorts.specs.declared.constants.Constants.{Constants}
 use Rattle.check_sorts.specs.declared.evaluation.Evaluated.{Evaluated}
 use Rattle.check_sorts.specs.declared.values.Known.{Known}
@@ -76,7 +76,7 @@ abbrev pub number_by : Option ℕ → Bool → Option Evaluated
 number_by value extended =
     if is_bad (sort_of_number value extended) then None else Some (record {
       sort = sort_of_number value extended;
-      value = option_map (λ n. number_value n extended) value;
+      value = option_map (λ n. pos (identifier n extended)) value;
     })
 
 -- a name, by what it means and the values of const integers

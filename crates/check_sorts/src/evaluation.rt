@@ -1,10 +1,11 @@
 // Constant expressions, evaluated in one pass.
 
-ghost use Rattle.std.specs.Prelude.{◌≡◌, ℕ, ℤ, IfSome, None, Option, option_and_then};
+ghost use Rattle.std.specs.Prelude.{◌≡◌, ℕ, ℤ, IfSome, None, Option, option_and_then, pos};
 ghost use Rattle.std.specs.Option.{option_map};
 ghost use Rattle.int_kinds.specs.Arithmetic.{value};
 ghost use Rattle.int_kinds.specs.Kind.{IsNumber, join, wrap};
-ghost use Rattle.capl_meaning.specs.Constant.{chosen, is_constant_prefix, number_value, operator_value};
+ghost use Rattle.capl_meaning.specs.Constant.{chosen, is_constant_prefix, operator_value};
+ghost use Rattle.capl_meaning.specs.Variable.{identifier};
 ghost use Rattle.capl_meaning.specs.Operator.{prefix_value, truth_of};
 ghost use Rattle.check_sorts.specs.Constant.{HasNumber, binary_by, cast_by, choice_by, name_by, number_by, prefix_by};
 ghost use Rattle.capl_meaning.specs.Sort.{kind_in};
@@ -35,7 +36,7 @@ fn truth_of(n: i128) -> i128
 
 /// The value of a number in the source.
 fn number_value(n: u64, extended: bool) -> i128
-    ensures { result ≡ number_value n extended }
+    ensures { result ≡ pos (identifier n extended) }
 {
     if extended {
         (1 << 31) + n as i128

@@ -50,7 +50,7 @@ pub enum MessageType<'p> {
 
 /// The identifier of a declaration.
 fn identifier(value: Option<u64>, extended: bool) -> u128
-    ensures { result ≡ identifier value extended }
+    ensures { result ≡ option_map_or (λ n. identifier n extended) value 0 }
 {
     match value {
         None => 0,

@@ -2,6 +2,7 @@
 -- collide.
 use Rattle.std.proofs.Common.{◌≡◌, ◌≢◌, ℕ, ◌+◌, ◌-◌, ◌≤◌, ◌<◌, ◌^◌, inl, inr, Bool, true, false, ◌&&◌, ◌⊎◌, List, [], ◌∷◌, Option, Some, None, refl, sym, ap, ◌∙◌, subst, arith}
 use Rattle.std.specs.Prelude.{⊤, ◌==◌, if◌then◌else◌, nat_le}
+use Rattle.std.specs.Bool.{beq, then_some}
 use Rattle.std.specs.List.{AllByRecursion}
 use Rattle.std.specs.Option.{option_and_then, option_map}
 use Rattle.std.proofs.lemmas.Bool.{eqb-true, le-leb, leb-true}
@@ -9,11 +10,13 @@ use Rattle.std.proofs.lemmas.Cmp.{nat_eq_equiv}
 use Rattle.run_effects.specs.declared.event.Selector.{Selector}
 use Rattle.run_effects.specs.Effect.{AreApart, IsWithin}
 use Rattle.dbc_reader.specs.declared.message.DbcMessage.{DbcMessage}
+use Rattle.capl_tree.specs.declared.expr.Expr.{Expr}
+use Rattle.capl_tree.specs.declared.expr.Expr.TheVariants as expr
 use Rattle.capl_tree.specs.declared.procedure.SelWhat.{SelWhat}
 use Rattle.capl_tree.specs.declared.procedure.SelWhat.TheVariants as selected
 use Rattle.capl_meaning.specs.DeclarationRules.{is_identifier, is_in_range}
-use Rattle.capl_meaning.specs.ProcedureRules.{Both, Channels, First, ForFrames, Number, Purpose, Second, all_on, does_not_fall, identifiers_on, is_range, selected_key, keys_between, keys_on, names_identifier, selector_number, on_second, overlap, same_form, selector_of, selector_of_message, share_channel}
-use Rattle.capl_meaning.specs.Variable.{message_named}
+use Rattle.capl_meaning.specs.ProcedureRules.{Both, Channels, First, ForFrames, Purpose, Second, all_on, identifiers_on, is_range, selected_key, keys_between, keys_on, on_second, overlap, selector_of, share_channel}
+use Rattle.capl_meaning.specs.Variable.{identifier, message_named}
 use Rattle.sound_programs.proofs.Repeated.{Apart}
 use Rattle.sound_programs.proofs.Written.{and_both}
 
@@ -33,65 +36,63 @@ abbrev pub IsFormed : Purpose → Type 0
 IsFormed (ForFrames channels keys) = IsSelected keys
 IsFormed _ = ⊤
 
--- the parts of the selector between two keys
-record Between (rank : ℕ) (low high : Option ℕ) (keys : Selector) : Type 0 where
-  rank_is : keys.rank ≡ rank
-  from : low ≡ Some keys.low
-  to : high ≡ Some keys.high
-
-between : (rank : ℕ) (low high : Option ℕ) (keys : Selector) → keys_between rank low high ≡ Some keys → Between rank low high keys
-between rank None high keys is = absurd (let f : None ≡ Some keys = is in cc)
-between rank (Some least) None keys is = absurd (let f : None ≡ Some keys = is in cc)
-between rank (Some least) (Some most) keys is =
-    let made : Selector = record { rank = rank; low = least; high = most } in
+-- what is between two identifiers
+between_formed : (rank low high : ℕ) (keys : Selector) → rank < 2 → AreIdentifiers low high → Some (keys_between rank low high) ≡ Some keys → IsSelected keys
+between_formed rank low high keys lesser identifiers is =
+    let made : Selector = keys_between rank low high in
     let f : Some made ≡ Some keys = is in
     let same : made ≡ keys = cc in
-    subst (Between rank (Some least) (Some most)) same (record { rank_is = refl; from = refl; to = refl })
-
--- the keys of a form
-abbrev IsKey : Bool → ℕ → Type 0
-IsKey true key = (2 ^ 31 ≤ key) × (key < 2 ^ 31 + 2 ^ 30)
-IsKey false key = key < 2 ^ 30
+    subst IsSelected same (inr (lesser, identifiers))
 
 some_key : (one other : ℕ) → Some one ≡ Some other → one ≡ other
 some_key one other e = let f : Some one ≡ Some other = e in cc
 
-key_formed : (value : Option ℕ) (extended : Bool) (key : ℕ)
-    → (if is_identifier value extended then option_map (λ id. if extended then 2 ^ 31 + id else id) value else None) ≡ Some key
-    → IsKey extended key
-key_formed None extended key is = absurd (let f : None ≡ Some key = is in cc)
-key_formed (Some id) true key is = go (nat_le id 0x1FFFFFFF) refl is
+-- the key of a number
+number_formed : (value : Option ℕ) (extended : Bool) (key : ℕ)
+    → (if is_identifier value extended then option_map (λ n. identifier n extended) value else None) ≡ Some key
+    → AreIdentifiers key key
+number_formed None extended key is = absurd (let f : None ≡ Some key = is in cc)
+number_formed (Some id) true key is = go (nat_le id 0x1FFFFFFF) refl is
   where
-    go : (b : Bool) → nat_le id 0x1FFFFFFF ≡ b → (if b then Some (2 ^ 31 + id) else None) ≡ Some key → IsKey true key
+    go : (b : Bool) → nat_le id 0x1FFFFFFF ≡ b → (if b then Some (2 ^ 31 + id) else None) ≡ Some key → AreIdentifiers key key
     go true fits e =
         let same = some_key (2 ^ 31 + id) key e in
         let small = leb-true id 0x1FFFFFFF fits in
-        (omega (arith, same), omega (arith, same, small))
+        inr (omega (arith, same), omega (arith, same, small))
     go false fits e = absurd (let f : None ≡ Some key = e in cc)
-key_formed (Some id) false key is = go (nat_le id 0x7FF) refl is
+number_formed (Some id) false key is = go (nat_le id 0x7FF) refl is
   where
-    go : (b : Bool) → nat_le id 0x7FF ≡ b → (if b then Some id else None) ≡ Some key → IsKey false key
-    go true fits e = omega (arith, some_key id key e, leb-true id 0x7FF fits)
+    go : (b : Bool) → nat_le id 0x7FF ≡ b → (if b then Some id else None) ≡ Some key → AreIdentifiers key key
+    go true fits e = inl (omega (arith, some_key id key e, leb-true id 0x7FF fits))
     go false fits e = absurd (let f : None ≡ Some key = e in cc)
 
-both_keys : (extended : Bool) (low high : ℕ) → IsKey extended low → IsKey extended high → AreIdentifiers low high
-both_keys true low high least most = inr (least.0, most.1)
-both_keys false low high least most = inl most
+key_formed : (e : Expr) (key : ℕ) → selected_key e ≡ Some key → AreIdentifiers key key
+key_formed (expr.Num value extended at) key is = number_formed value extended key is
+key_formed other key is = absurd (let f : None ≡ Some key = is in cc)
 
-one_form : (one other : Bool) → same_form one other ≡ true → one ≡ other
-one_form true true is = refl
-one_form true false is = absurd (let f : false ≡ true = is in cc)
-one_form false true is = absurd (let f : false ≡ true = is in cc)
-one_form false false is = refl
+both_alike : (one other : Bool) → beq one other ≡ true → one ≡ other
+both_alike true true is = refl
+both_alike true false is = absurd (let f : false ≡ true = is in cc)
+both_alike false true is = absurd (let f : false ≡ true = is in cc)
+both_alike false false is = refl
 
--- two numbers that are spelled as identifiers of one form
-numbers_formed : (rank : ℕ) (low high : Number) (keys : Selector) → rank < 2 → low.extended ≡ high.extended
-    → keys_between rank (selected_key low) (selected_key high) ≡ Some keys → IsSelected keys
-numbers_formed rank low high keys lesser same is =
-    let made = between rank (selected_key low) (selected_key high) keys is in
-    let least : IsKey low.extended keys.low = key_formed low.value low.extended keys.low made.from in
-    let most : IsKey high.extended keys.high = key_formed high.value high.extended keys.high made.to in
-    inr (omega (arith, made.rank_is, lesser), both_keys high.extended keys.low keys.high (subst (λ e. IsKey e keys.low) same least) most)
+-- two keys of one form
+range_formed : (low high : ℕ) → AreIdentifiers low low → AreIdentifiers high high → nat_le (2 ^ 31) low ≡ nat_le (2 ^ 31) high → AreIdentifiers low high
+range_formed low high (inl least) (inl most) same = inl most
+range_formed low high (inl least) (inr most) same =
+    absurd (let reached = leb-true (2 ^ 31) low (same ∙ le-leb (2 ^ 31) high most.0) in omega (arith, reached, least))
+range_formed low high (inr least) (inl most) same =
+    absurd (let reached = leb-true (2 ^ 31) high (sym same ∙ le-leb (2 ^ 31) low least.0) in omega (arith, reached, most))
+range_formed low high (inr least) (inr most) same = inr (least.0, most.1)
+
+range_selected : (low high : ℕ) (keys : Selector) → AreIdentifiers low low → AreIdentifiers high high → then_some (is_range low high) (keys_between 1 low high) ≡ Some keys → IsSelected keys
+range_selected low high keys least most is = go (is_range low high) refl is
+  where
+    go : (b : Bool) → is_range low high ≡ b → then_some b (keys_between 1 low high) ≡ Some keys → IsSelected keys
+    go true range e =
+        let tests = and_both (beq (nat_le (2 ^ 31) low) (nat_le (2 ^ 31) high)) (nat_le low high) range in
+        between_formed 1 low high keys (omega arith) (range_formed low high least most (both_alike (nat_le (2 ^ 31) low) (nat_le (2 ^ 31) high) tests.0)) e
+    go false range e = absurd (let f : None ≡ Some keys = e in cc)
 
 -- a message of the database
 in_range_formed : (id : ℕ) → is_in_range id ≡ true → AreIdentifiers id id
@@ -103,38 +104,37 @@ in_range_formed id ranged = go (nat_le (2 ^ 31) id) refl ranged
         inr (least, omega (arith, least, leb-true (id - 2 ^ 31) 0x1FFFFFFF fits))
     go false small fits = inl (omega (arith, leb-true id 0x7FF fits))
 
-message_formed : (id : ℕ) (keys : Selector) → (if is_in_range id then keys_between 0 (Some id) (Some id) else None) ≡ Some keys → IsSelected keys
+message_formed : (id : ℕ) (keys : Selector) → then_some (is_in_range id) (keys_between 0 id id) ≡ Some keys → IsSelected keys
 message_formed id keys is = go (is_in_range id) refl is
   where
-    go : (b : Bool) → is_in_range id ≡ b → (if b then keys_between 0 (Some id) (Some id) else None) ≡ Some keys → IsSelected keys
-    go true ranged e =
-        let made = between 0 (Some id) (Some id) keys e in
-        let low = some_key id keys.low made.from in
-        let high = some_key id keys.high made.to in
-        inr (omega (arith, made.rank_is), subst (λ h. AreIdentifiers keys.low h) high (subst (λ l. AreIdentifiers l id) low (in_range_formed id ranged)))
+    go : (b : Bool) → is_in_range id ≡ b → then_some b (keys_between 0 id id) ≡ Some keys → IsSelected keys
+    go true ranged e = between_formed 0 id id keys (omega arith) (in_range_formed id ranged) e
     go false ranged e = absurd (let f : None ≡ Some keys = e in cc)
 
 -- what a selector selects is formed so
 pub selected_formed : (base : List DbcMessage) (what : SelWhat) (keys : Selector) → selector_of base what ≡ Some keys → IsSelected keys
 selected_formed base (selected.Any at) keys is =
-    let made = between 2 (Some 0) (Some 0xFFFFFFFF) keys is in
-    inl (made.rank_is, sym (some_key 0 keys.low made.from), sym (some_key 0xFFFFFFFF keys.high made.to))
+    let made : Selector = keys_between 2 0 0xFFFFFFFF in
+    let f : Some made ≡ Some keys = is in
+    let same : made ≡ keys = cc in
+    subst IsSelected same (inl (refl, refl, refl))
 selected_formed base (selected.Name name at) keys is = go (message_named base name) is
   where
-    go : (o : Option DbcMessage) → option_and_then selector_of_message o ≡ Some keys → IsSelected keys
+    go : (o : Option DbcMessage) → option_and_then (λ (m : DbcMessage). then_some (is_in_range m.id) (keys_between 0 m.id m.id)) o ≡ Some keys → IsSelected keys
     go None e = absurd (let f : None ≡ Some keys = e in cc)
     go (Some m) e = message_formed m.id keys e
-selected_formed base (selected.Ids low None at) keys is = numbers_formed 0 (selector_number low) (selector_number low) keys (omega arith) refl is
-selected_formed base (selected.Ids low (Some high) at) keys is = go (is_range (selector_number low) (selector_number high)) refl is
+selected_formed base (selected.Ids low None at) keys is = go (selected_key low) refl is
   where
-    go : (b : Bool) → is_range (selector_number low) (selector_number high) ≡ b
-        → (if b then keys_between 1 (selected_key (selector_number low)) (selected_key (selector_number high)) else None) ≡ Some keys → IsSelected keys
-    go true range e =
-        let identifiers = and_both (names_identifier (selector_number low)) _ range in
-        let others = and_both (names_identifier (selector_number high)) _ identifiers.1 in
-        let forms = and_both (same_form (selector_number low).extended (selector_number high).extended) (does_not_fall (selector_number low).value (selector_number high).value) others.1 in
-        numbers_formed 1 (selector_number low) (selector_number high) keys (omega arith) (one_form (selector_number low).extended (selector_number high).extended forms.0) e
-    go false range e = absurd (let f : None ≡ Some keys = e in cc)
+    go : (o : Option ℕ) → selected_key low ≡ o → option_map (λ key. keys_between 0 key key) o ≡ Some keys → IsSelected keys
+    go None one e = absurd (let f : None ≡ Some keys = e in cc)
+    go (Some key) one e = between_formed 0 key key keys (omega arith) (key_formed low key one) e
+selected_formed base (selected.Ids low (Some high) at) keys is = go (selected_key low) (selected_key high) refl refl is
+  where
+    go : (a b : Option ℕ) → selected_key low ≡ a → selected_key high ≡ b
+        → option_and_then (λ least. option_and_then (λ most. then_some (is_range least most) (keys_between 1 least most)) b) a ≡ Some keys → IsSelected keys
+    go None b one other e = absurd (let f : None ≡ Some keys = e in cc)
+    go (Some least) None one other e = absurd (let f : None ≡ Some keys = e in cc)
+    go (Some least) (Some most) one other e = range_selected least most keys (key_formed low least one) (key_formed high most other) e
 
 -- ---- the keys of one selector
 

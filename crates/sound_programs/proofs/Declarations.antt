@@ -130,7 +130,7 @@ sized s at decl_type.Millis None none = refl
 sized s at decl_type.Millis (Some size) none = refl
 
 -- the identifier of a declaration is one
-held_identifier : (value : Option ℕ) (extended : Bool) → is_identifier value extended ≡ true → identifier value extended < 2 ^ 32
+held_identifier : (value : Option ℕ) (extended : Bool) → is_identifier value extended ≡ true → option_map_or (λ n. identifier n extended) value 0 < 2 ^ 32
 held_identifier None extended is = absurd (let f : false ≡ true = is in cc)
 held_identifier (Some n) true is = omega (arith, leb-true n 0x1FFFFFFF is)
 held_identifier (Some n) false is = omega (arith, leb-true n 0x7FF is)

@@ -16,11 +16,12 @@ use Rattle.capl_tree.specs.declared.procedure.Head.TheVariants as head
 use Rattle.capl_tree.specs.declared.statement.Stmt.{Stmt}
 use Rattle.typed_tree.specs.declared.program.Typed.{Typed}
 use Rattle.typed_tree.specs.Sound.{all_keys, all_selectors, all_timers}
+use Rattle.capl_meaning.specs.ExpressionRules.{offence}
 use Rattle.capl_meaning.specs.Variable.{Form, Timer, Misfit, Part, Globals, Procedure, Variable, is_timer, parts_of}
 use Rattle.capl_meaning.specs.Names.{Names, Scope, global, inside, names_of}
 use Rattle.capl_meaning.specs.Offences.{offences_of, part_offences}
 use Rattle.capl_meaning.specs.Statement.{Handler, event_of, handlers_of_part, timer_named}
-use Rattle.capl_meaning.specs.ProcedureRules.{ForFrames, ForKey, ForTimer, Purpose, Told, collide, head_offences, names_timer, outer_name_offences, purpose_offences, ranges_of, timer_rule, told_by_head, told_by_part}
+use Rattle.capl_meaning.specs.ProcedureRules.{ForFrames, ForKey, ForTimer, Purpose, Told, collide, head_offences, names_timer, outer_name_offences, purpose_offences, ranges_of, timer_form_rule, told_by_head, told_by_part}
 use Rattle.capl_meaning.specs.Inside.Names.{is_global}
 use Rattle.capl_meaning.specs.Inside.Procedure.{handlers_of}
 use Rattle.typed_laws.proofs.Declared.{all_append}
@@ -58,15 +59,17 @@ keys_in handlers = filter_map (λ (h : Handler). key_of h.event) handlers
 
 module _ (names : Names) (forms : HaveForms names) where
   -- the name of a timer procedure names a timer
-  timer_fine : (s : Scope) (at : ℕ) (name : List ℕ) → timer_rule s at (global names name) ≡ [] → names_timer names name ≡ true
+  timer_fine : (s : Scope) (at : ℕ) (name : List ℕ) → option_map_or (λ v. timer_form_rule s at v.form) (global names name) (offence s at 9 ∷ []) ≡ []
+      → names_timer names name ≡ true
   timer_fine s at name none = go (global names name) refl none
     where
-      by : (v : Variable) → global names name ≡ Some v → (form : Form) → v.form ≡ form → timer_rule s at (Some (record v { form = form })) ≡ [] → is_timer form ≡ true
+      by : (v : Variable) → global names name ≡ Some v → (form : Form) → v.form ≡ form → timer_form_rule s at form ≡ [] → is_timer form ≡ true
       by v is (Timer unit) e none = refl
       by v is Misfit e none = absurd (forms v (record { among = found_among (is_global name) names.variables v is; form_is = e }))
       by v is other e none = absurd (full _ _ none)
 
-      go : (o : Option Variable) → global names name ≡ o → timer_rule s at o ≡ [] → option_map_or (λ v. is_timer v.form) o false ≡ true
+      go : (o : Option Variable) → global names name ≡ o → option_map_or (λ v. timer_form_rule s at v.form) o (offence s at 9 ∷ []) ≡ []
+          → option_map_or (λ v. is_timer v.form) o false ≡ true
       go None is none = absurd (full _ _ none)
       go (Some v) is none = by v is v.form refl none
 

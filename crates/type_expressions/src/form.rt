@@ -7,7 +7,7 @@ ghost use Rattle.int_kinds.specs.Kind.{join};
 ghost use Rattle.typed_tree.specs.declared.expression.TExpr.TheVariants.{Const};
 ghost use Rattle.typed_tree.specs.Forms.{Cond, Convert};
 ghost use Rattle.capl_meaning.specs.declared.sort.Sort.TheVariants as sort;
-ghost use Rattle.capl_meaning.specs.Constant.{number_value};
+ghost use Rattle.capl_meaning.specs.Variable.{identifier};
 ghost use Rattle.capl_meaning.specs.Sort.{kind_in, number_from, sort_of_assignment, sort_of_binary, sort_of_choice, sort_of_number, sort_of_prefix, sort_of_step, sort_of_this, working_kind};
 ghost use Rattle.typed_source.specs.Expression.{assigned, of_this, operation, stepping};
 ghost use Rattle.check_sorts.specs.Scope.{scope_in};
@@ -29,7 +29,7 @@ use typed_tree::{Place, TExpr};
 
 /// The value of a number in the source.
 fn number_value(value: Option<u64>, extended: bool) -> i128
-    ensures { result ≡ option_map_or (λ n. number_value n extended) value (pos 0) }
+    ensures { result ≡ option_map_or (λ n. pos (identifier n extended)) value (pos 0) }
 {
     match value {
         None => 0,
@@ -41,7 +41,7 @@ fn number_value(value: Option<u64>, extended: bool) -> i128
 /// A number in the source.
 pub(crate) fn number(value: Option<u64>, extended: bool) -> Walked
     ensures { result ≡ record {
-      shape = shape.Value (Const (option_map_or (λ n. number_value n extended) value (pos 0)));
+      shape = shape.Value (Const (option_map_or (λ n. pos (identifier n extended)) value (pos 0)));
       sort = sort_of_number value extended;
     } }
 {

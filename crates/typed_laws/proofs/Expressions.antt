@@ -27,11 +27,11 @@ use Rattle.typed_tree.specs.Forms.{Binary, Both, Cond, Convert, Either, Store, U
 use Rattle.typed_tree.specs.SoundExpression.{IsOperation, IsPrefixOperation}
 use Rattle.typed_tree.specs.Expression as typed
 use Rattle.typed_tree.specs.Memory as cells
-use Rattle.capl_meaning.specs.Variable.{Variable}
+use Rattle.capl_meaning.specs.Variable.{Variable, identifier}
 use Rattle.capl_meaning.specs.Names.{Names, Scope, ThisKey, direction, means}
 use Rattle.capl_meaning.specs.Sort.{kind_in, sort_of}
 use Rattle.capl_meaning.specs.Operator.{prefix_value, truth_of}
-use Rattle.capl_meaning.specs.Constant.{branches_kind, number_value, operands_kind, prefix_kind}
+use Rattle.capl_meaning.specs.Constant.{branches_kind, operands_kind, prefix_kind}
 use Rattle.capl_meaning.specs.Store.{This}
 use Rattle.capl_meaning.specs.Expression.{Nowhere, InNumber, builtin_value, call_value, calling, operates, place_spot, reads, spot_of, step_by_one, stores, timer_in, value_of, value_of_this, values_of, with_arguments, with_store}
 use Rattle.capl_meaning.specs.Inside.Expression.{step_operator, spot_of_name, value_of_name}
@@ -153,7 +153,7 @@ module _ (scope : Scope) (order : List ℕ) where
   pub constant_as : (e : Expr) (n : ℤ) → ((b : Beside scope.names order) (w : World source.Memory) → value_of (source_setting b scope) b.call e w ≡ Gives n w) → GivesAs scope order e (Const n)
   constant_as e n f = record { same = λ b w. ap (laid_run scope.names b.this) (sym (f b w)) }
 
-  pub number_as : (value : Option ℕ) (extended : Bool) (at : ℕ) → GivesAs scope order (expr.Num value extended at) (Const (option_map_or (λ n. number_value n extended) value (pos 0)))
+  pub number_as : (value : Option ℕ) (extended : Bool) (at : ℕ) → GivesAs scope order (expr.Num value extended at) (Const (option_map_or (λ n. pos (identifier n extended)) value (pos 0)))
   number_as value extended at = constant_as _ _ (λ b w. refl)
 
   pub character_as : (value at : ℕ) → GivesAs scope order (expr.Char value at) (Const (pos value))

@@ -39,12 +39,12 @@ use Rattle.capl_meaning.specs.declared.field.MessageField.{MessageField}
 use Rattle.capl_meaning.specs.declared.field.MessageField.TheVariants.{Id, Dlc, Rtr, Can, Dir, Time}
 use Rattle.capl_meaning.specs.declared.sort.Sort.{Sort}
 use Rattle.capl_meaning.specs.declared.sort.Sort.TheVariants as sort
-use Rattle.capl_meaning.specs.Variable.{Form, Number, Array, Message, Timer, Misfit, Variable}
+use Rattle.capl_meaning.specs.Variable.{Form, Number, Array, Message, Timer, Misfit, Variable, identifier}
 use Rattle.capl_meaning.specs.Names.{Callee, Function, OfLanguage, OfProgram, Scope, ThisForm, NoThis, ThisFrame, ThisKey, Unknown, callee, direction, means}
 use Rattle.capl_meaning.specs.Format.{first_text}
 use Rattle.capl_meaning.specs.Message.{Held, HeldFrame, HeldVariable, NamedMember, IsField, IsSignal, IsUnusable, IsUnknown, array_by, array_in, can_be_used, field_named, is_number_place, is_open_number, is_usable, member_named, member_of_signal, member_of_signals, message_in, signal_named, signals_of}
 use Rattle.capl_meaning.specs.Sort.{is_number, is_recursive, kind_in, number_from, sort_given, sort_of, sort_of_assignment, sort_of_binary, sort_of_call, sort_of_choice, sort_of_element, sort_of_form, sort_of_function, sort_of_member, sort_of_name, sort_of_part, sort_of_prefix, sort_of_step, sorts_of}
-use Rattle.capl_meaning.specs.Constant.{array_length, constant_at, elements_of, length_by, number_value, scope_of}
+use Rattle.capl_meaning.specs.Constant.{array_length, constant_at, elements_of, length_by, scope_of}
 use Rattle.capl_meaning.specs.Store.{variable_key, timer_number}
 use Rattle.capl_meaning.specs.Expression.{timer_in}
 use Rattle.typed_laws.specs.Laid.{HasForm, IsHeld, message_slot, slot}
@@ -86,7 +86,7 @@ stepped_number false a h = elim h [ ]
 IsNumber-pos : (n : ℕ) → n < 2 ^ 64 → IsNumber (pos n)
 IsNumber-pos n h = record { at_least = omega (arith, ints); below = omega (arith, ints, h) }
 
-IsNumber-value : (n : ℕ) (extended : Bool) → IsSmall (Some n) extended → IsNumber (number_value n extended)
+IsNumber-value : (n : ℕ) (extended : Bool) → IsSmall (Some n) extended → IsNumber (pos (identifier n extended))
 IsNumber-value n false h = IsNumber-pos n h
 IsNumber-value n true h = IsNumber-pos (2 ^ 31 + n) (omega (arith, h))
 
@@ -398,7 +398,7 @@ module _ (typed : Typed) (number : ℕ) where
       -- each expression that is a number
       pub sound : (e : Expr) → IsOfNumber (sort_of s e) → CanBeMade s order typed number e → IsSoundExpr typed number (expression_of s order e)
       sound (expr.Num None extended at) h made = sound_zero
-      sound (expr.Num (Some n) extended at) h made = sound_const (number_value n extended) (IsNumber-value n extended made)
+      sound (expr.Num (Some n) extended at) h made = sound_const (pos (identifier n extended)) (IsNumber-value n extended made)
       sound (expr.Char value at) h made = sound_const (pos value) (IsNumber-pos value (omega (arith, made)))
       sound (expr.Str text at) h made = elim h [ ]
       sound (expr.This at) h made = sound_this s.this

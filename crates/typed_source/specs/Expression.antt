@@ -23,11 +23,11 @@ use Rattle.capl_meaning.specs.declared.builtin.Builtin.{Builtin}
 use Rattle.capl_meaning.specs.declared.builtin.Builtin.TheVariants as builtin
 use Rattle.capl_meaning.specs.declared.field.MessageField.{MessageField}
 use Rattle.capl_meaning.specs.declared.field.MessageField.TheVariants.{Id, Dlc, Rtr, Can, Dir, Time}
-use Rattle.capl_meaning.specs.Variable.{Form, Number, Variable}
+use Rattle.capl_meaning.specs.Variable.{Form, Number, Variable, identifier}
 use Rattle.capl_meaning.specs.Names.{Callee, Names, OfLanguage, OfProgram, Unknown, Scope, ThisForm, ThisKey, callee, direction, means}
 use Rattle.capl_meaning.specs.Message.{Held, NamedMember, IsField, IsSignal, array_in, is_number_place, member_named, message_in, signals_of}
 use Rattle.capl_meaning.specs.Sort.{kind_in, sort_of}
-use Rattle.capl_meaning.specs.Constant.{branches_kind, elements_of, number_value, operands_kind, prefix_kind}
+use Rattle.capl_meaning.specs.Constant.{branches_kind, elements_of, operands_kind, prefix_kind}
 use Rattle.capl_meaning.specs.Store.{variable_key, timer_number}
 use Rattle.capl_meaning.specs.Expression.{timer_in}
 use Rattle.capl_meaning.specs.Inside.Expression.{step_operator}
@@ -137,7 +137,7 @@ abbrev mutual
   -- the typed tree of an expression, where the functions stand in an order
   pub expression_of : Scope → List ℕ → Expr → TExpr
   expression_of s order (expr.Num value extended at) =
-      Const (option_map_or (λ n. number_value n extended) value (pos 0))
+      Const (option_map_or (λ n. pos (identifier n extended)) value (pos 0))
   expression_of s order (expr.Char value at) = Const (pos value)
   expression_of s order (expr.Str text at) = Const (pos 0)
   expression_of s order (expr.This at) = of_this s.this

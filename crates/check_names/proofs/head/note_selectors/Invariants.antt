@@ -2,8 +2,8 @@
 use Rattle.std.proofs.Common.{◌≡◌, drop}
 use Rattle.std.specs.Prelude.{flat_map}
 use Rattle.capl_meaning.specs.Names.{outside}
-use Rattle.capl_meaning.specs.ProcedureRules.{selector_offences}
 use Rattle.check_names.specs.First.{noted}
+use Rattle.check_names.specs.Named.{selector_offences}
 use Rattle.check_names.proofs.head.note_selectors.Given as goal
 
 abbrev pub invariant-loop-selector : goal.invariant-loop-selector
