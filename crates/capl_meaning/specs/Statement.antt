@@ -2,8 +2,7 @@
 -- stop, functions, event procedures).
 use Rattle.std.specs.Prelude.{ℕ, zero, suc, Bool, true, false, if◌then◌else◌, List, [], ◌∷◌, filter_map, length, map, position, slice_set, Option, Some, None, ℤ, pos, unsigned_abs, unwrap_or, ◌-◌, flat_map}
 use Rattle.std.specs.List.{list_any}
-use Rattle.std.specs.Option.{option_and_then, option_map, option_map_or}
-use Rattle.std.specs.Ordering.{int_eq}
+use Rattle.std.specs.Option.{option_and_then, option_map_or}
 use Rattle.int_kinds.specs.declared.kinds.Kind.{Kind}
 use Rattle.int_kinds.specs.Kind.{wrap}
 use Rattle.write_format.specs.declared.argument.ArgKind.{ArgKind}
@@ -22,7 +21,7 @@ use Rattle.capl_meaning.specs.Names.{Callee, OfLanguage, Scope, callee, Function
 use Rattle.capl_meaning.specs.Format.{show_all, quoted_text}
 use Rattle.capl_meaning.specs.Message.{Held, HeldVariable, array_in, message_in}
 use Rattle.capl_meaning.specs.Sort.{is_number, sort_of}
-use Rattle.capl_meaning.specs.Constant.{constant_at, elements_of, prefix_kind}
+use Rattle.capl_meaning.specs.Constant.{elements_of, prefix_kind}
 use Rattle.capl_meaning.specs.Store.{Store, variable_key, row, timer_number, unit_of, with_message, frame_sent, This}
 use Rattle.capl_meaning.specs.Expression.{Memory, Setting, held_message, timer_in, value_of, with_store}
 use Rattle.run_effects.specs.declared.event.Event.{Event}
@@ -31,6 +30,7 @@ use Rattle.run_effects.specs.declared.outcome.Outcome.TheVariants.{Done}
 use Rattle.dbc_reader.specs.declared.message.DbcMessage.{DbcMessage}
 use Rattle.capl_tree.specs.declared.file.Program.{Program}
 use Rattle.capl_tree.specs.declared.procedure.Head.{Head}
+use Rattle.capl_meaning.specs.StatementRules.{label_of, same_label}
 use Rattle.capl_meaning.specs.ProcedureRules.{ranges_of}
 use Rattle.capl_meaning.specs.Calls.{function_numbered}
 use Rattle.write_format.specs.declared.argument.ArgKind.TheVariants as argument
@@ -179,36 +179,21 @@ returns s call (Some e) w =
 
 -- ---- switch
 
--- a label, where none stands for `default`: the number of its constant, wrapped to a kind; what is no
--- constant is no label
-abbrev pub label_of : Scope → Kind → ℕ → Option Expr → Option (Option ℤ)
-label_of s k at None = Some None
-label_of s k at (Some value) = option_map (λ n. Some (wrap k n)) (constant_at s at value)
-
 -- the labels of each group in a kind
 abbrev pub group_labels : Scope → Kind → {m : _} → Row_of-Group m → List (List (Option ℤ))
 group_labels s k end_of-Group = []
 group_labels s k (more_of-Group labels shape body rest) =
     filter_map (λ label. label_of s k label.at label.value) labels ∷ group_labels s k rest
 
--- two labels are the same
-abbrev pub same_label : Option ℤ → Option ℤ → Bool
-same_label None None = true
-same_label (Some m) (Some n) = int_eq m n
-same_label _ _ = false
-
 -- the number of the first group that has a label
 abbrev pub group_with : Option ℤ → List (List (Option ℤ)) → Option ℕ
 group_with label groups = position (list_any (same_label label)) groups
 
--- the number of the first group with `default`, else behind the last
-abbrev pub default_group : List (List (Option ℤ)) → ℕ
-default_group groups = unwrap_or (group_with None groups) (length groups)
-
 -- the number of the group that a value leads to: the one that has it as a label, else the one with `default`,
 -- else behind the last
 abbrev pub group_for : ℤ → List (List (Option ℤ)) → ℕ
-group_for n groups = unwrap_or (group_with (Some n) groups) (default_group groups)
+group_for n groups =
+    unwrap_or (group_with (Some n) groups) (unwrap_or (group_with None groups) (length groups))
 
 -- ---- statements
 

@@ -1,7 +1,7 @@
 -- The rules that a statement and its parts break (CAPL manual, statements).
-use Rattle.std.specs.Prelude.{ℕ, Bool, true, false, not, if◌then◌else◌, List, [], ◌∷◌, ◌++◌, flat_map, map, Option, Some, None, ℤ}
+use Rattle.std.specs.Prelude.{ℕ, Bool, true, false, not, ◌||◌, if◌then◌else◌, List, [], ◌∷◌, ◌++◌, filter_map, flat_map, is_none, map, Option, Some, None, ℤ}
 use Rattle.std.specs.List.{list_any}
-use Rattle.std.specs.Option.{option_to_list}
+use Rattle.std.specs.Option.{option_map, option_to_list}
 use Rattle.std.specs.Ordering.{int_eq}
 use Rattle.int_kinds.specs.declared.kinds.Kind.{Kind}
 use Rattle.int_kinds.specs.Kind.{join, wrap}
@@ -13,9 +13,8 @@ use Rattle.capl_tree.specs.declared.statement.Label.{Label}
 use Rattle.capl_tree.specs.Forms as tree
 use Rattle.capl_meaning.specs.declared.offence.Offence.{Offence}
 use Rattle.capl_meaning.specs.declared.sort.Sort.{Sort}
-use Rattle.capl_meaning.specs.declared.sort.Sort.TheVariants as sort
 use Rattle.capl_meaning.specs.Names.{Scope}
-use Rattle.capl_meaning.specs.Sort.{sort_of}
+use Rattle.capl_meaning.specs.Sort.{is_number, kind_in, sort_of}
 use Rattle.capl_meaning.specs.Constant.{constant_at}
 use Rattle.capl_meaning.specs.ExpressionRules.{broken_where, integer_offences, offence, offences}
 use Rattle.capl_meaning.specs.DeclarationRules.{constant_offences, declaration_offences}
@@ -50,43 +49,24 @@ return_rule s at None (Some value) = offence s at 24 ∷ []
 return_rule s at (Some k) None = offence s at 24 ∷ []
 return_rule s at _ _ = []
 
--- what a label says: `default`, or the number of its constant, wrapped to a kind; it says nothing where its
--- value is no constant or there is no kind
-pub data Saying : Type 0 where
-  Default : Saying
-  Case : ℤ → Saying
-  Unclear : Saying
+-- a label, where none stands for `default`: the number of its constant, wrapped to a kind; what is no
+-- constant is no label
+abbrev pub label_of : Scope → Kind → ℕ → Option Expr → Option (Option ℤ)
+label_of s k at None = Some None
+label_of s k at (Some value) = option_map (λ n. Some (wrap k n)) (constant_at s at value)
 
--- what the value of a `case` says in a kind
-abbrev pub saying_of_number : Kind → Option ℤ → Saying
-saying_of_number k None = Unclear
-saying_of_number k (Some n) = Case (wrap k n)
+-- two labels are the same
+abbrev pub same_label : Option ℤ → Option ℤ → Bool
+same_label None None = true
+same_label (Some m) (Some n) = int_eq m n
+same_label _ _ = false
 
--- what a `case` says in a `switch` over an expression of this sort: it compares in its kind joined with
--- itself
-abbrev pub saying_of_case : Sort → Option ℤ → Saying
-saying_of_case (sort.Number k) n = saying_of_number (join k k) n
-saying_of_case _ n = Unclear
-
--- what a label says
-abbrev pub saying_of_value : Scope → ℕ → Sort → Option Expr → Saying
-saying_of_value s at on None = Default
-saying_of_value s at on (Some value) = saying_of_case on (constant_at s at value)
-
--- two labels say the same
-abbrev pub same_saying : Saying → Saying → Bool
-same_saying Default Default = true
-same_saying (Case m) (Case n) = int_eq m n
-same_saying _ _ = false
-
--- a label, by its token and what it says
-pub record SaidLabel : Type 0 where
-  pub at : ℕ
-  pub saying : Saying
-
--- a label of a `switch` over an expression of this sort
-abbrev pub said_by : Scope → Sort → Label → SaidLabel
-said_by s on label = record { at = label.at; saying = saying_of_value s label.at on label.value }
+-- a label of a `switch` over an expression of this sort, with its token; where that is no number, `default`
+-- alone is one
+abbrev pub label_at : Scope → Sort → Label → Option (ℕ × Option ℤ)
+label_at s on label =
+    option_map (λ said. (label.at, said)) (if is_number on || is_none label.value
+    then label_of s (join (kind_in on) (kind_in on)) label.at label.value else None)
 
 -- the labels of all groups
 abbrev pub labels_said : {m : _} → Row_of-Group m → List Label
@@ -96,8 +76,8 @@ labels_said (more_of-Group labels shape body rest) = labels ++ labels_said rest
 -- E20: two labels are equal after wrapping to the kind in which the `switch` compares, or two are `default`
 abbrev pub labels_rule : Scope → Sort → List Label → List Offence
 labels_rule s on labels =
-    map (λ said. offence s said.at 20)
-    (repeated (λ a b. same_saying a.saying b.saying) [] (map (said_by s on) labels))
+    map (λ said. offence s said.0 20)
+    (repeated (λ a b. same_label a.1 b.1) [] (filter_map (label_at s on) labels))
 
 -- what the value of a label breaks: a constant is needed
 abbrev pub label_offences : Scope → Label → List Offence

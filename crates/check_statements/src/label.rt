@@ -3,10 +3,10 @@
 ghost use Rattle.std.specs.Prelude.{◌≡◌, ◌++◌, ◌∷◌, [], IfOk, IfSome, List, OnOk};
 ghost use Rattle.std.specs.List.{list_any};
 ghost use Rattle.int_kinds.specs.Kind.{IsNumber};
-ghost use Rattle.capl_meaning.specs.StatementRules.{SaidLabel, labels_rule, same_saying, saying_of_case, saying_of_value};
+ghost use Rattle.capl_meaning.specs.StatementRules.{labels_rule};
 ghost use Rattle.check_names.specs.First.{noted};
 ghost use Rattle.check_names.specs.Variable.{lent};
-ghost use Rattle.check_statements.specs.Inside.Label.{Has, saying_in};
+ghost use Rattle.check_statements.specs.Inside.Label.{Has, SaidLabel, same_saying, saying_in, saying_of_case, saying_of_value};
 ghost use Rattle.check_statements.specs.Site.{IsReady, place_of};
 ghost use Rattle.check_statements.specs.Statement.{labels_in};
 

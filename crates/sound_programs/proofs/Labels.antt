@@ -1,6 +1,6 @@
 -- The labels of a `switch` that breaks no rule differ, and each is a number of its kind.
 use mathlib.Core.Former.{Count}
-use Rattle.std.proofs.Common.{◌≡◌, ◌≢◌, ℕ, suc, ◌+◌, ◌≤◌, ◌<◌, ◌^◌, Bool, true, false, List, [], ◌∷◌, ◌++◌, length, map, Option, Some, None, refl, sym, ap, ◌∙◌, subst, arith}
+use Rattle.std.proofs.Common.{◌≡◌, ◌≢◌, ℕ, suc, ◌+◌, ◌≤◌, ◌<◌, ◌^◌, Bool, true, false, List, [], ◌∷◌, ◌++◌, length, Option, Some, None, refl, sym, ap, ◌∙◌, subst, arith}
 use Rattle.std.specs.Prelude.{⊤, ℤ, All, AllPairs, IfSome, filter_map, flat_map}
 use Rattle.std.specs.List.{AllByRecursion, cons_option}
 use Rattle.std.specs.Option.{option_map}
@@ -19,66 +19,48 @@ use Rattle.capl_meaning.specs.declared.sort.Sort.{Sort}
 use Rattle.capl_meaning.specs.declared.sort.Sort.TheVariants as sort
 use Rattle.capl_meaning.specs.Names.{Scope}
 use Rattle.capl_meaning.specs.Constant.{constant_at}
-use Rattle.capl_meaning.specs.Statement.{label_of}
-use Rattle.capl_meaning.specs.StatementRules.{SaidLabel, Saying, Default, Case, Unclear, labels_said, labels_rule, repeated, said_by, same_saying, saying_of_number, saying_of_value}
+use Rattle.capl_meaning.specs.StatementRules.{label_at, label_of, labels_said, labels_rule, repeated, same_label}
 use Rattle.typed_source.specs.Statement.{formats_of_row, groups_of}
 use Rattle.sound_programs.specs.Small.{AreSmallGroups}
 use Rattle.sound_programs.proofs.Empty.{unmapped}
 use Rattle.sound_programs.proofs.Repeated.{Apart, kept_apart, not_repeated, pairs}
 
--- ---- labels by what they say
+-- ---- labels that are apart
 
--- the label that says something, if it says something
-abbrev label_by : Saying → Option (Option ℤ)
-label_by Default = Some None
-label_by (Case n) = Some (Some n)
-label_by Unclear = None
+-- the labels of those with tokens
+abbrev labels_by : List (ℕ × Option ℤ) → List (Option ℤ)
+labels_by all = filter_map (λ (said : ℕ × Option ℤ). Some said.1) all
 
--- the labels of what is said
-abbrev labels_by : List SaidLabel → List (Option ℤ)
-labels_by all = filter_map (λ (said : SaidLabel). label_by said.saying) all
-
--- two labels that do not say the same differ
-differ : (a b : Saying) (m n : Option ℤ) → same_saying b a ≡ false → label_by a ≡ Some m → label_by b ≡ Some n → m ≢ n
-differ Default Default m n apart one other same = let f : true ≡ false = apart in cc
-differ Default (Case q) m n apart one other same = let f : Some None ≡ Some m = one in let g : Some (Some q) ≡ Some n = other in cc
-differ (Case p) Default m n apart one other same = let f : Some (Some p) ≡ Some m = one in let g : Some None ≡ Some n = other in cc
-differ (Case p) (Case q) m n apart one other same =
+-- two labels that are not the same differ
+differ : (a b m n : Option ℤ) → same_label b a ≡ false → Some a ≡ Some m → Some b ≡ Some n → m ≢ n
+differ None None m n apart one other same = let f : true ≡ false = apart in cc
+differ None (Some q) m n apart one other same = let f : Some None ≡ Some m = one in let g : Some (Some q) ≡ Some n = other in cc
+differ (Some p) None m n apart one other same = let f : Some (Some p) ≡ Some m = one in let g : Some None ≡ Some n = other in cc
+differ (Some p) (Some q) m n apart one other same =
     let f : Some (Some p) ≡ Some m = one in
     let g : Some (Some q) ≡ Some n = other in
     let equal : q ≡ p = cc in
     let h : int_eq q p ≡ true = (Decides-int_eq q p).1 equal in
     let e : true ≡ false = sym h ∙ apart in cc
-differ Unclear b m n apart one other same = let f : None ≡ Some m = one in cc
-differ Default Unclear m n apart one other same = let g : None ≡ Some n = other in cc
-differ (Case p) Unclear m n apart one other same = let g : None ≡ Some n = other in cc
 
-labels_apart : (all : List SaidLabel) → Apart (λ (x y : SaidLabel). same_saying y.saying x.saying ≡ false) all → Apart (λ m n. m ≢ n) (labels_by all)
+labels_apart : (all : List (ℕ × Option ℤ)) → Apart (λ (x y : ℕ × Option ℤ). same_label y.1 x.1 ≡ false) all → Apart (λ m n. m ≢ n) (labels_by all)
 labels_apart all apart =
-    kept_apart (λ (said : SaidLabel). label_by said.saying) (λ (x y : SaidLabel). same_saying y.saying x.saying ≡ false) (λ m n. m ≢ n) (λ x y m n far one other. differ x.saying y.saying m n far one other) all apart
+    kept_apart (λ (said : ℕ × Option ℤ). Some said.1) (λ (x y : ℕ × Option ℤ). same_label y.1 x.1 ≡ false) (λ m n. m ≢ n) (λ x y m n far one other. differ x.1 y.1 m n far one other) all apart
 
 module _ (s : Scope) where
-  -- a label is what it says
-  says : (k : Kind) (label : Label) → label_of s (join k k) label.at label.value ≡ label_by (said_by s (sort.Number k) label).saying
-  says k label = go label.value
-    where
-      by : (o : Option ℤ) → option_map (λ n. Some (wrap (join k k) n)) o ≡ label_by (saying_of_number (join k k) o)
-      by None = refl
-      by (Some n) = refl
-
-      go : (value : Option Expr) → label_of s (join k k) label.at value ≡ label_by (saying_of_value s label.at (sort.Number k) value)
-      go None = refl
-      go (Some e) = by (constant_at s label.at e)
-
-  all_say : (k : Kind) (labels : List Label) → filter_map (λ (label : Label). label_of s (join k k) label.at label.value) labels ≡ labels_by (map (said_by s (sort.Number k)) labels)
-  all_say k [] = refl
-  all_say k (label ∷ rest) =
-      ap (λ o. cons_option o (filter_map (λ (label : Label). label_of s (join k k) label.at label.value) rest)) (says k label)
-      ∙ ap (λ l. cons_option (label_by (said_by s (sort.Number k) label).saying) l) (all_say k rest)
-
   -- the labels of all groups in a kind
   abbrev labels_in : Kind → List Label → List (Option ℤ)
   labels_in k labels = filter_map (λ (label : Label). label_of s k label.at label.value) labels
+
+  -- they are those with their tokens, where a number is compared
+  all_say : (k : Kind) (labels : List Label) → labels_in (join k k) labels ≡ labels_by (filter_map (label_at s (sort.Number k)) labels)
+  all_say k [] = refl
+  all_say k (label ∷ rest) = go (label_of s (join k k) label.at label.value) (all_say k rest)
+    where
+      go : (o : Option (Option ℤ)) → labels_in (join k k) rest ≡ labels_by (filter_map (label_at s (sort.Number k)) rest)
+          → cons_option o (labels_in (join k k) rest) ≡ labels_by (cons_option (option_map (λ said. (label.at, said)) o) (filter_map (label_at s (sort.Number k)) rest))
+      go None h = h
+      go (Some said) h = ap (λ l. said ∷ l) h
 
   -- they are the labels of the groups' trees
   gathered : (order : List ℕ) (k : Kind) (before : ℕ) {m : Count} (groups : Row_of-Group m) → all_labels (groups_of s order k before groups) ≡ labels_in k (labels_said groups)
@@ -90,9 +72,9 @@ module _ (s : Scope) where
   pub labels_differ : (order : List ℕ) (k : Kind) (before : ℕ) {m : Count} (groups : Row_of-Group m) → labels_rule s (sort.Number k) (labels_said groups) ≡ [] →
       AllPairs (λ a b. a ≢ b) (all_labels (groups_of s order (join k k) before groups))
   labels_differ order k before groups none =
-      let apart = not_repeated (λ (a b : SaidLabel). same_saying a.saying b.saying) (map (said_by s (sort.Number k)) (labels_said groups)) (unmapped _ _ none) in
+      let apart = not_repeated (λ (a b : ℕ × Option ℤ). same_label a.1 b.1) (filter_map (label_at s (sort.Number k)) (labels_said groups)) (unmapped _ _ none) in
       subst (λ l. AllPairs (λ a b. a ≢ b) l) (sym (gathered order (join k k) before groups ∙ all_say k (labels_said groups)))
-      (pairs (λ a b. a ≢ b) (labels_by (map (said_by s (sort.Number k)) (labels_said groups))) (labels_apart (map (said_by s (sort.Number k)) (labels_said groups)) apart))
+      (pairs (λ a b. a ≢ b) (labels_by (filter_map (label_at s (sort.Number k)) (labels_said groups))) (labels_apart (filter_map (label_at s (sort.Number k)) (labels_said groups)) apart))
 
   -- and each is a number
   pub labels_in_range : (order : List ℕ) (k : Kind) (before : ℕ) {m : Count} (groups : Row_of-Group m) → All (λ label. IfSome label IsNumber) (all_labels (groups_of s order k before groups))

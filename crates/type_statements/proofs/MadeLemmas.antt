@@ -18,7 +18,7 @@ use Rattle.typed_tree.specs.Forms.{Convert}
 use Rattle.typed_tree.specs.Forms as loop
 use Rattle.capl_meaning.specs.Names.{Scope}
 use Rattle.capl_meaning.specs.Constant.{prefix_kind}
-use Rattle.capl_meaning.specs.Statement.{label_of}
+use Rattle.capl_meaning.specs.StatementRules.{label_of}
 use Rattle.typed_source.specs.Expression.{expression_of}
 use Rattle.typed_source.specs.Statement.{formats_of, formats_of_part, statement_of}
 use Rattle.typed_source.specs.Program.{body_of, formats_of_body}

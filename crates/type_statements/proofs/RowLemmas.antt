@@ -22,7 +22,7 @@ use Rattle.typed_tree.specs.Forms.{Convert, NoPart, Part}
 use Rattle.typed_tree.specs.Forms as form
 use Rattle.capl_meaning.specs.Names.{Scope}
 use Rattle.capl_meaning.specs.Constant.{prefix_kind}
-use Rattle.capl_meaning.specs.Statement.{label_of}
+use Rattle.capl_meaning.specs.StatementRules.{label_of}
 use Rattle.typed_source.specs.Expression.{expression_of}
 use Rattle.typed_source.specs.Statement.{arms_of, formats_of, formats_of_arms, formats_of_groups, formats_of_part, formats_of_row, groups_of, statement_of, statements_of}
 use Rattle.typed_source.specs.Program.{body_of, formats_of_body}

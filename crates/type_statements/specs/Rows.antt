@@ -7,7 +7,7 @@ use Rattle.capl_tree.specs.declared.statement.Arm.{Arm}
 use Rattle.capl_tree.specs.declared.statement.Group.{Group}
 use Rattle.capl_tree.specs.declared.statement.Stmt.{Stmt}
 use Rattle.capl_meaning.specs.Names.{Scope}
-use Rattle.capl_meaning.specs.Statement.{label_of}
+use Rattle.capl_meaning.specs.StatementRules.{label_of}
 use Rattle.typed_tree.specs.declared.statement.TArm.{TArm}
 use Rattle.typed_tree.specs.declared.statement.TGroup.{TGroup}
 use Rattle.typed_tree.specs.declared.statement.TStmt.{TStmt}

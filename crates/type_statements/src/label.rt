@@ -1,7 +1,7 @@
 // The labels of a `switch`.
 
 ghost use Rattle.std.specs.Prelude.{◌≡◌, IfOk, filter_map};
-ghost use Rattle.capl_meaning.specs.Statement.{label_of};
+ghost use Rattle.capl_meaning.specs.StatementRules.{label_of};
 ghost use Rattle.check_sorts.specs.Scope.{scope_in};
 ghost use Rattle.type_statements.specs.Tables.{AreTables};
 

@@ -3,7 +3,7 @@
 ghost use Rattle.std.specs.Prelude.{◌≡◌, ℕ, ◌+◌, ◌<◌, ◌^◌, [], ◌∷◌, ◌++◌, List, IfOk, OnOk, Some, filter_map, length};
 ghost use Rattle.std.specs.Option.{option_map};
 ghost use Rattle.capl_meaning.specs.Constant.{prefix_kind};
-ghost use Rattle.capl_meaning.specs.Statement.{label_of};
+ghost use Rattle.capl_meaning.specs.StatementRules.{label_of};
 ghost use Rattle.typed_tree.specs.declared.expression.TExpr.{TExpr};
 ghost use Rattle.capl_tree.specs.declared.statement.Stmt.TheVariants as stmt;
 ghost use Rattle.typed_tree.specs.declared.statement.TStmt.TheVariants.{For, If, Return, Switch};

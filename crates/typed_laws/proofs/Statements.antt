@@ -31,6 +31,7 @@ use Rattle.capl_meaning.specs.Constant.{prefix_kind}
 use Rattle.capl_meaning.specs.Inside.Statement.{for_test, wrapped_to}
 use Rattle.capl_meaning.specs.Expression as source
 use Rattle.capl_meaning.specs.Statement as source_statement
+use Rattle.capl_meaning.specs.StatementRules as source_rules
 use Rattle.typed_laws.specs.Laid.{laid, laid_run}
 use Rattle.typed_laws.specs.Agreement.{AloneDoesAs, ArmDoesAs, Beside, Both, DoesAs, GivesAs, GroupDoesAs, SameEnd, SameNumber, StandIn, source_setting, typed_setting}
 use Rattle.typed_laws.proofs.Runs.{deciding_same, do_same, followed_same, for_same, leaving_same, map_same, nothing_same, then_same, while_same}
@@ -158,7 +159,7 @@ module _ (scope : Scope) (order : List ℕ) (formats : List FormatText) where
   labels_same k end_of-Group (more_of-TGroup labels' shape' body' rest') h = elim h [ ]
   labels_same k (more_of-Group labels shape body rest) end_of-TGroup h = elim h [ ]
   labels_same k (more_of-Group labels shape body rest) (more_of-TGroup labels' shape' body' rest') h =
-      ap (λ l. l ∷ typed_statement.labels_of rest') h.0.labels ∙ ap (λ ls. filter_map (λ label. source_statement.label_of scope k label.at label.value) labels ∷ ls) (labels_same k rest rest' h.1)
+      ap (λ l. l ∷ typed_statement.labels_of rest') h.0.labels ∙ ap (λ ls. filter_map (λ label. source_rules.label_of scope k label.at label.value) labels ∷ ls) (labels_same k rest rest' h.1)
 
   -- ---- each form
 
@@ -304,7 +305,7 @@ module _ (scope : Scope) (order : List ℕ) (formats : List FormatText) where
       wrapped_first k (Gives v w) next = refl
       wrapped_first k (Fails o w) next = refl
 
-      same_label_as : (l m : Option ℤ) → typed_statement.same_label l m ≡ source_statement.same_label l m
+      same_label_as : (l m : Option ℤ) → typed_statement.same_label l m ≡ source_rules.same_label l m
       same_label_as None None = refl
       same_label_as None (Some m) = refl
       same_label_as (Some l) None = refl

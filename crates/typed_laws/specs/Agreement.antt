@@ -44,6 +44,7 @@ use Rattle.capl_meaning.specs.Store.{This, event_kinds, variable_key, laid_kinds
 use Rattle.capl_meaning.specs.Expression as source
 use Rattle.capl_meaning.specs.Statement.{Handler, handlers_in}
 use Rattle.capl_meaning.specs.Statement as source_statement
+use Rattle.capl_meaning.specs.StatementRules as source_rules
 use Rattle.typed_laws.specs.Laid.{AreDistinct, GivesOnly, IsAmong, IsOpen, IsReal, laid, laid_memory, laid_run, laid_spot, mapped, slot}
 use Rattle.typed_laws.specs.Starts.{StartsAs}
 
@@ -217,7 +218,7 @@ pub record ArmDoesAs (scope : Scope) (order : List ℕ) (formats : List FormatTe
 pub record GroupDoesAs (scope : Scope) (order : List ℕ) (formats : List FormatText) (k : Kind)
     (group : Group) (t : TGroup) : Type 0 where
   pub labels : t.labels ≡
-      filter_map (λ label. source_statement.label_of scope k label.at label.value) group.labels
+      filter_map (λ label. source_rules.label_of scope k label.at label.value) group.labels
   pub body : AllZip (DoesAs scope order formats) group.body t.body
 
 -- what is known of an argument of `write` before the run is what it is: a number of its kind, the cells of

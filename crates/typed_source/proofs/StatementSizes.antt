@@ -33,7 +33,7 @@ use Rattle.capl_meaning.specs.Sort.{is_number, sort_of}
 use Rattle.capl_meaning.specs.Constant.{prefix_kind}
 use Rattle.capl_meaning.specs.Store.{timer_number}
 use Rattle.capl_meaning.specs.Expression.{timer_in}
-use Rattle.capl_meaning.specs.Statement.{label_of}
+use Rattle.capl_meaning.specs.StatementRules.{label_of}
 use Rattle.typed_laws.specs.Laid.{message_slot}
 use Rattle.typed_source.specs.Expression.{expression_of}
 use Rattle.typed_source.specs.Statement.{alone_of, arms_of, else_of, formats_of, formats_of_arms, formats_of_part, formats_of_row, groups_of, numbers_of, of_assignment, of_call_alone, part_of, pieces_written, returned, setting, statement_of, statements_of, writing}

@@ -25,6 +25,7 @@ use Rattle.capl_meaning.specs.Constant.{prefix_kind}
 use Rattle.capl_meaning.specs.Inside.Statement.{for_test}
 use Rattle.capl_meaning.specs.Expression as source
 use Rattle.capl_meaning.specs.Statement as source_statement
+use Rattle.capl_meaning.specs.StatementRules as source_rules
 use Rattle.typed_laws.specs.Laid.{laid, mapped}
 use Rattle.typed_laws.specs.Agreement.{Beside, DoesAs, SameEnd, SameNumber, StandIn, source_setting, typed_setting}
 use Rattle.typed_laws.proofs.Runs.{deciding_same, do_same, followed_same, for_same, leaving_same, then_same, while_same}
@@ -69,7 +70,7 @@ module _ (scope : Scope) (order : List ℕ) (each : HasEach scope.names order) (
     part_same before None there w = refl
     part_same before (Some e) there w = (alone_does scope order each formats before e there).same b stand n w
 
-    same_label_as : (l m : Option ℤ) → typed_statement.same_label l m ≡ source_statement.same_label l m
+    same_label_as : (l m : Option ℤ) → typed_statement.same_label l m ≡ source_rules.same_label l m
     same_label_as None None = refl
     same_label_as None (Some m) = refl
     same_label_as (Some l) None = refl
@@ -83,7 +84,7 @@ module _ (scope : Scope) (order : List ℕ) (each : HasEach scope.names order) (
     labels_same : (k : Kind) (before : ℕ) {m : Count} (row : Row_of-Group m) → typed_statement.labels_of (groups_of scope order k before row) ≡ source_statement.group_labels scope k row
     labels_same k before end_of-Group = refl
     labels_same k before (more_of-Group labels shape body rest) =
-        ap (λ ls. filter_map (λ label. source_statement.label_of scope k label.at label.value) labels ∷ ls) (labels_same k (before + length (formats_of_row scope body)) rest)
+        ap (λ ls. filter_map (λ label. source_rules.label_of scope k label.at label.value) labels ∷ ls) (labels_same k (before + length (formats_of_row scope body)) rest)
 
     mutual
       stmt_same : (before : ℕ) (s : Stmt) → StandFrom before (formats_of scope s) formats → SameEnd scope.names b.this (source_does s) (typed_does (statement_of scope order before s))

@@ -30,7 +30,8 @@ use Rattle.capl_meaning.specs.Sort.{is_number, sort_of}
 use Rattle.capl_meaning.specs.Constant.{elements_of, prefix_kind}
 use Rattle.capl_meaning.specs.Store.{variable_key, timer_number}
 use Rattle.capl_meaning.specs.Expression.{timer_in}
-use Rattle.capl_meaning.specs.Statement.{fitting_pieces, label_of}
+use Rattle.capl_meaning.specs.Statement.{fitting_pieces}
+use Rattle.capl_meaning.specs.StatementRules.{label_of}
 use Rattle.typed_laws.specs.Laid.{message_slot, slot}
 use Rattle.typed_source.specs.Expression.{expression_of}
 

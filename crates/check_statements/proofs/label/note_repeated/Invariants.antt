@@ -1,10 +1,10 @@
 -- What was seen is what the labels so far say; what was noted and what is left are those that repeat.
 use Rattle.std.proofs.Common.{◌≡◌, List, [], drop}
 use Rattle.std.specs.Prelude.{map}
-use Rattle.capl_meaning.specs.StatementRules.{SaidLabel, labels_rule, repeated, said_by, same_saying}
+use Rattle.capl_meaning.specs.StatementRules.{labels_rule, repeated}
 use Rattle.check_names.specs.First.{noted}
 use Rattle.check_names.specs.Variable.{lent}
-use Rattle.check_statements.specs.Inside.Label.{Has, label_offence, said_of, same_said}
+use Rattle.check_statements.specs.Inside.Label.{Has, SaidLabel, label_offence, said_of, same_said}
 use Rattle.check_statements.specs.Site.{place_of}
 use Rattle.check_statements.proofs.label.note_repeated.Given as goal
 

@@ -1,7 +1,7 @@
 -- The numbers so far and those of the labels that are left are all.
 use Rattle.std.proofs.Common.{◌≡◌, ◌++◌, drop}
 use Rattle.std.specs.Prelude.{filter_map}
-use Rattle.capl_meaning.specs.Statement.{label_of}
+use Rattle.capl_meaning.specs.StatementRules.{label_of}
 use Rattle.check_sorts.specs.Scope.{scope_in}
 use Rattle.type_statements.proofs.label.make_labels.Given as goal
 

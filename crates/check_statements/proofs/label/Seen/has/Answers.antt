@@ -1,14 +1,12 @@
 -- A label that says nothing says what no other says.
-use Rattle.std.proofs.Common.{◌≡◌, ◌∷◌, ◌∙◌, List, [], Bool, ap, false, refl, sym}
+use Rattle.std.proofs.Common.{◌≡◌, ◌∷◌, ◌∙◌, List, [], Bool, None, ap, false, refl, sym}
 use Rattle.std.specs.List.{list_any}
-use Rattle.capl_meaning.specs.StatementRules as meant
-use Rattle.capl_meaning.specs.StatementRules.{SaidLabel, same_saying}
 use Rattle.check_statements.specs.declared.label.Saying.{Saying}
-use Rattle.check_statements.specs.Inside.Label.{saying_in}
+use Rattle.check_statements.specs.Inside.Label.{SaidLabel, same_saying, saying_in}
 use Rattle.check_statements.proofs.label.Seen.has.Goals as goal
 
 -- no label says the same
-none : (earlier : List SaidLabel) → false ≡ list_any (λ (t : SaidLabel). same_saying meant.Unclear t.saying) earlier
+none : (earlier : List SaidLabel) → false ≡ list_any (λ (t : SaidLabel). same_saying None t.saying) earlier
 none [] = refl
 none (t ∷ earlier) = none earlier
 
