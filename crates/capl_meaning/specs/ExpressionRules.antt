@@ -1,7 +1,7 @@
 -- The rules that an expression and its parts break (CAPL manual, operators, functions, message, timers).
 --
 -- A bad operand breaks no further rule. The place of an offence is the first token of the part that it is of.
-use Rattle.std.specs.Prelude.{ℕ, ◌==◌, Bool, true, false, not, ◌&&◌, ◌||◌, if◌then◌else◌, List, [], ◌∷◌, ◌++◌, flat_map, length, Option, Some, None}
+use Rattle.std.specs.Prelude.{ℕ, ◌==◌, Bool, true, false, not, ◌&&◌, ◌||◌, if◌then◌else◌, List, [], ◌∷◌, ◌++◌, flat_map, is_none, length, Option, Some, None}
 use Rattle.std.specs.List.{zip}
 use Rattle.std.specs.Option.{option_map_or}
 use Rattle.texts.specs.Rule.{source_rule}
@@ -48,15 +48,9 @@ abbrev pub this_rule : Scope → ℕ → ThisForm → List Offence
 this_rule s at NoThis = offence s at 15 ∷ []
 this_rule s at _ = []
 
--- E09: a name is no variable, and not RX or TX
-abbrev pub direction_rule : Scope → ℕ → Option ℕ → List Offence
-direction_rule s at None = offence s at 9 ∷ []
-direction_rule s at (Some n) = []
-
--- the same, by what the name means
+-- E09: a name means no variable, and is not RX or TX
 abbrev pub name_rule : Scope → ℕ → List ℕ → Option Variable → List Offence
-name_rule s at name None = direction_rule s at (direction name)
-name_rule s at name (Some v) = []
+name_rule s at name variable = broken_where (is_none variable && is_none (direction name)) s at 9
 
 -- a sort is an array
 abbrev pub is_array : Sort → Bool

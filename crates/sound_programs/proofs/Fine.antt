@@ -1,7 +1,7 @@
 -- An expression that breaks no rule is not bad, and one of which an integer is needed is a number.
 use mathlib.Core.Former.{Count}
 use Rattle.std.proofs.Common.{◌≡◌, ℕ, suc, Bool, true, false, not, ◌&&◌, ◌||◌, List, [], ◌∷◌, length, Option, Some, None, refl, sym, ap, ◌∙◌, subst}
-use Rattle.std.specs.Prelude.{⊤, ◌==◌, flat_map, if◌then◌else◌}
+use Rattle.std.specs.Prelude.{⊤, ◌==◌, flat_map, if◌then◌else◌, is_none}
 use Rattle.std.specs.List.{AllByRecursion, list_all, zip}
 use Rattle.std.specs.Option.{option_and_then, option_map_or}
 use Rattle.std.proofs.lemmas.Cmp.{nat_eq_equiv}
@@ -28,7 +28,7 @@ use Rattle.capl_meaning.specs.Names.{Callee, Function, OfLanguage, OfProgram, Un
 use Rattle.capl_meaning.specs.Format.{first_text, format_codes, show_all, shows, quoted_text}
 use Rattle.capl_meaning.specs.Message.{Held, NamedMember, IsField, IsSignal, IsUnusable, IsUnknown, held_by, is_message_place, is_number_place, is_open_number, is_variable, member_named, message_in, signals_of}
 use Rattle.capl_meaning.specs.Sort.{is_bad, is_number, is_recursive, number_from, sort_given, sort_of, sort_of_assignment, sort_of_builtin, sort_of_call, sort_of_direction, sort_of_element, sort_of_form, sort_of_function, sort_of_member, sort_of_name, sort_of_number, sort_of_part, sort_of_prefix, sort_of_step, sort_of_this, sorts_of}
-use Rattle.capl_meaning.specs.ExpressionRules.{argument_rule, builtin_rules, call_rules, codes_rules, direction_rule, format_rules, function_rules, index_needed, index_rule, integer_needed, integer_offences, is_array, is_message_sort, is_place_for, is_timer_sort, left_rule, member_rules, name_of_member_rule, name_rule, number_rule, prefix_rule, offence, offences, offences_of_field, offences_of_row, part_rules, right_rule, shown_rule, sides_rule, step_rule, this_rule}
+use Rattle.capl_meaning.specs.ExpressionRules.{argument_rule, broken_where, builtin_rules, call_rules, codes_rules, format_rules, function_rules, index_needed, index_rule, integer_needed, integer_offences, is_array, is_message_sort, is_place_for, is_timer_sort, left_rule, member_rules, name_of_member_rule, name_rule, number_rule, prefix_rule, offence, offences, offences_of_field, offences_of_row, part_rules, right_rule, shown_rule, sides_rule, step_rule, this_rule}
 use Rattle.typed_laws.specs.Laid.{HasForm}
 use Rattle.typed_laws.proofs.Places.{means_among}
 use Rattle.typed_source.specs.Sound.{IsOfNumber}
@@ -54,7 +54,7 @@ fine_this s at NoThis none = absurd (full _ _ none)
 fine_this s at (ThisFrame signals) none = tt
 fine_this s at ThisKey none = tt
 
-fine_direction : (s : Scope) (at : ℕ) (o : Option ℕ) → direction_rule s at o ≡ [] → IsFine (sort_of_direction o)
+fine_direction : (s : Scope) (at : ℕ) (o : Option ℕ) → broken_where (is_none o) s at 9 ≡ [] → IsFine (sort_of_direction o)
 fine_direction s at None none = absurd (full _ _ none)
 fine_direction s at (Some n) none = tt
 
