@@ -1,4 +1,5 @@
 -- The lemmas of this crate.
+mod CoveredLemmas
 mod DeclarationLemmas
 pub mod FirstLemmas
 pub mod FirstOfLemmas

@@ -1,4 +1,5 @@
 -- What proofs inside of this crate speak of.
+pub mod Covered
 pub mod Inner
 pub mod Purpose
 pub mod Ranges

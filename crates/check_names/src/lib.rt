@@ -17,6 +17,7 @@ pub use part::{ProgramPart, program_parts};
 pub use selector::push_ranges;
 pub use variable::{Declared, Place, Source, declared_variables};
 
+mod covered;
 mod declaration;
 mod first;
 mod function;

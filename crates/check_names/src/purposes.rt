@@ -1,18 +1,18 @@
 // Procedures that are for what an earlier one is for.
 
-ghost use Rattle.std.specs.Prelude.{◌≡◌, ◌<◌, ◌≤◌, ◌++◌, ◌∷◌, [], ℕ, All, List, IfOk, OnOk, filter_map, flat_map, map};
+ghost use Rattle.std.specs.Prelude.{◌≡◌, ◌<◌, ◌≤◌, ◌++◌, ◌∷◌, ◌||◌, [], ℕ, All, List, IfOk, OnOk, filter_map, flat_map, map};
 ghost use Rattle.std.specs.List.{list_any};
-ghost use Rattle.capl_meaning.specs.ProcedureRules.{Told, channels_of, collide, purpose_offences, told_by_head, told_by_part, told_by_selector};
+ghost use Rattle.capl_meaning.specs.ProcedureRules.{ForFrames, Told, channels_of, collide, purpose_offences, told_by_head, told_by_part, told_by_selector};
 ghost use Rattle.capl_meaning.specs.StatementRules.{repeated};
 ghost use Rattle.check_names.specs.First.{noted};
-ghost use Rattle.check_names.specs.Inside.Purpose.{IsOrdinary, IsOrdinaryTelling, Knows, any_meet, number_of, number_of_key, numbers_at, numbers_on, purpose_of, purpose_offence, same_purpose, told_at};
-ghost use Rattle.check_names.specs.Inside.Ranges.{AreRanges, meet};
+ghost use Rattle.check_names.specs.Inside.Covered.{Covers};
+ghost use Rattle.check_names.specs.Inside.Purpose.{IsOrdinary, IsOrdinaryTelling, Knows, any_meet, first_numbers, number_of, number_of_key, numbers_where, purpose_of, purpose_offence, same_purpose, second_numbers, told_at};
 ghost use Rattle.check_names.specs.Part.{part_in, parts_in};
 
+use crate::covered::Covered;
 use crate::global::names_timer;
 use crate::names::Names;
 use crate::part::ProgramPart;
-use crate::ranges::Ranges;
 use crate::rule::{SAME_PURPOSE, note_where};
 use crate::seed::Seed;
 use crate::selector::{holds_first, holds_second, selector_of, selector_place};
@@ -48,8 +48,10 @@ struct Telling<'p> {
 /// What the procedures so far are for.
 #[derive(Drop)]
 struct Purposes<'p> {
-    /// Numbers that stand for the frames and keys.
-    ranges: Ranges,
+    /// Numbers that stand for the frames of the first channel, and for keys.
+    first: Covered,
+    /// Numbers that stand for the frames of the second.
+    second: Covered,
     /// The names of the timers.
     timers: NameTable<'p>,
 }
@@ -149,11 +151,11 @@ fn tellings<'p>(
     Ok(all)
 }
 
-/// The number that stands for a selection key of a rank, on the first channel (0) or the second (1).
-fn number_of(channel: u8, rank: u8, key: u32) -> u64
-    ensures { result ≡ number_of channel rank key }
+/// The number that stands for a selection key of a rank.
+fn number_of(rank: u8, key: u32) -> u64
+    ensures { result ≡ number_of rank key }
 {
-    (2 * rank as u64 + channel as u64) * 0x1_0000_0000 + key as u64
+    rank as u64 * 0x1_0000_0000 + key as u64
 }
 
 /// The number that stands for a key that is pressed, or for those that have no procedure.
@@ -161,9 +163,27 @@ fn number_of_key(key: Option<u8>) -> u64
     ensures { result ≡ number_of_key key }
 {
     match key {
-        None => 0x6_0000_0000,
-        Some(key) => 0x6_0000_0001 + key as u64,
+        None => 0x3_0000_0000,
+        Some(key) => 0x3_0000_0001 + key as u64,
     }
+}
+
+/// Takes these keys, if they are on the channel of these numbers, and says whether some of the numbers so far
+/// is among them.
+fn add_where(numbers: &mut Covered, holds: bool, keys: Selector) -> Result<bool, NoMemory>
+    requires { keys.low ≤ keys.high }
+    ensures known { (all : List (ℕ × ℕ)) → Covers numbers.old all →
+        IfOk result (λ known. known ≡ any_meet (numbers_where holds keys) all) }
+    ensures taken { (all : List (ℕ × ℕ)) → Covers numbers.old all →
+        OnOk result (Covers numbers.new (numbers_where holds keys ++ all)) }
+{
+    if !holds {
+        return Ok(false);
+    }
+    numbers.add(
+        number_of(keys.rank, keys.low),
+        number_of(keys.rank, keys.high),
+    )
 }
 
 impl<'p> Purposes<'p> {
@@ -172,51 +192,34 @@ impl<'p> Purposes<'p> {
         ensures { Knows result [] }
     {
         Purposes {
-            ranges: Ranges::new(alloc),
+            first: Covered::new(alloc),
+            second: Covered::new(alloc),
             timers: NameTable::new(alloc, seed),
         }
-    }
-
-    /// Takes these keys on one channel, and says whether some procedure so far has a number in common with
-    /// them there.
-    fn add_on(&mut self, channel: u8, keys: Selector) -> Result<bool, NoMemory>
-        requires { keys.low ≤ keys.high }
-        ensures known { (all : List (ℕ × ℕ)) → AreRanges self.old.ranges all →
-            IfOk result (λ known. known ≡ list_any (meet (numbers_at channel keys)) all) }
-        ensures ranges { (all : List (ℕ × ℕ)) → AreRanges self.old.ranges all →
-            OnOk result (AreRanges self.new.ranges (numbers_at channel keys ∷ all)) }
-        ensures timers { self.new.timers ≡ self.old.timers }
-    {
-        self.ranges.add(
-            number_of(channel, keys.rank, keys.low),
-            number_of(channel, keys.rank, keys.high),
-        )
     }
 
     /// Takes these keys on a channel, 0 being both, and says whether some procedure so far has a number in
     /// common with them.
     fn add_frames(&mut self, chan: u8, keys: Selector) -> Result<bool, NoMemory>
-        requires some { keys.low ≤ keys.high }
-        requires below { keys.high < 0x100000000 }
-        ensures known { (all : List (ℕ × ℕ)) → AreRanges self.old.ranges all →
-            IfOk result (λ known. known ≡ any_meet (numbers_on (channels_of chan) keys) all) }
-        ensures ranges { (all : List (ℕ × ℕ)) → AreRanges self.old.ranges all →
-            OnOk result (AreRanges self.new.ranges (numbers_on (channels_of chan) keys ++ all)) }
+        requires { keys.low ≤ keys.high }
+        ensures known { (first second : List (ℕ × ℕ)) →
+            Covers self.old.first first → Covers self.old.second second → IfOk result (λ known. known
+            ≡ (any_meet (first_numbers (ForFrames (channels_of chan) keys)) first
+            || any_meet (second_numbers (ForFrames (channels_of chan) keys)) second)) }
+        ensures first { (all : List (ℕ × ℕ)) → Covers self.old.first all →
+            OnOk result (Covers self.new.first (first_numbers (ForFrames (channels_of chan) keys) ++ all)) }
+        ensures second { (all : List (ℕ × ℕ)) → Covers self.old.second all →
+            OnOk result (Covers self.new.second (second_numbers (ForFrames (channels_of chan) keys) ++ all)) }
         ensures timers { self.new.timers ≡ self.old.timers }
     {
-        if !holds_second(chan) {
-            return self.add_on(0, keys);
-        }
-        if !holds_first(chan) {
-            return self.add_on(1, keys);
-        }
-        let second = self.add_on(1, keys)?;
-        let first = self.add_on(0, keys)?;
-        Ok(first || second)
+        let first = add_where(&mut self.first, holds_first(chan), keys)?;
+        let second = add_where(&mut self.second, holds_second(chan), keys)?;
+        Ok(first | second)
     }
 
-    /// Takes what one more procedure is for, and says whether an earlier one is for it. Takes time
-    /// logarithmic in the selectors and keys, and linear in the name of a timer.
+    /// Takes what one more procedure is for, and says whether an earlier one is for it. Takes amortized time
+    /// logarithmic in the selectors and keys, constant where all came in ascending order, and linear in the
+    /// name of a timer.
     fn add(&mut self, purpose: Purpose<'p>) -> Result<bool, NoMemory>
         requires { IsOrdinary (purpose_of purpose) }
         ensures known { (earlier : List Told) → Knows self.old earlier → IfOk result (λ known.
@@ -229,7 +232,7 @@ impl<'p> Purposes<'p> {
             Purpose::Timer(name) => self.timers.note(name.bytes(), 0)?,
             Purpose::Key(key) => {
                 let number = number_of_key(key);
-                self.ranges.add(number, number)?
+                self.first.add(number, number)?
             }
         };
         Ok(known)

@@ -26,17 +26,30 @@ impl Ranges {
     }
 
     /// A range that has a number in common with that from `low` to `high`, if there is one. Takes time
-    /// logarithmic in the ranges.
+    /// logarithmic in the ranges, and little where there are none.
     fn met(&self, low: u64, high: u64) -> Option<(u64, u64)>
         requires { low ≤ high }
         ensures some { IfSome result (λ range. IsMetBy self.now low high range.0 range.1) }
         ensures none { AreApart self.now → result ≡ None → IsMet self.now low high → ⊥ }
     {
+        if self.ends.is_empty() {
+            return None;
+        }
         let (start, end) = self.ends.range(..=high).next_back()?;
         if *end < low {
             return None;
         }
         Some((*start, *end))
+    }
+
+    /// Whether a range has a number in common with that from `low` to `high`. Takes time logarithmic in the
+    /// ranges.
+    pub(crate) fn meets(&self, low: u64, high: u64) -> bool
+        requires { low ≤ high }
+        ensures { (all : List (ℕ × ℕ)) → AreRanges self.now all →
+            result ≡ list_any (meet (low, high)) all }
+    {
+        self.met(low, high).is_some()
     }
 
     /// Takes one more range, makes one of those with which it has numbers in common, and says whether there

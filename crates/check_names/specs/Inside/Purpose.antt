@@ -1,15 +1,16 @@
 -- What procedures are for, as it is listed, and what tables have of it.
-use Rattle.std.specs.Prelude.{◌≡◌, ◌<◌, ℕ, ◌+◌, ◌*◌, Bool, if◌then◌else◌, List, [], ◌∷◌, ◌++◌, flat_map, is_some, map, Option, Some, None, ⊤}
+use Rattle.std.specs.Prelude.{◌≡◌, ◌<◌, ℕ, ◌+◌, ◌*◌, Bool, if◌then◌else◌, List, [], ◌∷◌, flat_map, is_some, map, Option, Some, None, ⊤}
 use Rattle.std.specs.List.{AllByRecursion, list_any}
 use Rattle.texts.specs.Rule.{source_rule}
 use Rattle.run_effects.specs.declared.event.Selector.{Selector}
 use Rattle.capl_meaning.specs.declared.offence.Offence.{Offence}
-use Rattle.capl_meaning.specs.ProcedureRules.{Channels, Purpose, ForFrames, ForTimer, ForKey, Told, channels_of, collide, hold_first, hold_second}
+use Rattle.capl_meaning.specs.ProcedureRules.{Purpose, ForFrames, ForTimer, ForKey, Told, channels_of, collide, hold_first, hold_second}
 use Rattle.check_names.specs.declared.purposes.Purpose.{Purpose as Listed}
 use Rattle.check_names.specs.declared.purposes.Purpose.TheVariants as listed
 use Rattle.check_names.specs.declared.purposes.Purposes.{Purposes}
 use Rattle.check_names.specs.declared.purposes.Telling.{Telling}
-use Rattle.check_names.specs.Inside.Ranges.{AreRanges, meet}
+use Rattle.check_names.specs.Inside.Covered.{Covers}
+use Rattle.check_names.specs.Inside.Ranges.{meet}
 use Rattle.check_names.specs.Inside.Table.{numbered}
 use Rattle.check_names.specs.Selector.{IsProper}
 
@@ -37,30 +38,34 @@ IsOrdinary (ForKey key) = ⊤
 abbrev pub IsOrdinaryTelling : Telling → Type 0
 IsOrdinaryTelling t = IsOrdinary (purpose_of t.purpose)
 
--- the number that stands for a selection key of a rank on a channel, 0 or 1
-abbrev pub number_of : ℕ → ℕ → ℕ → ℕ
-number_of channel rank key = (2 * rank + channel) * 0x100000000 + key
+-- the number that stands for a selection key of a rank
+abbrev pub number_of : ℕ → ℕ → ℕ
+number_of rank key = rank * 0x100000000 + key
 
 -- the number that stands for a key that is pressed, or for those that have no procedure
 abbrev pub number_of_key : Option ℕ → ℕ
-number_of_key None = 0x600000000
-number_of_key (Some key) = 0x600000001 + key
+number_of_key None = 0x300000000
+number_of_key (Some key) = 0x300000001 + key
 
--- the numbers that stand for the keys of a selector on a channel, by the least and the greatest
-abbrev pub numbers_at : ℕ → Selector → ℕ × ℕ
-numbers_at channel s = (number_of channel s.rank s.low, number_of channel s.rank s.high)
+-- the numbers that stand for the keys of a selector, by the least and the greatest
+abbrev pub numbers_at : Selector → ℕ × ℕ
+numbers_at s = (number_of s.rank s.low, number_of s.rank s.high)
 
--- those on channels
-abbrev pub numbers_on : Channels → Selector → List (ℕ × ℕ)
-numbers_on channels s =
-    (if hold_first channels then numbers_at 0 s ∷ [] else [])
-    ++ (if hold_second channels then numbers_at 1 s ∷ [] else [])
+-- those of a selector that is on a channel, or none
+abbrev pub numbers_where : Bool → Selector → List (ℕ × ℕ)
+numbers_where holds s = if holds then numbers_at s ∷ [] else []
 
--- the numbers that stand for what a procedure is for
-abbrev pub numbers_of : Purpose → List (ℕ × ℕ)
-numbers_of (ForFrames channels s) = numbers_on channels s
-numbers_of (ForTimer name) = []
-numbers_of (ForKey key) = (number_of_key key, number_of_key key) ∷ []
+-- the numbers that stand for what a procedure is for on the first channel, or by a key
+abbrev pub first_numbers : Purpose → List (ℕ × ℕ)
+first_numbers (ForFrames channels s) = numbers_where (hold_first channels) s
+first_numbers (ForTimer name) = []
+first_numbers (ForKey key) = (number_of_key key, number_of_key key) ∷ []
+
+-- the numbers that stand for what a procedure is for on the second channel
+abbrev pub second_numbers : Purpose → List (ℕ × ℕ)
+second_numbers (ForFrames channels s) = numbers_where (hold_second channels) s
+second_numbers (ForTimer name) = []
+second_numbers (ForKey key) = []
 
 -- some of these ranges has a number in common with some of those
 abbrev pub any_meet : List (ℕ × ℕ) → List (ℕ × ℕ) → Bool
@@ -76,7 +81,8 @@ purpose_offence told = record { file = told.file; token = told.token; rule = sou
 
 -- the tables have what was told
 pub record Knows (purposes : Purposes) (earlier : List Told) : Type 0 where
-  pub ranges : AreRanges purposes.ranges (flat_map (λ told. numbers_of told.purpose) earlier)
+  pub first : Covers purposes.first (flat_map (λ told. first_numbers told.purpose) earlier)
+  pub second : Covers purposes.second (flat_map (λ told. second_numbers told.purpose) earlier)
   pub timers : (name : List ℕ) → is_some (numbered purposes.timers name)
       ≡ list_any (λ told. collide (ForTimer name) told.purpose) earlier
   pub ordinary : AllByRecursion (λ told. IsOrdinary told.purpose) earlier
