@@ -1,5 +1,5 @@
 -- Places to assign to.
-use Rattle.std.proofs.Common.{◌≡◌, ◌∙◌, ℕ, true, false, List, Option, Some, None, ap, refl}
+use Rattle.std.proofs.Common.{◌≡◌, ◌∙◌, ℕ, true, false, List, Option, Some, None, ap, refl, sym}
 use Rattle.std.specs.Option.{option_and_then, option_map_or}
 use Rattle.int_kinds.specs.declared.kinds.Kind.{Kind}
 use Rattle.dbc_reader.specs.declared.signals.DbcSignal.{DbcSignal}
@@ -12,6 +12,11 @@ use Rattle.capl_tree.proofs.FormLemmas as form
 use Rattle.capl_meaning.specs.Message.{array_in, held_by, is_message_place, is_number_place, is_open_array, is_open_field, is_open_number, is_open_part, is_variable, message_in}
 use Rattle.capl_meaning.specs.Names.{Scope, means}
 use Rattle.capl_meaning.specs.Variable.{Form, Number, Variable}
+use Rattle.check_sorts.specs.declared.message.Places.{Places}
+use Rattle.check_sorts.specs.declared.scope.Meaning.{Meaning}
+use Rattle.check_sorts.specs.Form.{form_in}
+use Rattle.check_sorts.specs.Message.{ArePlaces}
+use Rattle.check_sorts.specs.Scope.{IsMeaning}
 
 -- bytes of the payload are assignable
 pub open_bytes : (signals : Option (List DbcSignal)) (f : Field) (kind : Kind) (index : Expr) (at : ℕ)
@@ -51,3 +56,23 @@ no_message_place s (tree.Paren inner at) is = no_message_place s inner is
 no_message_place s (expr.Name name at) is = number_named (means s name at) is
 no_message_place s (expr.This at) is = absurd (let e : false ≡ true = is in cc)
 no_message_place s e is = refl
+
+-- what means no variable is no place
+pub none_places : (s : Scope) (name : List ℕ) (token : ℕ) → means s name token ≡ None →
+    ArePlaces s (expr.Name name token) (record { number = false; message = false })
+none_places s name token none = (
+  sym (ap (λ (o : Option Variable). option_map_or (λ v. is_open_number v.form) o false) none),
+  sym (ap (λ (o : Option Variable). option_map_or is_variable (option_and_then (λ v. held_by v v.form) o) false) none),
+)
+
+-- what means a variable is the place that the variable is
+pub form_places : (s : Scope) (name : List ℕ) (token : ℕ) (m : Meaning) (p : Places) → IsMeaning s.names (means s name token) m →
+    p.number ≡ is_open_number (form_in m.form) →
+    ((v : Variable) → p.message ≡ option_map_or is_variable (held_by v (form_in m.form)) false) →
+    ArePlaces s (expr.Name name token) p
+form_places s name token m p meant number message = (
+  number ∙ ap is_open_number meant.form
+      ∙ sym (ap (λ (o : Option Variable). option_map_or (λ v. is_open_number v.form) o false) meant.is),
+  message meant.variable ∙ ap (λ form. option_map_or is_variable (held_by meant.variable form) false) meant.form
+      ∙ sym (ap (λ (o : Option Variable). option_map_or is_variable (option_and_then (λ v. held_by v v.form) o) false) meant.is),
+)

@@ -7,7 +7,7 @@
 pub use constants::Constants;
 pub use form::{Form, MessageType, form_of};
 pub use format::{NextCode, next_code, read_codes, shows, shows_all, sort_of_builtin};
-pub use message::{Held, Member, Places, field_named, member_named, text_in};
+pub use message::{Held, Member, Places, field_named, member_named, places_of_meaning, text_in};
 pub use scope::{Callee, Meaning, Scope, ThisForm};
 pub use signals::DeclaredSignals;
 pub use sort::{

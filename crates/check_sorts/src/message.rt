@@ -1,17 +1,19 @@
 // Messages in expressions: fields, payload bytes and signals, and which of them can be assigned to.
 
-ghost use Rattle.std.specs.Prelude.{◌≡◌, Option, Some, false, slice_get};
+ghost use Rattle.std.specs.Prelude.{◌≡◌, List, MatchOption, None, Option, Some, ℕ, false, slice_get};
 ghost use Rattle.std.specs.Option.{option_and_then, option_copied, option_map, option_map_or};
 ghost use Rattle.std.specs.Bool.{then_some};
 ghost use Rattle.capl_meaning.specs.Expression.{timer_in};
 ghost use Rattle.capl_meaning.specs.Format.{quoted_text};
-ghost use Rattle.capl_meaning.specs.Message.{array_by, array_in, can_be_used, field_named, held_by, held_this, is_assignable_field, is_message_place, is_number_place, is_open_array, is_open_field, is_open_member, is_open_number, is_open_part, is_usable, member_named, member_of_signal, member_of_signals, message_in, signal_named, signals_of_type};
+ghost use Rattle.capl_tree.specs.declared.expr.Expr.TheVariants.{Name};
+ghost use Rattle.capl_meaning.specs.Message.{array_by, array_in, can_be_used, field_named, held_by, held_this, is_assignable_field, is_message_place, is_number_place, is_open_array, is_open_field, is_open_member, is_open_number, is_open_part, is_usable, is_variable, member_named, member_of_signal, member_of_signals, message_in, signal_named, signals_of_type};
 ghost use Rattle.capl_meaning.specs.Message as meant;
 ghost use Rattle.capl_meaning.specs.Names.{Names, means, signals_by};
+ghost use Rattle.capl_meaning.specs.Names as named;
 ghost use Rattle.capl_meaning.specs.Variable.{Variable, is_timer};
 ghost use Rattle.check_sorts.specs.Form.{form_in, signals_in, type_in};
 ghost use Rattle.check_sorts.specs.Message.{ArePlaces, held_in, member_in};
-ghost use Rattle.check_sorts.specs.Scope.{scope_in, this_in};
+ghost use Rattle.check_sorts.specs.Scope.{IsMeaning, scope_in, this_in};
 
 use crate::form::{Form, MessageType, form_of};
 use crate::scope::{Meaning, Scope, ThisForm};
@@ -233,6 +235,34 @@ fn is_open_part(held: Option<Held>, field: &Field) -> bool
     match held {
         Some(Held::Variable { signals, .. }) => is_open_field(signals, field),
         Some(Held::Frame(_)) | None => false,
+    }
+}
+
+/// What a variable can be assigned: a number that is not `const` a number, and a message a message.
+fn places_of_form(form: Form) -> Places
+    ensures number { result.number ≡ is_open_number (form_in form.entry) }
+    ensures message { (v : Variable) →
+        result.message ≡ option_map_or is_variable (held_by v (form_in form.entry)) false }
+{
+    Places {
+        number: is_open_number(form),
+        message: matches!(form, Form::Message(_)),
+    }
+}
+
+/// What a name can be assigned, by what it means where it stands.
+#[tactic(auto, using(crate::proofs::PlaceLemmas::none_places, crate::proofs::PlaceLemmas::form_places))]
+pub fn places_of_meaning(meaning: Option<Meaning>) -> Places
+    ensures { (s : named.Scope) (name : List ℕ) (token : ℕ) →
+        MatchOption meaning.entry (means s name token ≡ None) (IsMeaning s.names (means s name token)) →
+        ArePlaces s (Name name token) result }
+{
+    match meaning {
+        None => Places {
+            number: false,
+            message: false,
+        },
+        Some(meaning) => places_of_form(meaning.form),
     }
 }
 
