@@ -1,25 +1,28 @@
 // Forms of expressions by themselves. Each call gives the sort of a form and notes what it breaks, given
 // the sorts of its parts.
 
-ghost use Rattle.std.specs.Prelude.{◌≡◌, ◌++◌};
+ghost use Rattle.std.specs.Prelude.{◌≡◌, ◌++◌, MatchOption, None};
+ghost use Rattle.capl_tree.specs.declared.expr.Expr.TheVariants.{Name};
 ghost use Rattle.capl_meaning.specs.ExpressionRules.{index_rule, integer_needed, left_rule, name_rule, number_rule, prefix_rule, right_rule, sides_rule, step_rule, this_rule};
 ghost use Rattle.capl_meaning.specs.Message.{is_message_place, is_number_place};
 ghost use Rattle.capl_meaning.specs.Names.{means};
 ghost use Rattle.capl_meaning.specs.Sort.{number_from, sort_of, sort_of_assignment, sort_of_binary, sort_of_choice, sort_of_element, sort_of_name, sort_of_number, sort_of_prefix, sort_of_step, sort_of_this};
 ghost use Rattle.check_names.specs.First.{noted};
-ghost use Rattle.check_sorts.specs.Scope.{scope_in};
+ghost use Rattle.check_sorts.specs.Message.{ArePlaces};
+ghost use Rattle.check_sorts.specs.Scope.{IsMeaning, scope_in};
 ghost use Rattle.check_expressions.specs.Judged.{IsJudged};
 
 use crate::broken::note_broken;
-use crate::judged::Judged;
+use crate::judged::{Judged, Target};
 use crate::operand::{
     note_assignment, note_element, note_integer_needed, note_number, note_operands, note_prefix,
     note_step, note_this,
 };
 use capl_meaning::{Offence, Sort};
 use check_sorts::{
-    Scope, direction, number_from, sort_of_assignment, sort_of_binary, sort_of_choice,
-    sort_of_element, sort_of_form, sort_of_number, sort_of_prefix, sort_of_step, sort_of_this,
+    Meaning, Places, Scope, direction, number_from, places_of_meaning, sort_of_assignment,
+    sort_of_binary, sort_of_choice, sort_of_element, sort_of_form, sort_of_number, sort_of_prefix,
+    sort_of_step, sort_of_this,
 };
 use int_kinds::{BinOp, Kind, UnOp};
 
@@ -54,7 +57,40 @@ pub(crate) fn judge_name(scope: Scope, name: &[u8], at: u32, first: &mut Option<
     ensures noted { let s = scope_in scope.entry in
         first.new ≡ noted first.old (name_rule s at name.now (means s name.now at)) }
 {
-    if let Some(meaning) = scope.meaning(name, at) {
+    let meaning = scope.meaning(name, at);
+    judge_meaning(scope, name, at, meaning, first)
+}
+
+/// A name at a token, with what it can be assigned.
+pub(crate) fn judge_named(scope: Scope, name: &[u8], at: u32, first: &mut Option<Offence>) -> Target
+    ensures sort { result.sort ≡ sort_of_name name.now (means (scope_in scope.entry) name.now at) }
+    ensures places { ArePlaces (scope_in scope.entry) (Name name.now at) result.places }
+    ensures noted { let s = scope_in scope.entry in
+        first.new ≡ noted first.old (name_rule s at name.now (means s name.now at)) }
+{
+    let meaning = scope.meaning(name, at);
+    let sort = judge_meaning(scope, name, at, meaning, first);
+    Target {
+        sort,
+        places: places_of_meaning(meaning),
+    }
+}
+
+/// A name at a token, by what it means there.
+fn judge_meaning(
+    scope: Scope,
+    name: &[u8],
+    at: u32,
+    meaning: Option<Meaning>,
+    first: &mut Option<Offence>,
+) -> Sort
+    requires { let means = means (scope_in scope) name.now at in
+        MatchOption meaning (means ≡ None) (IsMeaning scope.names.now means) }
+    ensures sort { result ≡ sort_of_name name.now (means (scope_in scope.entry) name.now at) }
+    ensures noted { let s = scope_in scope.entry in
+        first.new ≡ noted first.old (name_rule s at name.now (means s name.now at)) }
+{
+    if let Some(meaning) = meaning {
         return sort_of_form(meaning.form);
     }
     if direction(name).is_some() {
@@ -98,32 +134,38 @@ pub(crate) fn judge_cast(
     number_from(inner.sort, kind)
 }
 
-/// A prefix operator.
+/// A prefix operator, before what is an assignable place of a number or not.
 pub(crate) fn judge_prefix(
     scope: Scope,
     operator: UnOp,
     inner: Judged,
+    is_place: bool,
     first: &mut Option<Offence>,
 ) -> Sort
-    requires { IsJudged (scope_in scope) inner }
+    requires sort { IsJudged (scope_in scope) inner }
+    requires place { is_place ≡ is_number_place (scope_in scope) inner.e.now }
     ensures sort { let s = scope_in scope.entry in let e = inner.entry.e.now in
         result ≡ sort_of_prefix operator (is_number_place s e) (sort_of s e) }
     ensures noted { first.new ≡
         noted first.old (prefix_rule (scope_in scope.entry) operator inner.entry.e.now) }
 {
-    let is_place = scope.is_number_place(inner.e);
     note_prefix(scope, operator, inner, is_place, first);
     sort_of_prefix(operator, is_place, inner.sort)
 }
 
-/// `++` or `--` behind its operand.
-pub(crate) fn judge_step(scope: Scope, inner: Judged, first: &mut Option<Offence>) -> Sort
-    requires { IsJudged (scope_in scope) inner }
+/// `++` or `--` behind what is an assignable place of a number or not.
+pub(crate) fn judge_step(
+    scope: Scope,
+    inner: Judged,
+    is_place: bool,
+    first: &mut Option<Offence>,
+) -> Sort
+    requires sort { IsJudged (scope_in scope) inner }
+    requires place { is_place ≡ is_number_place (scope_in scope) inner.e.now }
     ensures sort { let s = scope_in scope.entry in let e = inner.entry.e.now in
         result ≡ sort_of_step (is_number_place s e) (sort_of s e) }
     ensures noted { first.new ≡ noted first.old (step_rule (scope_in scope.entry) inner.entry.e.now) }
 {
-    let is_place = scope.is_number_place(inner.e);
     note_step(scope, inner, is_place, first);
     sort_of_step(is_place, inner.sort)
 }
@@ -172,24 +214,25 @@ pub(crate) fn judge_choice(
     sort_of_choice(test.sort, one.sort, other.sort)
 }
 
-/// An assignment at a token.
+/// An assignment at a token, by what its left can be assigned.
 pub(crate) fn judge_assignment(
     scope: Scope,
     operator: Option<BinOp>,
     at: u32,
     left: Judged,
     right: Judged,
+    places: Places,
     first: &mut Option<Offence>,
 ) -> Sort
     requires left { IsJudged (scope_in scope) left }
     requires right { IsJudged (scope_in scope) right }
+    requires places { ArePlaces (scope_in scope) left.e.now places }
     ensures sort { let s = scope_in scope.entry in let l = left.entry.e.now in result ≡ sort_of_assignment
         operator (is_number_place s l) (is_message_place s l) (sort_of s l) (sort_of s right.entry.e.now) }
     ensures noted { let s = scope_in scope.entry in let l = left.entry.e.now in let r = right.entry.e.now in
         first.new ≡ noted first.old
         (left_rule s operator l ++ (sides_rule s at (sort_of s l) (sort_of s r) ++ right_rule s l r)) }
 {
-    let places = scope.places(left.e);
     note_assignment(scope, operator, at, left, right, places, first);
     sort_of_assignment(
         operator,

@@ -1,19 +1,21 @@
 // The walk over an expression and its parts.
 
-ghost use Rattle.std.specs.Prelude.{◌≡◌, IfOk, OnOk, flat_map};
+ghost use Rattle.std.specs.Prelude.{◌≡◌, IfOk, OnOk, flat_map, true};
 ghost use Rattle.capl_meaning.specs.ExpressionRules.{integer_offences, offences, offences_of_field};
 ghost use Rattle.capl_meaning.specs.Sort.{sort_of};
 ghost use Rattle.check_calls.specs.Calls.{AreCallsOf};
 ghost use Rattle.check_names.specs.First.{noted};
+ghost use Rattle.check_sorts.specs.Expression.{has_parts};
+ghost use Rattle.check_sorts.specs.Message.{ArePlaces};
 ghost use Rattle.check_sorts.specs.Scope.{scope_in};
 ghost use Rattle.check_expressions.specs.Judged.{index_sort, sorts_in};
 
 use crate::call::judge_call;
 use crate::form::{
     judge_assignment, judge_binary, judge_cast, judge_choice, judge_element, judge_name,
-    judge_number, judge_prefix, judge_step, judge_this,
+    judge_named, judge_number, judge_prefix, judge_step, judge_this,
 };
-use crate::judged::Judged;
+use crate::judged::{Judged, Target};
 use crate::member::judge_member;
 use crate::operand::note_integer_needed;
 use capl_meaning::{Offence, Sort};
@@ -44,6 +46,25 @@ pub fn judge(
         Expr::Str { .. } => Ok(Sort::Text),
         Expr::This { at } => Ok(judge_this(scope, *at, first)),
         Expr::Name { name, at } => Ok(judge_name(scope, name.bytes(), *at, first)),
+        _ => judge_whole(alloc, scope, calls, e, first),
+    }
+}
+
+/// The sort of an expression with parts, once what it and they break is noted.
+#[cycle(expression)]
+fn judge_whole(
+    alloc: Global,
+    scope: Scope,
+    calls: &Calls,
+    e: &Expr,
+    first: &mut Option<Offence>,
+) -> Result<Sort, NoMemory>
+    requires calls { AreCallsOf scope.names.now calls.now }
+    requires parts { has_parts e.now ≡ true }
+    ensures sort { IfOk result (λ sort. sort ≡ sort_of (scope_in scope.entry) e.now) }
+    ensures noted { OnOk result (first.new ≡ noted first.old (offences (scope_in scope.entry) e.now)) }
+{
+    match e {
         Expr::Paren { inner, .. } => {
             let sort = judge(alloc, scope, calls, inner.get(), first)?;
             Ok(sort)
@@ -96,13 +117,17 @@ pub fn judge(
         }
         Expr::Unary { op, inner, .. } => {
             let inner = inner.get();
-            let sort = judge(alloc, scope, calls, inner, first)?;
-            Ok(judge_prefix(scope, *op, Judged { e: inner, sort }, first))
+            let target = judge_target(alloc, scope, calls, inner, first)?;
+            let sort = target.sort;
+            let is_place = target.places.number;
+            Ok(judge_prefix(scope, *op, Judged { e: inner, sort }, is_place, first))
         }
         Expr::Post { inner, .. } => {
             let inner = inner.get();
-            let sort = judge(alloc, scope, calls, inner, first)?;
-            Ok(judge_step(scope, Judged { e: inner, sort }, first))
+            let target = judge_target(alloc, scope, calls, inner, first)?;
+            let sort = target.sort;
+            let is_place = target.places.number;
+            Ok(judge_step(scope, Judged { e: inner, sort }, is_place, first))
         }
         Expr::Binary {
             op,
@@ -153,17 +178,43 @@ pub fn judge(
         } => {
             let left = left.get();
             let right = right.get();
-            let left_sort = judge(alloc, scope, calls, left, first)?;
+            let target = judge_target(alloc, scope, calls, left, first)?;
             let right_sort = judge(alloc, scope, calls, right, first)?;
+            let places = target.places;
             let left = Judged {
                 e: left,
-                sort: left_sort,
+                sort: target.sort,
             };
             let right = Judged {
                 e: right,
                 sort: right_sort,
             };
-            Ok(judge_assignment(scope, *op, *at, left, right, first))
+            Ok(judge_assignment(scope, *op, *at, left, right, places, first))
+        }
+        _ => unreachable!(),
+    }
+}
+
+/// The sort of an expression and what it can be assigned, once what it and its parts break is noted.
+#[cycle(expression)]
+fn judge_target(
+    alloc: Global,
+    scope: Scope,
+    calls: &Calls,
+    e: &Expr,
+    first: &mut Option<Offence>,
+) -> Result<Target, NoMemory>
+    requires { AreCallsOf scope.names.now calls.now }
+    ensures sort { IfOk result (λ target. target.sort ≡ sort_of (scope_in scope.entry) e.now) }
+    ensures places { IfOk result (λ target. ArePlaces (scope_in scope.entry) e.now target.places) }
+    ensures noted { OnOk result (first.new ≡ noted first.old (offences (scope_in scope.entry) e.now)) }
+{
+    match e {
+        Expr::Name { name, at } => Ok(judge_named(scope, name.bytes(), *at, first)),
+        _ => {
+            let sort = judge(alloc, scope, calls, e, first)?;
+            let places = scope.places(e);
+            Ok(Target { sort, places })
         }
     }
 }

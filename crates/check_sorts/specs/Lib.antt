@@ -1,5 +1,6 @@
 -- The definitions of this crate.
 pub mod Constant
+pub mod Expression
 pub mod Form
 pub mod Format
 pub mod Message
