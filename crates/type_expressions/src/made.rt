@@ -7,6 +7,7 @@ use crate::layout::Layout;
 use crate::tree::loaded;
 use capl_meaning::Sort;
 use check_calls::Calls;
+use check_sorts::Places;
 use items::Boxed;
 use std::alloc::Global;
 use texts::NoMemory;
@@ -64,6 +65,15 @@ pub(crate) struct Walked {
     pub(crate) shape: Shape,
     /// Of which sort it is.
     pub(crate) sort: Sort,
+}
+
+/// What a walk made of an expression that may be assigned something.
+#[derive(Drop)]
+pub(crate) struct Target {
+    /// What it made of it.
+    pub(crate) walked: Walked,
+    /// What it can be assigned.
+    pub(crate) places: Places,
 }
 
 /// What was made of an expression that stands in another.

@@ -1,7 +1,8 @@
 // Places of numbers: those of names, of elements of arrays and of parts of messages.
 
-ghost use Rattle.std.specs.Prelude.{◌≡◌, ◌+◌, ◌<◌, ◌^◌, pos, None, Option, Some};
+ghost use Rattle.std.specs.Prelude.{◌≡◌, ◌+◌, ◌<◌, ◌^◌, pos, MatchOption, None, Option, Some};
 ghost use Rattle.std.specs.Option.{option_map_or};
+ghost use Rattle.capl_tree.specs.declared.expr.Expr.TheVariants.{Name};
 ghost use Rattle.capl_meaning.specs.Message as meant;
 ghost use Rattle.capl_meaning.specs.Message.{array_in, member_named, signals_of};
 ghost use Rattle.capl_meaning.specs.Names.{Names, direction, means};
@@ -12,17 +13,17 @@ ghost use Rattle.typed_tree.specs.declared.expression.TExpr.TheVariants.{Const};
 ghost use Rattle.typed_tree.specs.Forms.{Bytes};
 ghost use Rattle.typed_source.specs.Expression.{of_name, place_of_element, place_of_field, place_of_member, place_of_name};
 ghost use Rattle.check_sorts.specs.Form.{signals_in};
-ghost use Rattle.check_sorts.specs.Message.{held_in, member_in};
+ghost use Rattle.check_sorts.specs.Message.{ArePlaces, held_in, member_in};
 ghost use Rattle.check_sorts.specs.Scope.{IsMeaning, scope_in};
 ghost use Rattle.type_expressions.specs.declared.made.Shape.TheVariants as shape;
 ghost use Rattle.type_expressions.specs.Made.{AreTreeTables, place_in, value_in};
 
-use crate::made::{Part, Shape, TreeTables, Walked};
+use crate::made::{Part, Shape, Target, TreeTables, Walked};
 use capl_meaning::{MessageField, Sort};
 use capl_tree::Expr;
 use check_sorts::{
     DeclaredSignals, Form, Held, Meaning, Member, Scope, direction, member_named, number_from,
-    sort_of_element, sort_of_form, sort_of_member,
+    places_of_meaning, sort_of_element, sort_of_form, sort_of_member,
 };
 use int_kinds::Kind;
 use typed_tree::{Place, TExpr};
@@ -58,6 +59,32 @@ fn unknown_name(name: &[u8]) -> Walked
     }
 }
 
+/// A name at a token, by what it means there.
+fn name_by_meaning(
+    scope: Scope,
+    tables: &TreeTables,
+    name: &[u8],
+    at: u32,
+    meaning: Option<Meaning>,
+) -> Walked
+    requires tables { AreTreeTables scope.names.now tables.now }
+    requires meaning { let means = means (scope_in scope) name.now at in
+        MatchOption meaning (means ≡ None) (IsMeaning scope.names.now means) }
+    ensures value { let s = scope_in scope.entry in
+        value_in result.shape ≡ of_name s.names name.now (means s name.now at) }
+    ensures place { let s = scope_in scope.entry in
+        place_in result.shape ≡ place_of_name s.names (means s name.now at) }
+    ensures sort { result.sort ≡ sort_of_name name.now (means (scope_in scope.entry) name.now at) }
+{
+    match meaning {
+        None => unknown_name(name),
+        Some(meaning) => Walked {
+            shape: Shape::Place(place_of_name(tables, meaning)),
+            sort: sort_of_form(meaning.form),
+        },
+    }
+}
+
 /// A name at a token.
 pub(crate) fn name(scope: Scope, tables: &TreeTables, name: &[u8], at: u32) -> Walked
     requires { AreTreeTables scope.names.now tables.now }
@@ -67,12 +94,25 @@ pub(crate) fn name(scope: Scope, tables: &TreeTables, name: &[u8], at: u32) -> W
         place_in result.shape ≡ place_of_name s.names (means s name.now at) }
     ensures sort { result.sort ≡ sort_of_name name.now (means (scope_in scope.entry) name.now at) }
 {
-    match scope.meaning(name, at) {
-        None => unknown_name(name),
-        Some(meaning) => Walked {
-            shape: Shape::Place(place_of_name(tables, meaning)),
-            sort: sort_of_form(meaning.form),
-        },
+    let meaning = scope.meaning(name, at);
+    name_by_meaning(scope, tables, name, at, meaning)
+}
+
+/// A name at a token, with what it can be assigned.
+pub(crate) fn named(scope: Scope, tables: &TreeTables, name: &[u8], at: u32) -> Target
+    requires { AreTreeTables scope.names.now tables.now }
+    ensures value { let s = scope_in scope.entry in
+        value_in result.walked.shape ≡ of_name s.names name.now (means s name.now at) }
+    ensures place { let s = scope_in scope.entry in
+        place_in result.walked.shape ≡ place_of_name s.names (means s name.now at) }
+    ensures sort { result.walked.sort ≡ sort_of_name name.now (means (scope_in scope.entry) name.now at) }
+    ensures places { ArePlaces (scope_in scope.entry) (Name name.now at) result.places }
+{
+    let meaning = scope.meaning(name, at);
+    let walked = name_by_meaning(scope, tables, name, at, meaning);
+    Target {
+        walked,
+        places: places_of_meaning(meaning),
     }
 }
 

@@ -6,6 +6,8 @@ ghost use Rattle.typed_tree.specs.Forms.{Cond, Convert};
 ghost use Rattle.capl_meaning.specs.Message.{is_message_place, is_number_place};
 ghost use Rattle.capl_meaning.specs.Sort.{kind_in, sort_of, sort_of_assignment, sort_of_binary, sort_of_choice, sort_of_prefix, sort_of_step, working_kind};
 ghost use Rattle.typed_source.specs.Expression.{assigned, expression_of, operation, place_of, stepping};
+ghost use Rattle.check_sorts.specs.Expression.{has_parts};
+ghost use Rattle.check_sorts.specs.Message.{ArePlaces};
 ghost use Rattle.check_sorts.specs.Scope.{scope_in};
 ghost use Rattle.type_expressions.specs.declared.made.Shape.TheVariants as shape;
 ghost use Rattle.type_expressions.specs.Made.{AreTreeTables, assigning, order_in, place_in, prefix_tree, value_in};
@@ -15,8 +17,8 @@ use crate::form::{
     assign, binary, cast, character, choice, choose, no_member, number, prefix, step, text,
     this_word,
 };
-use crate::made::{Part, Row, TreeTables, Walked, make_part, sort_in, value_in};
-use crate::place::{element, member, name, payload};
+use crate::made::{Part, Row, Target, TreeTables, Walked, make_part, sort_in, value_in};
+use crate::place::{element, member, name, named, payload};
 use capl_meaning::Sort;
 use capl_tree::{Expr, Field};
 use check_sorts::Scope;
@@ -45,6 +47,27 @@ pub(crate) fn walk(
         Expr::Str { .. } => Ok(text()),
         Expr::This { .. } => Ok(this_word(scope)),
         Expr::Name { name: word, at } => Ok(name(scope, tables, word.bytes(), *at)),
+        _ => walk_whole(alloc, scope, tables, e),
+    }
+}
+
+/// What an expression with parts is.
+#[cycle(walk)]
+fn walk_whole(
+    alloc: Global,
+    scope: Scope,
+    tables: &TreeTables,
+    e: &Expr,
+) -> Result<Walked, NoMemory>
+    requires tables { AreTreeTables scope.names.now tables.now }
+    requires parts { has_parts e.now ≡ true }
+    ensures value { IfOk result (λ walked.
+        value_in walked.shape ≡ expression_of (scope_in scope.entry) (order_in tables.now) e.now) }
+    ensures place { IfOk result (λ walked.
+        place_in walked.shape ≡ place_of (scope_in scope.entry) (order_in tables.now) e.now) }
+    ensures sort { IfOk result (λ walked. walked.sort ≡ sort_of (scope_in scope.entry) e.now) }
+{
+    match e {
         Expr::Paren { inner, .. } => walk(alloc, scope, tables, inner.get()),
         Expr::Call { name, args, .. } => {
             let row = walk_row(alloc, scope, tables, args.as_slice())?;
@@ -94,6 +117,7 @@ pub(crate) fn walk(
             let right = walk_part(alloc, scope, tables, right.get())?;
             walk_assignment(alloc, scope, tables, left.get(), *op, right)
         }
+        _ => unreachable!(),
     }
 }
 
@@ -119,6 +143,32 @@ fn walk_sort(alloc: Global, scope: Scope, tables: &TreeTables, e: &Expr) -> Resu
     Ok(sort_in(walked))
 }
 
+/// What an expression is, with what it can be assigned.
+#[cycle(walk)]
+fn walk_target(
+    alloc: Global,
+    scope: Scope,
+    tables: &TreeTables,
+    e: &Expr,
+) -> Result<Target, NoMemory>
+    requires { AreTreeTables scope.names.now tables.now }
+    ensures value { IfOk result (λ target.
+        value_in target.walked.shape ≡ expression_of (scope_in scope.entry) (order_in tables.now) e.now) }
+    ensures place { IfOk result (λ target.
+        place_in target.walked.shape ≡ place_of (scope_in scope.entry) (order_in tables.now) e.now) }
+    ensures sort { IfOk result (λ target. target.walked.sort ≡ sort_of (scope_in scope.entry) e.now) }
+    ensures places { IfOk result (λ target. ArePlaces (scope_in scope.entry) e.now target.places) }
+{
+    match e {
+        Expr::Name { name: word, at } => Ok(named(scope, tables, word.bytes(), *at)),
+        _ => {
+            let walked = walk(alloc, scope, tables, e)?;
+            let places = scope.places(e);
+            Ok(Target { walked, places })
+        }
+    }
+}
+
 /// A prefix operator before an expression.
 #[cycle(walk)]
 fn walk_prefix(
@@ -136,9 +186,8 @@ fn walk_prefix(
       sort = sort_of_prefix op (is_number_place s inner.now) (sort_of s inner.now);
     }) }
 {
-    let is_place = scope.is_number_place(inner);
-    let inner = walk(alloc, scope, tables, inner)?;
-    prefix(alloc, op, is_place, inner)
+    let target = walk_target(alloc, scope, tables, inner)?;
+    prefix(alloc, op, target.places.number, target.walked)
 }
 
 /// `++` or `--` behind an expression.
@@ -157,9 +206,8 @@ fn walk_step(
       sort = sort_of_step (is_number_place s inner.now) (sort_of s inner.now);
     }) }
 {
-    let is_place = scope.is_number_place(inner);
-    let inner = walk(alloc, scope, tables, inner)?;
-    step(alloc, up, true, is_place, inner)
+    let target = walk_target(alloc, scope, tables, inner)?;
+    step(alloc, up, true, target.places.number, target.walked)
 }
 
 /// A binary operator behind its left side.
@@ -224,9 +272,16 @@ fn walk_assignment(
           (sort_of s left.now) right.sort;
     }) }
 {
-    let places = scope.places(left);
-    let left = walk(alloc, scope, tables, left)?;
-    assign(alloc, op, places.number, places.message, left, right)
+    let target = walk_target(alloc, scope, tables, left)?;
+    let places = target.places;
+    assign(
+        alloc,
+        op,
+        places.number,
+        places.message,
+        target.walked,
+        right,
+    )
 }
 
 /// Appends what a walk made of an expression.
