@@ -7,8 +7,8 @@ use capl_meaning::{Builtin, MessageField, Sort};
 use capl_tree::{Expr, Program};
 use check_names::Names;
 use check_sorts::{
-    Callee, Constants, Held, Member, Scope, member_named, sort_of_binary, sort_of_builtin,
-    sort_of_element, sort_of_member, sort_of_number,
+    Callee, Constants, Held, Member, Scope, member_named, places_of_meaning, sort_of_binary,
+    sort_of_builtin, sort_of_element, sort_of_member, sort_of_number,
 };
 use dbc_reader::{Database, read};
 use int_kinds::{BinOp, Kind};
@@ -134,6 +134,7 @@ fn check_message(rt: &impl Abort, alloc: Global, names: &Names) -> Result<(), Fa
     let word = name(alloc, b"m")?;
     let scope = Scope::outside(names, 0);
     assert!(rt; scope.places(&word).message);
+    assert!(rt; places_of_meaning(scope.meaning(b"m", 30)).message);
     check_members(rt, scope.message_in(&word));
     Ok(())
 }
