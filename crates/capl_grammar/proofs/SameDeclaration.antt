@@ -67,7 +67,7 @@ module _ (total : ℕ) where
   type_same (type.Number of false) = only (tok.Word (kind_word of))
   type_same type.Any = token (tok.Word word.Message) (only (tok.Sign sign.Star))
   type_same (type.ById value ext at) =
-      became (token (tok.Word word.Message) (placed at (only (tok.Num value ext)))) assumption
+      became (token (tok.Word word.Message) (placed at (only (tok.Num ext value)))) assumption
   type_same (type.ByName name at) =
       became (token (tok.Word word.Message) (placed at (only (tok.Name name)))) assumption
   type_same type.Seconds = only (tok.Word word.Timer)

@@ -82,7 +82,7 @@ module _ (total : ℕ) where
     -- an expression of at least this level
     pub expression_same : (e : Expr) (least : ℕ) → least ≤ postfix_level → ExpressionSame total least e
     expression_same (expr.Num value ext at) least low =
-        became (placed at (only (tok.Num value ext))) (assumption (operand low))
+        became (placed at (only (tok.Num ext value))) (assumption (operand low))
     expression_same (expr.Char value at) least low =
         became (placed at (only (tok.Char value))) (assumption (operand low))
     expression_same (expr.Str text at) least low =

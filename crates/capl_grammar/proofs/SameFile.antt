@@ -54,7 +54,7 @@ module _ (total : ℕ) where
   -- Selectors.
 
   numeral_same : (e : Expr) → ItemSame total numeral spelled.expression IsNumeral (IsPlaced total) e
-  numeral_same (expr.Num value ext at) = became (placed at (only (tok.Num value ext))) assumption
+  numeral_same (expr.Num value ext at) = became (placed at (only (tok.Num ext value))) assumption
   numeral_same _ = never (λ choice rest h. h.0)
 
   range_end_same : (high : Option Expr)

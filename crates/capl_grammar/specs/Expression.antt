@@ -81,7 +81,7 @@ abbrev mutual
   -- an expression whose outermost operator has at least this level. No more than `postfix_level` is asked
   -- for, so operands and what stands behind them need no condition
   pub expression : ℕ → Expr → List Piece → List Piece
-  expression least (expr.Num value ext at) rest = At at ∷ Token (tok.Num value ext) ∷ rest
+  expression least (expr.Num value ext at) rest = At at ∷ Token (tok.Num ext value) ∷ rest
   expression least (expr.Char value at) rest = At at ∷ Token (tok.Char value) ∷ rest
   expression least (expr.Str text at) rest = At at ∷ Token (tok.Str text) ∷ rest
   expression least (expr.This at) rest = At at ∷ a_word word.This ∷ rest
@@ -184,7 +184,7 @@ abbrev pub declared_type : DeclType → List Piece → List Piece
 declared_type (type.Number kind true) rest = a_word word.Const ∷ a_word (kind_word kind) ∷ rest
 declared_type (type.Number kind false) rest = a_word (kind_word kind) ∷ rest
 declared_type type.Any rest = a_word word.Message ∷ a_sign sign.Star ∷ rest
-declared_type (type.ById value ext at) rest = a_word word.Message ∷ At at ∷ Token (tok.Num value ext) ∷ rest
+declared_type (type.ById value ext at) rest = a_word word.Message ∷ At at ∷ Token (tok.Num ext value) ∷ rest
 declared_type (type.ByName name at) rest = a_word word.Message ∷ At at ∷ a_name name ∷ rest
 declared_type type.Seconds rest = a_word word.Timer ∷ rest
 declared_type type.Millis rest = a_word word.MsTimer ∷ rest

@@ -139,7 +139,7 @@ braced one items rest = a_sign sign.OpenBrace ∷ each one items (a_sign sign.Cl
 
 -- a number, and no other expression
 abbrev pub numeral : Expr → List Piece → List Piece
-numeral (expr.Num number ext at) rest = At at ∷ Token (tok.Num number ext) ∷ rest
+numeral (expr.Num number ext at) rest = At at ∷ Token (tok.Num ext number) ∷ rest
 numeral _ rest = When false ∷ rest
 
 -- what is behind the first number of a selector, where it is a range

@@ -92,13 +92,13 @@ number-longest : (text : List ℕ) (base : Base) (count : ℕ) (ext : Bool)
     → (IsFirstInClass class.Mark (drop count (drop (prefix_of base) text)) → ext ≡ true)
     → IsLongest text (prefix_of base + count + cond ext 1 0)
 number-longest [] base count ext start no_float is run has_mark bytes after token split spells = absurd start
-number-longest (byte ∷ text) Ten count ext start no_float is run has_mark bytes after (tok.Num value marked) split (number, value_is, inl (digits, some, all, number_is, marks)) =
+number-longest (byte ∷ text) Ten count ext start no_float is run has_mark bytes after (tok.Num marked value) split (number, value_is, inl (digits, some, all, number_is, marks)) =
     let le = marked_run-le class.Digit digit-mark (byte ∷ text) count ext run has_mark bytes digits after marked split all marks in omega arith
-number-longest (byte ∷ text) Ten count ext start no_float is run has_mark bytes after (tok.Num value marked) split (number, value_is, inr (digits, x, some, all, is_mark, number_is, marks)) =
+number-longest (byte ∷ text) Ten count ext start no_float is run has_mark bytes after (tok.Num marked value) split (number, value_is, inr (digits, x, some, all, is_mark, number_is, marks)) =
     absurd (is (hexadecimal_split (byte ∷ text) bytes after digits x marked split some all is_mark marks))
-number-longest (byte ∷ text) Sixteen count ext start no_float is run has_mark bytes after (tok.Num value marked) split (number, value_is, inl (digits, some, all, number_is, marks)) =
+number-longest (byte ∷ text) Sixteen count ext start no_float is run has_mark bytes after (tok.Num marked value) split (number, value_is, inl (digits, some, all, number_is, marks)) =
     let le = decimal_in_hexadecimal (byte ∷ text) (hexadecimal_front (byte ∷ text) is) bytes after digits marked split all marks in omega arith
-number-longest (byte ∷ text) Sixteen count ext start no_float is run has_mark bytes after (tok.Num value marked) split (number, value_is, inr (digits, x, some, all, is_mark, number_is, marks)) =
+number-longest (byte ∷ text) Sixteen count ext start no_float is run has_mark bytes after (tok.Num marked value) split (number, value_is, inr (digits, x, some, all, is_mark, number_is, marks)) =
     let (rest, rest_split, rest_is) = marked_rest bytes digits x marked marks in
     let whole : byte ∷ text ≡ 48 ∷ x ∷ rest ++ after = split ∙ ap (λ b. b ++ after) rest_split in
     let behind : drop 2 (byte ∷ text) ≡ rest ++ after = ap (drop 2) whole in
@@ -193,7 +193,7 @@ number_spelling text Sixteen behind digits rest count ext size is scanned =
 pub number_front : (text : List ℕ) (base : Base) (behind digits rest : List ℕ) (count : ℕ) (ext : Bool) (size : ℕ) → size ≡ prefix_of base + count + cond ext 1 0
     → IsScanned text base behind digits rest count ext
     → HasNoFloat text
-    → IsTokenFront text (record { tok = tok.Num (number_of_64_bits (number_in (radix_of base) digits)) ext; length = size })
+    → IsTokenFront text (record { tok = tok.Num ext (number_of_64_bits (number_in (radix_of base) digits)); length = size })
 number_front text base behind digits rest count ext size is scanned no_float =
     let run = subst (λ b. IsRun (digits_of base) b count) scanned.is_behind scanned.run in
     let is_rest : rest ≡ drop count (drop (prefix_of base) text) = scanned.is_rest ∙ ap (drop count) scanned.is_behind in
@@ -233,7 +233,7 @@ float-longest (byte ∷ text) rest count more start run point fraction_run bytes
     let tails : 46 ∷ rest ≡ 46 ∷ fraction ++ after = sym point ∙ behind in
     let le = run-le class.Digit rest more fraction after fraction_run (cc) every in
     omega (arith, ap length is, length-append whole (46 ∷ fraction))
-float-longest (byte ∷ text) rest count more start run point fraction_run bytes after (tok.Num value ext) split (number, value_is, without) =
+float-longest (byte ∷ text) rest count more start run point fraction_run bytes after (tok.Num ext value) split (number, value_is, without) =
     elim (cases_lt count (length bytes)) [
       | inl long ↦
           let in_text : get_or (byte ∷ text) count 0 ≡ get_or bytes count 0 = ap (λ b. get_or b count 0) split ∙ get_or_append_left bytes after 0 count long in

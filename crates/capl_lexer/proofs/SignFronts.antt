@@ -17,7 +17,7 @@ sign_only : (byte : ℕ) (text bytes after : List ℕ) (token : Tok) → IsOther
 sign_only byte text bytes after (tok.Name name) other split spells = absurd (other.no_name (front-begins (byte ∷ text) byte text bytes after (tok.Name name) refl split spells))
 sign_only byte text bytes after (tok.Word reserved) other split spells = absurd (other.no_name (front-begins (byte ∷ text) byte text bytes after (tok.Word reserved) refl split spells))
 sign_only byte text bytes after (tok.Sign some) other split spells = (some, spells)
-sign_only byte text bytes after (tok.Num value ext) other split spells = absurd (other.no_digit (front-begins (byte ∷ text) byte text bytes after (tok.Num value ext) refl split spells))
+sign_only byte text bytes after (tok.Num ext value) other split spells = absurd (other.no_digit (front-begins (byte ∷ text) byte text bytes after (tok.Num ext value) refl split spells))
 sign_only byte text bytes after tok.Float other split spells = absurd (other.no_digit (front-begins (byte ∷ text) byte text bytes after tok.Float refl split spells))
 sign_only byte text bytes after (tok.Char value) other split spells = absurd (other.no_apostrophe (front-begins (byte ∷ text) byte text bytes after (tok.Char value) refl split spells))
 sign_only byte text bytes after (tok.Str content) other split spells = absurd (other.no_quote (front-begins (byte ∷ text) byte text bytes after (tok.Str content) refl split spells))

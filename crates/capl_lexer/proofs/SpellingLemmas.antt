@@ -69,7 +69,7 @@ abbrev pub Begins : Tok → ℕ → Type 0
 Begins (tok.Name text) byte = IsNameStart byte
 Begins (tok.Word reserved) byte = IsNameStart byte
 Begins (tok.Sign some) byte = sign_first some ≡ byte
-Begins (tok.Num value ext) byte = IsDigit byte
+Begins (tok.Num ext value) byte = IsDigit byte
 Begins tok.Float byte = IsDigit byte
 Begins (tok.Char value) byte = byte ≡ 39
 Begins (tok.Str text) byte = byte ≡ 34
@@ -113,10 +113,10 @@ spelling-front bytes (tok.Word reserved) is =
 spelling-front bytes (tok.Sign some) is =
     let (others, split) = sign-first some in
     record { first = sign_first some; others = others; is = is ∙ split; begins = refl }
-spelling-front bytes (tok.Num value ext) (number, value_is, inl (digits, some, all, number_is, marked)) =
+spelling-front bytes (tok.Num ext value) (number, value_is, inl (digits, some, all, number_is, marked)) =
     let (first, others, split, digit) = marked_front bytes digits ext some all marked in
     record { first = first; others = others; is = split; begins = digit }
-spelling-front bytes (tok.Num value ext) (number, value_is, inr (digits, x, some, all, x_is, number_is, marked)) =
+spelling-front bytes (tok.Num ext value) (number, value_is, inr (digits, x, some, all, x_is, number_is, marked)) =
     let (others, split) = hex_front bytes digits x ext marked in
     record { first = 48; others = others; is = split; begins = (omega arith, omega arith) }
 spelling-front bytes tok.Float float =
@@ -138,7 +138,7 @@ abbrev pub class_of_token : Tok → ℕ
 class_of_token (tok.Name text) = 0
 class_of_token (tok.Word reserved) = 0
 class_of_token (tok.Sign some) = 1
-class_of_token (tok.Num value ext) = 2
+class_of_token (tok.Num ext value) = 2
 class_of_token tok.Float = 2
 class_of_token (tok.Str text) = 3
 class_of_token (tok.Char value) = 4
@@ -166,7 +166,7 @@ pub begins-class : (token : Tok) (byte : ℕ) → Begins token byte → class_of
 begins-class (tok.Name text) byte start = name_class byte start
 begins-class (tok.Word reserved) byte start = name_class byte start
 begins-class (tok.Sign some) byte is = class_at byte (sign_first some) 1 is (sign_class some)
-begins-class (tok.Num value ext) byte digit = digit_class byte digit
+begins-class (tok.Num ext value) byte digit = digit_class byte digit
 begins-class tok.Float byte digit = digit_class byte digit
 begins-class (tok.Char value) byte is = class_at byte 39 4 (sym is) refl
 begins-class (tok.Str text) byte is = class_at byte 34 3 (sym is) refl
@@ -195,11 +195,11 @@ spelling-unique bytes (tok.Word reserved) (tok.Name text) first second = absurd 
 spelling-unique bytes (tok.Word reserved) (tok.Word another) first second = ap tok.Word (word_spelling-injective reserved another (sym first ∙ second))
 spelling-unique bytes (tok.Sign some) (tok.Sign another) first second =
     ap tok.Sign (sign_spelling-injective some another (sym first ∙ second))
-spelling-unique bytes (tok.Num value ext) (tok.Num other marked) (number, value_is, first) (another, other_is, second) =
+spelling-unique bytes (tok.Num ext value) (tok.Num marked other) (number, value_is, first) (another, other_is, second) =
     let (same, mark) = number-unique bytes number another ext marked first second in
     let values : value ≡ other = value_is ∙ ap number_of_64_bits same ∙ sym other_is in cc
-spelling-unique bytes (tok.Num value ext) tok.Float (number, value_is, first) second = absurd (float-number bytes number ext second first)
-spelling-unique bytes tok.Float (tok.Num value ext) first (number, value_is, second) = absurd (float-number bytes number ext first second)
+spelling-unique bytes (tok.Num ext value) tok.Float (number, value_is, first) second = absurd (float-number bytes number ext second first)
+spelling-unique bytes tok.Float (tok.Num ext value) first (number, value_is, second) = absurd (float-number bytes number ext first second)
 spelling-unique bytes tok.Float tok.Float first second = refl
 spelling-unique bytes (tok.Char value) (tok.Char other) (inside, is, item) (within, is_too, also) =
     let whole : 39 ∷ inside ≡ 39 ∷ within = sym is ∙ is_too in

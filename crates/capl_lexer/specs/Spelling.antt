@@ -230,7 +230,7 @@ abbrev pub Spells : List ℕ → Tok → Type 0
 Spells bytes (tok.Name text) = (bytes ≡ text) × IsName bytes
 Spells bytes (tok.Word word) = bytes ≡ word_spelling word
 Spells bytes (tok.Sign sign) = bytes ≡ sign_spelling sign
-Spells bytes (tok.Num value ext) =
+Spells bytes (tok.Num ext value) =
     (number : ℕ) × (value ≡ number_of_64_bits number)
     × (IsDecimal bytes number ext ⊎ IsHexadecimal bytes number ext)
 Spells bytes tok.Float = IsFloat bytes

@@ -37,7 +37,7 @@ fn integer(text: &[u8]) -> Front
     let value = base.number(&rest[..count]);
     let ext = ByteClass::Mark.begins(&rest[count..]);
     Front {
-        tok: Tok::Num { value, ext },
+        tok: Tok::Num { ext, value },
         length: prefix + count + usize::from(ext),
     }
 }

@@ -38,7 +38,7 @@ pub(crate) fn string(alloc: Global, text: &[u8]) -> Result<Option<Front>, NoMemo
         place += item.length;
     }
     Ok(Some(Front {
-        tok: Tok::Str(Text::make(alloc, values.as_slice())?),
+        tok: Tok::Str(Text::from_list(alloc, values)?),
         length: place + 1,
     }))
 }

@@ -32,7 +32,7 @@ pub enum Tok {
     Sign(Sign),
     /// A number, decimal or hexadecimal with `0x`; None where it is above 2^64 - 1. A trailing `x`
     /// marks an extended identifier, and `0x` alone is the extended identifier 0.
-    Num { value: Option<u64>, ext: bool },
+    Num { ext: bool, value: Option<u64> },
     /// Decimal digits, a `.` and decimal digits, of which those after it may be missing.
     Float,
     /// `'` and `'` with a byte between them, which an escape may stand for.

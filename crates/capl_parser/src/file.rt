@@ -77,7 +77,7 @@ fn included(cursor: &mut Cursor<'_>) -> Result<Text, Refusal>
     ensures { Gives (read.included cursor.old) result cursor.new }
 {
     match cursor.next() {
-        Some(Tok::Include(name)) => Ok(Text::make(cursor.alloc(), name.bytes())?),
+        Some(Tok::Include(name)) => Ok(name.copy()?),
         _ => Err(Refusal::NotSpelled),
     }
 }

@@ -62,7 +62,7 @@ fn name(cursor: &mut Cursor<'_>) -> Result<Text, Refusal>
     ensures { Gives (read.name cursor.old) result cursor.new }
 {
     match cursor.next() {
-        Some(Tok::Name(name)) => Ok(Text::make(cursor.alloc(), name.bytes())?),
+        Some(Tok::Name(name)) => Ok(name.copy()?),
         _ => Err(Refusal::NotSpelled),
     }
 }
@@ -234,7 +234,7 @@ fn on_channel(
     ensures { Gives (read.on_channel total at name.now chan cursor.old) result cursor.new }
 {
     let Some(chan) = chan else {
-        let name = Text::make(cursor.alloc(), name.bytes())?;
+        let name = name.copy()?;
         return Ok(Sel {
             chan: 0,
             what: SelWhat::Name { name, at },
@@ -265,7 +265,7 @@ fn one_selection(cursor: &mut Cursor<'_>, total: u32, at: u32) -> Result<SelWhat
     if let Some(Tok::Name(name)) = cursor.peek() {
         cursor.skip();
         return Ok(SelWhat::Name {
-            name: Text::make(cursor.alloc(), name.bytes())?,
+            name: name.copy()?,
             at,
         });
     }
@@ -299,7 +299,7 @@ fn numeral(cursor: &mut Cursor<'_>, total: u32) -> Result<Expr, Refusal>
 {
     let at = cursor.place(total);
     match cursor.next() {
-        Some(Tok::Num { value, ext }) => Ok(Expr::Num {
+        Some(Tok::Num { ext, value }) => Ok(Expr::Num {
             value: *value,
             ext: *ext,
             at,

@@ -124,7 +124,7 @@ IsDeclaratorPlaced total declared rest =
 
 -- the type of a declaration
 abbrev pub IsTypePlaced : ℕ → DeclType → List Tok → Type 0
-IsTypePlaced total (type.ById value ext at) rest = IsAt total at (tok.Num value ext ∷ rest)
+IsTypePlaced total (type.ById value ext at) rest = IsAt total at (tok.Num ext value ∷ rest)
 IsTypePlaced total (type.ByName name at) rest = IsAt total at (tok.Name name ∷ rest)
 IsTypePlaced total _ rest = ⊤
 

@@ -25,7 +25,7 @@ use Rattle.capl_tree.specs.Binding.{kind_word, prefix_sign, postfix_sign, operat
 abbrev mutual
   -- an expression
   pub expression : Expr → List Tok → List Tok
-  expression (expr.Num value ext at) rest = tok.Num value ext ∷ rest
+  expression (expr.Num value ext at) rest = tok.Num ext value ∷ rest
   expression (expr.Char value at) rest = tok.Char value ∷ rest
   expression (expr.Str text at) rest = tok.Str text ∷ rest
   expression (expr.This at) rest = tok.Word word.This ∷ rest
@@ -107,7 +107,7 @@ abbrev pub declared_type : DeclType → List Tok → List Tok
 declared_type (type.Number of true) rest = tok.Word word.Const ∷ tok.Word (kind_word of) ∷ rest
 declared_type (type.Number of false) rest = tok.Word (kind_word of) ∷ rest
 declared_type type.Any rest = tok.Word word.Message ∷ tok.Sign sign.Star ∷ rest
-declared_type (type.ById value ext at) rest = tok.Word word.Message ∷ tok.Num value ext ∷ rest
+declared_type (type.ById value ext at) rest = tok.Word word.Message ∷ tok.Num ext value ∷ rest
 declared_type (type.ByName name at) rest = tok.Word word.Message ∷ tok.Name name ∷ rest
 declared_type type.Seconds rest = tok.Word word.Timer ∷ rest
 declared_type type.Millis rest = tok.Word word.MsTimer ∷ rest

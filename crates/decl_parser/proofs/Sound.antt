@@ -264,8 +264,8 @@ unfolding read.message
 message_part total (tok.Sign sign.Star ∷ ts) below what rest f =
     moved (TypePart total (tok.Word word.Message ∷ tok.Sign sign.Star ∷ ts)) type.Any what ts rest f
     (record { written = refl; placed = tt; shorter = omega arith })
-message_part total (tok.Num value ext ∷ ts) below what rest f =
-    moved (TypePart total (tok.Word word.Message ∷ tok.Num value ext ∷ ts)) (type.ById value ext (total - length (tok.Num value ext ∷ ts))) what ts rest f
+message_part total (tok.Num ext value ∷ ts) below what rest f =
+    moved (TypePart total (tok.Word word.Message ∷ tok.Num ext value ∷ ts)) (type.ById value ext (total - length (tok.Num ext value ∷ ts))) what ts rest f
     (record { written = refl; placed = omega arith; shorter = omega arith })
 message_part total (tok.Name name ∷ ts) below what rest f =
     moved (TypePart total (tok.Word word.Message ∷ tok.Name name ∷ ts)) (type.ByName name (total - length (tok.Name name ∷ ts))) what ts rest f

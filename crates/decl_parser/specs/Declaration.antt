@@ -99,7 +99,7 @@ number_type fixed (Some of) ts = Some (type.Number of fixed, ts)
 -- behind `message`: which one, at this place
 unfoldable pub message : ℕ → List Tok → Read DeclType
 message at (tok.Sign sign.Star ∷ ts) = Some (type.Any, ts)
-message at (tok.Num value ext ∷ ts) = Some (type.ById value ext at, ts)
+message at (tok.Num ext value ∷ ts) = Some (type.ById value ext at, ts)
 message at (tok.Name name ∷ ts) = Some (type.ByName name at, ts)
 message at _ = None
 

@@ -11,7 +11,6 @@ use expr_parser::operator::kind_of;
 use expr_parser::{Cursor, Refusal, read_expression, read_field};
 use int_kinds::Kind;
 use items::{Boxed, Items};
-use texts::Text;
 
 /// A declaration up to its semicolon. `total` is the number of tokens of the file, from which the places are
 /// counted. A depth above the number of tokens left refuses nothing for its depth. NotSpelled where the
@@ -70,13 +69,13 @@ fn message(cursor: &mut Cursor<'_>, total: u32) -> Result<DeclType, Refusal>
     let at = cursor.place(total);
     match cursor.next() {
         Some(Tok::Sign(Sign::Star)) => Ok(DeclType::Any),
-        Some(Tok::Num { value, ext }) => Ok(DeclType::ById {
+        Some(Tok::Num { ext, value }) => Ok(DeclType::ById {
             value: *value,
             ext: *ext,
             at,
         }),
         Some(Tok::Name(name)) => Ok(DeclType::ByName {
-            name: Text::make(cursor.alloc(), name.bytes())?,
+            name: name.copy()?,
             at,
         }),
         _ => Err(Refusal::NotSpelled),
@@ -109,7 +108,7 @@ fn declarator(cursor: &mut Cursor<'_>, total: u32, depth: usize) -> Result<Declr
     };
     let size = size_part(cursor, total, depth)?;
     let init = first_part(cursor, total, depth)?;
-    let name = Text::make(cursor.alloc(), name.bytes())?;
+    let name = name.copy()?;
     Ok(Declr {
         name,
         at,

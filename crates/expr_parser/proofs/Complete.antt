@@ -323,7 +323,7 @@ abbrev mutual
 
   holds : (total : ℕ) (e : Expr) → IsExpression e → Holds total e
   holds total (expr.Num value ext at) well depth least rest low small follows placed =
-      let here : at ≡ total - length (tok.Num value ext ∷ rest) = omega (arith, placed) in
+      let here : at ≡ total - length (tok.Num ext value ∷ rest) = omega (arith, placed) in
       starts_climb total depth least (expr.Num value ext at) rest _ (rw here refl)
   holds total (expr.Char value at) well depth least rest low small follows placed =
       let here : at ≡ total - length (tok.Char value ∷ rest) = omega (arith, placed) in

@@ -508,8 +508,8 @@ operand_read : (total : ℕ) (inner : Reader) → IsSound total inner → (least
 unfolding read.operand read.named
 operand_read total inner sound least low (tok.Name name ∷ ts) below e rest f =
     named_read total inner sound least low name ts below e rest (begins sign.OpenParen ts) refl f
-operand_read total inner sound least low (tok.Num value ext ∷ ts) below e rest f =
-    alone total least (tok.Num value ext ∷ ts) (expr.Num value ext (total - length (tok.Num value ext ∷ ts))) e ts rest f refl tt (omega arith) (omega arith) (binding_most (operator_at ts))
+operand_read total inner sound least low (tok.Num ext value ∷ ts) below e rest f =
+    alone total least (tok.Num ext value ∷ ts) (expr.Num value ext (total - length (tok.Num ext value ∷ ts))) e ts rest f refl tt (omega arith) (omega arith) (binding_most (operator_at ts))
 operand_read total inner sound least low (tok.Char value ∷ ts) below e rest f =
     alone total least (tok.Char value ∷ ts) (expr.Char value (total - length (tok.Char value ∷ ts))) e ts rest f refl tt (omega arith) (omega arith) (binding_most (operator_at ts))
 operand_read total inner sound least low (tok.Str text ∷ ts) below e rest f =

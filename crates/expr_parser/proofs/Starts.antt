@@ -127,7 +127,7 @@ sign_starts _ = false
 -- tokens with which an expression begins
 abbrev pub starts : List Tok → Bool
 starts (tok.Name name ∷ ts) = true
-starts (tok.Num value ext ∷ ts) = true
+starts (tok.Num ext value ∷ ts) = true
 starts (tok.Char value ∷ ts) = true
 starts (tok.Str text ∷ ts) = true
 starts (tok.Word word.This ∷ ts) = true

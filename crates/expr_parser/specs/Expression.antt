@@ -56,7 +56,7 @@ unary inner at (Some op) ts = and_then (inner prefix_level ts) (λ e rest. Some 
 -- an operand of one piece, or a prefix operator or a cast with its operand
 unfoldable pub operand : Reader → ℕ → List Tok → Read Expr
 operand inner at (tok.Name name ∷ ts) = named inner at name ts
-operand inner at (tok.Num value ext ∷ ts) = Some (expr.Num value ext at, ts)
+operand inner at (tok.Num ext value ∷ ts) = Some (expr.Num value ext at, ts)
 operand inner at (tok.Char value ∷ ts) = Some (expr.Char value at, ts)
 operand inner at (tok.Str text ∷ ts) = Some (expr.Str text at, ts)
 operand inner at (tok.Word word.This ∷ ts) = Some (expr.This at, ts)

@@ -45,14 +45,14 @@ fn operand(cursor: &mut Cursor<'_>, total: u32, depth: usize) -> Result<Expr, Re
     let at = cursor.place(total);
     match cursor.next() {
         Some(Tok::Name(name)) => named(cursor, total, depth, at, name),
-        Some(Tok::Num { value, ext }) => Ok(Expr::Num {
+        Some(Tok::Num { ext, value }) => Ok(Expr::Num {
             value: *value,
             ext: *ext,
             at,
         }),
         Some(Tok::Char(value)) => Ok(Expr::Char { value: *value, at }),
         Some(Tok::Str(text)) => Ok(Expr::Str {
-            text: Text::make(cursor.alloc(), text.bytes())?,
+            text: text.copy()?,
             at,
         }),
         Some(Tok::Word(Word::This)) => Ok(Expr::This { at }),
@@ -76,10 +76,10 @@ fn named(
 {
     if cursor.eat(Sign::OpenParen) {
         let args = arguments(cursor, total, depth)?;
-        let name = Text::make(cursor.alloc(), name.bytes())?;
+        let name = name.copy()?;
         Ok(Expr::Call { name, args, at })
     } else {
-        let name = Text::make(cursor.alloc(), name.bytes())?;
+        let name = name.copy()?;
         Ok(Expr::Name { name, at })
     }
 }
@@ -345,7 +345,7 @@ fn named_field(cursor: &mut Cursor<'_>, at: u32) -> Result<Field, Refusal>
 {
     match cursor.next() {
         Some(Tok::Name(name)) => Ok(Field::Named {
-            name: Text::make(cursor.alloc(), name.bytes())?,
+            name: name.copy()?,
             at,
         }),
         _ => Err(Refusal::NotSpelled),

@@ -19,7 +19,7 @@ pub fn bound_line(alloc: Global, ident: Ident, wait: Option<u64>) -> Result<Text
     line.push(b' ')?;
     append_wait(&mut line, wait)?;
     line.push(b'\n')?;
-    Text::make(alloc, &line)
+    Text::from_list(alloc, line)
 }
 
 /// Appends the digits of an identifier.

@@ -35,7 +35,7 @@ pub fn write_line(
     append_ident(&mut line, f.ident())?;
     append_data(&mut line, f)?;
     line.push(b'\n')?;
-    Text::make(alloc, &line)
+    Text::from_list(alloc, line)
 }
 
 /// Appends the seconds in at least ten digits and the microseconds in six.

@@ -131,8 +131,8 @@ kind_first (_ ∷ ts) k e = absurd cc
 
 numeral_sound : (total : ℕ) → IsSound total (numeral total) expression IsNumeral (IsPlaced total)
 numeral_sound total [] e rest fits is = absurd cc
-numeral_sound total (tok.Num value ext ∷ ts) e rest fits is =
-    moved (IsFound expression IsNumeral (IsPlaced total) (tok.Num value ext ∷ ts)) (expr.Num value ext (total - suc (length ts))) e ts rest is
+numeral_sound total (tok.Num ext value ∷ ts) e rest fits is =
+    moved (IsFound expression IsNumeral (IsPlaced total) (tok.Num ext value ∷ ts)) (expr.Num value ext (total - suc (length ts))) e ts rest is
     (record { spelled = refl; well = tt; placed = omega arith; shorter = omega arith })
 numeral_sound total (_ ∷ ts) e rest fits is = absurd cc
 

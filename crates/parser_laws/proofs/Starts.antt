@@ -28,7 +28,7 @@ use Rattle.parser_laws.specs.Statement.{Parts, begins_declaration, begins_label,
 -- an expression may begin so
 abbrev pub starts_value : List Tok → Bool
 starts_value (tok.Name text ∷ ts) = true
-starts_value (tok.Num value ext ∷ ts) = true
+starts_value (tok.Num ext value ∷ ts) = true
 starts_value (tok.Char value ∷ ts) = true
 starts_value (tok.Str text ∷ ts) = true
 starts_value (tok.Word word.This ∷ ts) = true
@@ -157,7 +157,7 @@ pub only_evaluation : (parts : Parts) (inner : List Tok → Read Stmt) (ts : Lis
 unfolding statement_by repeat jump
 only_evaluation parts inner [] starts = absurd cc
 only_evaluation parts inner (tok.Name text ∷ ts) starts = refl
-only_evaluation parts inner (tok.Num value ext ∷ ts) starts = refl
+only_evaluation parts inner (tok.Num ext value ∷ ts) starts = refl
 only_evaluation parts inner (tok.Char value ∷ ts) starts = refl
 only_evaluation parts inner (tok.Str text ∷ ts) starts = refl
 only_evaluation parts inner (tok.Word word.This ∷ ts) starts = refl

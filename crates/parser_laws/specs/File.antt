@@ -36,7 +36,7 @@ included _ = None
 
 -- a number
 abbrev pub numeral : ℕ → List Tok → Read Expr
-numeral total (tok.Num value ext ∷ ts) = Some (expr.Num value ext (total - suc (length ts)), ts)
+numeral total (tok.Num ext value ∷ ts) = Some (expr.Num value ext (total - suc (length ts)), ts)
 numeral total _ = None
 
 -- behind the first number of a selector at this place

@@ -17,7 +17,7 @@ pub fn beside(alloc: Global, naming: &[u8], name: &[u8]) -> Result<Text, NoMemor
     }
     let mut joined = Vec::from_slice(alloc, folder_of(naming))?;
     joined.extend_from_slice(name)?;
-    Text::make(alloc, &joined)
+    Text::from_list(alloc, joined)
 }
 
 /// The name up to and with its last `/`, or nothing where it has none.

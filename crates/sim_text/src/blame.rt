@@ -21,7 +21,7 @@ pub fn blame_line(alloc: Global, blame: &Blame) -> Result<Text, NoMemory>
     line.push(b' ')?;
     append_rule(alloc, &mut line, blame.rule)?;
     line.push(b'\n')?;
-    Text::make(alloc, &line)
+    Text::from_list(alloc, line)
 }
 
 /// Appends `:` and the number of a line or a column, where there is one.

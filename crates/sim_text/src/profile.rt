@@ -33,7 +33,7 @@ pub fn profile_line(
     text.extend_from_slice(event_word(event))?;
     append_row(&mut text, row)?;
     text.push(b'\n')?;
-    Text::make(alloc, &text)
+    Text::from_list(alloc, text)
 }
 
 /// The word of an event.

@@ -28,5 +28,5 @@ pub fn summary_line(
     text.extend_from_slice(b" turns ")?;
     append_number(&mut text, turns)?;
     text.push(b'\n')?;
-    Text::make(alloc, &text)
+    Text::from_list(alloc, text)
 }

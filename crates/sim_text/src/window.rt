@@ -30,7 +30,7 @@ pub fn window_line(alloc: Global, now: u64, node: &[u8], text: &[u8]) -> Result<
     line.push(b' ')?;
     append_shown(&mut line, text)?;
     line.push(b'\n')?;
-    Text::make(alloc, &line)
+    Text::from_list(alloc, line)
 }
 
 /// Appends a moment: its seconds, and six digits of microseconds.

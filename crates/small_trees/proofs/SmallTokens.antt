@@ -108,7 +108,7 @@ spelled_small : (bytes : List ℕ) (t : Tok) → Spells bytes t → AreBytes byt
 spelled_small bytes (tok.Name text) is are short = tt
 spelled_small bytes (tok.Word w) is are short = tt
 spelled_small bytes (tok.Sign sign) is are short = tt
-spelled_small bytes (tok.Num value ext) is are short = subst (λ v. IfSome v (λ m. m < 2 ^ 64)) (sym is.1) (number_small is.0)
+spelled_small bytes (tok.Num ext value) is are short = subst (λ v. IfSome v (λ m. m < 2 ^ 64)) (sym is.1) (number_small is.0)
 spelled_small bytes tok.Float is are short = tt
 spelled_small bytes (tok.Char value) is are short = (item_small IsPlainInChar value is.0 (39 ∷ []) (subst AreBytes is.1 are).1 is.2).0
 spelled_small bytes (tok.Str text) is are short =

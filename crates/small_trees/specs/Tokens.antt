@@ -11,7 +11,7 @@ AreBytes numbers = AllByRecursion (λ byte. byte < 2 ^ 8) numbers
 
 -- the number, the character or the text of a token fits
 abbrev pub IsSmallTok : Tok → Type 0
-IsSmallTok (tok.Num value ext) = IfSome value (λ n. n < 2 ^ 64)
+IsSmallTok (tok.Num ext value) = IfSome value (λ n. n < 2 ^ 64)
 IsSmallTok (tok.Char value) = value < 2 ^ 8
 IsSmallTok (tok.Str text) = IsShortList text × AreBytes text
 IsSmallTok _ = ⊤

@@ -205,7 +205,7 @@ fn lines_of(alloc: Global, files: &[SourceFile]) -> Result<Vec<Vec<u32>>, NoMemo
 fn lines_in(alloc: Global, file: &SourceFile) -> Result<Vec<u32>, NoMemory>
     ensures { IfOk result (λ row. row.items ≡ map (λ token. token.line) file.now.tokens) }
 {
-    let mut row = Vec::new(alloc);
+    let mut row = Vec::with_capacity(alloc, file.tokens.len())?;
     for token in file.tokens.as_slice() {
         row.push(token.line)?;
     }
@@ -218,8 +218,7 @@ fn names_of(alloc: Global, files: &[SourceFile]) -> Result<Vec<Text>, NoMemory>
 {
     let mut names = Vec::new(alloc);
     for file in files {
-        let name = Text::make(alloc, file.name.bytes())?;
-        names.push(name)?;
+        names.push(file.name.copy()?)?;
     }
     Ok(names)
 }

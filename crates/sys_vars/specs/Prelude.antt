@@ -21,8 +21,8 @@ use Rattle.sys_vars.specs.Name.{variable_name, timer_name}
 
 -- `VALUE`: its digits, behind `-` where it is below 0
 abbrev pub value_toks : ℤ → List Tok
-value_toks (pos n) = tok.Num (Some n) false ∷ []
-value_toks (negsuc n) = tok.Sign sign.Minus ∷ tok.Num (Some (n + 1)) false ∷ []
+value_toks (pos n) = tok.Num false (Some n) ∷ []
+value_toks (negsuc n) = tok.Sign sign.Minus ∷ tok.Num false (Some (n + 1)) ∷ []
 
 -- `long SPACE::NAME = VALUE ;`
 abbrev pub variable_toks : SysItem → List Tok

@@ -36,7 +36,7 @@ fn tok_copy(alloc: Global, tok: &Tok) -> Result<Tok, NoMemory>
         Tok::Name(text) => Ok(Tok::Name(Text::make(alloc, text.bytes())?)),
         Tok::Word(word) => Ok(Tok::Word(*word)),
         Tok::Sign(sign) => Ok(Tok::Sign(*sign)),
-        Tok::Num { value, ext } => Ok(Tok::Num {
+        Tok::Num { ext, value } => Ok(Tok::Num {
             value: *value,
             ext: *ext,
         }),

@@ -29,5 +29,5 @@ fn joined(alloc: Global, front: &[u8], space: &[u8], name: &[u8]) -> Result<Text
     bytes.extend_from_slice(space)?;
     bytes.extend_from_slice(b"::")?;
     bytes.extend_from_slice(name)?;
-    Text::make(alloc, bytes.as_slice())
+    Text::from_list(alloc, bytes)
 }

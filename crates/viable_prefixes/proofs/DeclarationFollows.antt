@@ -43,7 +43,7 @@ message_followed : (at : ℕ) (ts : List Tok) (stack : Stack) → accepts (goal.
 unfolding read.message
 message_followed at [] stack = refl
 message_followed at (tok.Sign sign.Star ∷ ts) stack = refl
-message_followed at (tok.Num value ext ∷ ts) stack = refl
+message_followed at (tok.Num ext value ∷ ts) stack = refl
 message_followed at (tok.Name name ∷ ts) stack = refl
 message_followed at (_ ∷ ts) stack = refl
 

@@ -32,7 +32,7 @@ message_leaves : (at : ℕ) (ts : List Tok) → Leaves (read.message at ts) (len
 unfolding read.message
 message_leaves at [] = tt
 message_leaves at (tok.Sign sign.Star ∷ ts) = omega arith
-message_leaves at (tok.Num value ext ∷ ts) = omega arith
+message_leaves at (tok.Num ext value ∷ ts) = omega arith
 message_leaves at (tok.Name name ∷ ts) = omega arith
 message_leaves at _ = tt
 

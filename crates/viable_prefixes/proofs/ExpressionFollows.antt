@@ -114,7 +114,7 @@ module _ (inner : Reader) (most : ℕ) (known : IsFollowed inner most) where
   unfolding read.operand
   operand_followed at level [] stack fits = refl
   operand_followed at level (tok.Name name ∷ ts) stack fits = named_followed at name ts (goal.Operators level ∷ stack) (omega arith)
-  operand_followed at level (tok.Num value ext ∷ ts) stack fits = refl
+  operand_followed at level (tok.Num ext value ∷ ts) stack fits = refl
   operand_followed at level (tok.Char value ∷ ts) stack fits = refl
   operand_followed at level (tok.Str text ∷ ts) stack fits = refl
   operand_followed at level (tok.Word word.This ∷ ts) stack fits = refl

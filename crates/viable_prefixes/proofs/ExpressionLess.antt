@@ -60,7 +60,7 @@ module _ (inner : Reader) (less : (level : ℕ) (ts : List Tok) → Leaves (inne
   unfolding read.operand
   operand_leaves at [] = tt
   operand_leaves at (tok.Name name ∷ ts) = named_leaves at name ts
-  operand_leaves at (tok.Num value ext ∷ ts) = omega arith
+  operand_leaves at (tok.Num ext value ∷ ts) = omega arith
   operand_leaves at (tok.Char value ∷ ts) = omega arith
   operand_leaves at (tok.Str text ∷ ts) = omega arith
   operand_leaves at (tok.Word word.This ∷ ts) = omega arith

@@ -51,7 +51,7 @@ pub sign_first : (wanted : Sign) (t : Tok) (ts : List Tok) → begins wanted (t 
 sign_first wanted (tok.Sign found) ts = refl
 sign_first wanted (tok.Name name) ts = refl
 sign_first wanted (tok.Word found) ts = refl
-sign_first wanted (tok.Num value ext) ts = refl
+sign_first wanted (tok.Num ext value) ts = refl
 sign_first wanted tok.Float ts = refl
 sign_first wanted (tok.Char value) ts = refl
 sign_first wanted (tok.Str text) ts = refl
@@ -63,7 +63,7 @@ pub word_first : (wanted : Word) (t : Tok) (ts : List Tok) → begins_word wante
 word_first wanted (tok.Word found) ts = refl
 word_first wanted (tok.Name name) ts = refl
 word_first wanted (tok.Sign found) ts = refl
-word_first wanted (tok.Num value ext) ts = refl
+word_first wanted (tok.Num ext value) ts = refl
 word_first wanted tok.Float ts = refl
 word_first wanted (tok.Char value) ts = refl
 word_first wanted (tok.Str text) ts = refl
@@ -75,7 +75,7 @@ pub kind_first : (t : Tok) (ts : List Tok) → kind_at (t ∷ ts) ≡ kind_in t
 kind_first (tok.Word found) ts = refl
 kind_first (tok.Name name) ts = refl
 kind_first (tok.Sign found) ts = refl
-kind_first (tok.Num value ext) ts = refl
+kind_first (tok.Num ext value) ts = refl
 kind_first tok.Float ts = refl
 kind_first (tok.Char value) ts = refl
 kind_first (tok.Str text) ts = refl
@@ -87,7 +87,7 @@ pub operator_first : (t : Tok) (ts : List Tok) → operator_at (t ∷ ts) ≡ op
 operator_first (tok.Sign found) ts = refl
 operator_first (tok.Name name) ts = refl
 operator_first (tok.Word found) ts = refl
-operator_first (tok.Num value ext) ts = refl
+operator_first (tok.Num ext value) ts = refl
 operator_first tok.Float ts = refl
 operator_first (tok.Char value) ts = refl
 operator_first (tok.Str text) ts = refl

@@ -36,7 +36,7 @@ name_goes (_ ∷ ts) = reads_none (λ stack. refl)
 -- a number
 numeral_goes : (total : ℕ) (ts : List Tok) → Goes (goal.Number ∷ []) (numeral total ts) ts 1
 numeral_goes total [] = reads_none (λ stack. refl)
-numeral_goes total (tok.Num value ext ∷ ts) = goes_behind (λ stack. refl) (gives _ ts)
+numeral_goes total (tok.Num ext value ∷ ts) = goes_behind (λ stack. refl) (gives _ ts)
 numeral_goes total (_ ∷ ts) = reads_none (λ stack. refl)
 
 -- behind the first number of a selector
@@ -53,7 +53,7 @@ unfolding selection one_selection
 selection_goes total [] = reads_none (λ stack. refl)
 selection_goes total (tok.Sign sign.Star ∷ ts) = goes_behind (λ stack. refl) (gives _ ts)
 selection_goes total (tok.Name text ∷ ts) = goes_behind (λ stack. refl) (gives _ ts)
-selection_goes total (tok.Num value ext ∷ ts) = goes_behind (λ stack. refl) (range_goes total _ _ ts)
+selection_goes total (tok.Num ext value ∷ ts) = goes_behind (λ stack. refl) (range_goes total _ _ ts)
 selection_goes total (_ ∷ ts) = reads_none (λ stack. refl)
 
 -- a selector of a channel
@@ -108,7 +108,7 @@ selector_goes total [] = reads_none (λ stack. refl)
 selector_goes total (tok.Name text ∷ ts) =
     goes_behind (λ stack. goals_behind (from.names_channel text) stack ts) (named_goes total (total - suc (length ts)) text ts)
 selector_goes total (tok.Sign sign.Star ∷ ts) = goes_behind (λ stack. refl) (gives _ ts)
-selector_goes total (tok.Num value ext ∷ ts) = goes_behind (λ stack. refl) (goes_then (range_goes total _ _ ts) (λ what ts less. gives _ ts))
+selector_goes total (tok.Num ext value ∷ ts) = goes_behind (λ stack. refl) (goes_then (range_goes total _ _ ts) (λ what ts less. gives _ ts))
 selector_goes total (_ ∷ ts) = reads_none (λ stack. refl)
 
 -- a reader whose goal takes at least a token of any tokens

@@ -121,7 +121,7 @@ module _ (inner : Reader) where
   operand_more : (at : ℕ) (t : Tok) (ts : List Tok) → is_name t ≡ false → IsMore (read.operand inner at (t ∷ ts))
   unfolding read.operand
   operand_more at (tok.Name name) ts other = absurd cc
-  operand_more at (tok.Num value ext) ts other = refl
+  operand_more at (tok.Num ext value) ts other = refl
   operand_more at (tok.Char value) ts other = refl
   operand_more at (tok.Str text) ts other = refl
   operand_more at (tok.Word word.This) ts other = refl

@@ -76,7 +76,7 @@ prefix_stays level (Some op) stack sound = before_operators level stack sound
 expression_stays : (level : ℕ) (t : Tok) (stack : Stack) → is_sound (goal.Expression level ∷ stack) ≡ true
     → stay (expression.expression_from level t stack) ≡ true
 expression_stays level (tok.Name name) stack sound = before_operators level stack sound
-expression_stays level (tok.Num value ext) stack sound = sound
+expression_stays level (tok.Num ext value) stack sound = sound
 expression_stays level (tok.Char value) stack sound = sound
 expression_stays level (tok.Str text) stack sound = sound
 expression_stays level (tok.Word word.This) stack sound = sound
@@ -156,7 +156,7 @@ declarator_stays _ stack sound = refl
 
 message_stays : (t : Tok) (stack : Stack) → is_sound stack ≡ true → stay (expression.message_from t stack) ≡ true
 message_stays (tok.Sign sign.Star) stack sound = sound
-message_stays (tok.Num value ext) stack sound = sound
+message_stays (tok.Num ext value) stack sound = sound
 message_stays (tok.Name name) stack sound = sound
 message_stays _ stack sound = refl
 
@@ -254,7 +254,7 @@ selection_stays : (t : Tok) (stack : Stack) → is_sound (goal.Selection ∷ sta
     → stay (file.selection_from t stack) ≡ true
 selection_stays (tok.Sign sign.Star) stack sound = sound_behind stack sound
 selection_stays (tok.Name name) stack sound = sound_behind stack sound
-selection_stays (tok.Num value ext) stack sound = sound
+selection_stays (tok.Num ext value) stack sound = sound
 selection_stays _ stack sound = refl
 
 channel_stays : (named : Bool) (stack : Stack) → is_sound (goal.Selector ∷ stack) ≡ true
@@ -266,7 +266,7 @@ selector_stays : (t : Tok) (stack : Stack) → is_sound (goal.Selector ∷ stack
     → stay (file.selector_from t stack) ≡ true
 selector_stays (tok.Name name) stack sound = channel_stays (file.names_channel name) stack sound
 selector_stays (tok.Sign sign.Star) stack sound = sound_behind stack sound
-selector_stays (tok.Num value ext) stack sound = sound
+selector_stays (tok.Num ext value) stack sound = sound
 selector_stays _ stack sound = refl
 
 parameter_stays : (t : Tok) (stack : Stack) → is_sound stack ≡ true → stay (file.parameter_from t stack) ≡ true

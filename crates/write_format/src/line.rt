@@ -34,7 +34,7 @@ pub fn render(alloc: Global, f: &Format, numbers: &[i128], cells: &[i128]) -> Re
         )?;
         taken += numbers_in(part);
     }
-    Text::make(alloc, &line)
+    Text::from_list(alloc, line)
 }
 
 /// How many bytes a line has at most, where no field is wider than 20 and no text is shown.

@@ -21,7 +21,7 @@ prefix_from level (Some op) stack = Some (goal.Expression prefix_level ∷ goal.
 -- behind the first token of an expression that binds at a level or more strongly
 abbrev pub expression_from : ℕ → Tok → Stack → Option Stack
 expression_from level (tok.Name name) stack = Some (goal.Call ∷ goal.Operators level ∷ stack)
-expression_from level (tok.Num value ext) stack = Some (goal.Operators level ∷ stack)
+expression_from level (tok.Num ext value) stack = Some (goal.Operators level ∷ stack)
 expression_from level (tok.Char value) stack = Some (goal.Operators level ∷ stack)
 expression_from level (tok.Str text) stack = Some (goal.Operators level ∷ stack)
 expression_from level (tok.Word word.This) stack = Some (goal.Operators level ∷ stack)
@@ -95,7 +95,7 @@ declarator_from _ stack = None
 -- behind the token that says which message is declared
 abbrev pub message_from : Tok → Stack → Option Stack
 message_from (tok.Sign sign.Star) stack = Some stack
-message_from (tok.Num value ext) stack = Some stack
+message_from (tok.Num ext value) stack = Some stack
 message_from (tok.Name name) stack = Some stack
 message_from _ stack = None
 

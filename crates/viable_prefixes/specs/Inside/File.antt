@@ -65,7 +65,7 @@ event_from _ stack = None
 abbrev pub selection_from : Tok → Stack → Option Stack
 selection_from (tok.Sign sign.Star) stack = Some stack
 selection_from (tok.Name name) stack = Some stack
-selection_from (tok.Num value ext) stack = Some (goal.Range ∷ stack)
+selection_from (tok.Num ext value) stack = Some (goal.Range ∷ stack)
 selection_from _ stack = None
 
 -- whether the name is that of a channel
@@ -79,7 +79,7 @@ selector_from t stack = selection_from t stack
 
 -- whether it is a number
 abbrev pub is_number : Tok → Bool
-is_number (tok.Num value ext) = true
+is_number (tok.Num ext value) = true
 is_number _ = false
 
 -- whether it is a key

@@ -42,5 +42,5 @@ returns c =
       has_mark = λ first. c.begins-ext.ensures.1 (subst (IsFirstInClass class.Mark) (sym rest_is) first);
       is_marked = λ marked. subst (IsFirstInClass class.Mark) rest_is (c.begins-ext.ensures.0 marked);
     } c.requires.no_point in
-    subst (λ (value : Option ℕ). IsTokenFront text (record { tok = tok.Num value ext; length = prefix + count + c.from.result }))
+    subst (λ (value : Option ℕ). IsTokenFront text (record { tok = tok.Num ext value; length = prefix + count + c.from.result }))
     (sym c.number-value.ensures) found

@@ -52,7 +52,7 @@ returns c =
     let (within, closing) = first_after class.Quote text place (subst (IsFirstInClass class.Quote) (take_rest text place) (c.begins.ensures.0 c.loop-item-test.false)) in
     let last : drop place text ≡ 34 ∷ drop (place + 1) text = drop_more text place 0 within ∙ ap (λ b. b ∷ drop (place + 1) text) closing in
     let items : AreItems values (drop 1 text) (34 ∷ drop (place + 1) text) = subst (AreItems values (drop 1 text)) last c.loop-item.invariant.items in
-    let made : c.in_ok-make.field-0 ≡ values = c.in_ok-make.ensures ∙ c.as_slice.ensures.value in
+    let made : c.in_ok-from_list.field-0 ≡ values = c.in_ok-from_list.ensures in
     subst (λ (content : List ℕ). IsTokenFront text (record { tok = tok.Str content; length = place + 1 })) (sym made)
     (string_front text (drop 1 text) (drop (place + 1) text) values (place + 1) (quoted text c.requires) items
     (omega (arith, length-drop (place + 1) text, within)))
