@@ -160,7 +160,7 @@ pub enum Instr {
     Drop,
     Jump(u32),
     Zero(u32),
-    Case(i128, u32),
+    Case(u32, i128),
     Back(u32),
     Turn,
     Call(u32),
@@ -508,7 +508,7 @@ fn run<H: Host>(
                     place = target as usize;
                 }
             }
-            Instr::Case(label, target) => {
+            Instr::Case(target, label) => {
                 if *stack.top() == label {
                     stack.pop();
                     place = target as usize;

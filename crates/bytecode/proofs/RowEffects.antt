@@ -122,7 +122,7 @@ ExtendsEffects-row code closed moment m Drop stack = one m stack _ (λ n below. 
 ExtendsEffects-row code closed moment m (Jump target) stack = self m
 ExtendsEffects-row code closed moment m (Zero target) stack =
     one m stack _ (λ n below. either m (int_eq n (pos 0)) _ _ (self m) (self m))
-ExtendsEffects-row code closed moment m (Case label target) stack =
+ExtendsEffects-row code closed moment m (Case target label) stack =
     one m stack _ (λ n below. either m (int_eq n label) _ _ (self m) (self m))
 ExtendsEffects-row code closed moment m (Back target) stack =
     one m stack _ (λ n below. either m (int_eq n (pos 0)) _ _ (self m) (turned m m.turns _ (λ left. self m)))

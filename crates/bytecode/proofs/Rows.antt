@@ -174,11 +174,11 @@ module _ {code : Code} (verified : IsVerified code) (closed : Bool) (moment : �
       IsSafeStep-if s (int_eq n (pos 0)) _ _
       (λ _. IsSafeStep-up s stack (aim (shape_of code (Zero target)) target s.depth) r.goes_the_right_way ns.1 (omega (arith, h, r.takes_what_is_there)) r.targets_agree.0)
       (λ _. IsSafeStep-on_same s stack (ahead (Zero target)) refl ns.1 (omega (arith, h, r.takes_what_is_there)) r.targets_agree.1.0)
-  IsSafeStep-row (Case label target) [] r ns h = absurd (omega (arith, h, r.takes_what_is_there))
-  IsSafeStep-row (Case label target) (n ∷ stack) r ns h =
+  IsSafeStep-row (Case target label) [] r ns h = absurd (omega (arith, h, r.takes_what_is_there))
+  IsSafeStep-row (Case target label) (n ∷ stack) r ns h =
       IsSafeStep-if s (int_eq n label) _ _
-      (λ _. IsSafeStep-up s stack (aim (shape_of code (Case label target)) target s.depth) r.goes_the_right_way ns.1 (omega (arith, h, r.takes_what_is_there)) r.targets_agree.0)
-      (λ _. IsSafeStep-on_same s (n ∷ stack) (ahead (Case label target)) refl ns (omega (arith, h, r.takes_what_is_there)) r.targets_agree.1.0)
+      (λ _. IsSafeStep-up s stack (aim (shape_of code (Case target label)) target s.depth) r.goes_the_right_way ns.1 (omega (arith, h, r.takes_what_is_there)) r.targets_agree.0)
+      (λ _. IsSafeStep-on_same s (n ∷ stack) (ahead (Case target label)) refl ns (omega (arith, h, r.takes_what_is_there)) r.targets_agree.1.0)
   IsSafeStep-row (Back target) [] r ns h = absurd (omega (arith, h, r.takes_what_is_there))
   IsSafeStep-row (Back target) (n ∷ stack) r ns h =
       IsSafeStep-if s (int_eq n (pos 0)) _ _

@@ -45,7 +45,7 @@ shape_of code Dup = record { taken = 1; given = 2; flow = flow.Next; named = Not
 shape_of code Drop = record { taken = 1; given = 0; flow = flow.Next; named = Nothing }
 shape_of code (Jump target) = record { taken = 0; given = 0; flow = flow.Jump target; named = Nothing }
 shape_of code (Zero target) = record { taken = 1; given = 0; flow = flow.Branch target; named = Nothing }
-shape_of code (Case label target) =
+shape_of code (Case target label) =
     record { taken = 1; given = 1; flow = flow.Branch target; named = Number label }
 shape_of code (Back target) = record { taken = 1; given = 0; flow = flow.Loop target; named = Nothing }
 shape_of code Turn = record { taken = 0; given = 0; flow = flow.Next; named = Nothing }

@@ -154,7 +154,7 @@ row code closed moment m Drop stack = taking_one stack (λ n below. goes_on m be
 row code closed moment m (Jump target) stack = goes_to target m stack
 row code closed moment m (Zero target) stack =
     taking_one stack (λ n below. if int_eq n (pos 0) then goes_to target m below else goes_on m below)
-row code closed moment m (Case label target) stack =
+row code closed moment m (Case target label) stack =
     taking_one stack (λ n below. if int_eq n label then goes_to target m below else goes_on m (n ∷ below))
 row code closed moment m (Back target) stack =
     taking_one stack (λ n below. if int_eq n (pos 0) then goes_on m below

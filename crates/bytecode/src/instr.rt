@@ -54,8 +54,9 @@ pub enum Instr {
     Jump(u32),
     /// Takes a number and goes to a place where it is 0.
     Zero(u32),
-    /// Where the top is this number, takes it and goes to a place.
-    Case(i128, u32),
+    /// Where the top is this number, takes it and goes to a place. The place stands before the number, so
+    /// that an instruction has 32 bytes and not 48.
+    Case(u32, i128),
     /// Takes a number and, where it is not 0, takes a turn and goes to a place.
     Back(u32),
     /// Takes a turn.

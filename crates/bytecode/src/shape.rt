@@ -91,7 +91,7 @@ pub(crate) fn shape_of(code: &Code, instr: Instr) -> Shape
         Instr::Drop => (1, 0, Flow::Next, Named::Nothing),
         Instr::Jump(target) => (0, 0, Flow::Jump(target), Named::Nothing),
         Instr::Zero(target) => (1, 0, Flow::Branch(target), Named::Nothing),
-        Instr::Case(label, target) => (1, 1, Flow::Branch(target), Named::Number(label)),
+        Instr::Case(target, label) => (1, 1, Flow::Branch(target), Named::Number(label)),
         Instr::Back(target) => (1, 0, Flow::Loop(target), Named::Nothing),
         Instr::Turn => (0, 0, Flow::Next, Named::Nothing),
         Instr::Call(f) => (0, given_by_call(code, f), Flow::Call(f), Named::Nothing),

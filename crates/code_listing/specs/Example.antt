@@ -95,7 +95,7 @@ falling_switch = Switch' (cell 15) (replicate 3 tt)
 -- its code: one chain of cases; the second group runs into the third, and the last `break` has no instruction
 abbrev pub falling_switch_listing : Listing
 falling_switch_listing =
-    (instr.Load 15, 0) ∷ (instr.Case (pos 1) 6, 1) ∷ (instr.Case (pos 2) 10, 1) ∷ (instr.Case (pos 3) 10, 1) ∷
+    (instr.Load 15, 0) ∷ (instr.Case 6 (pos 1), 1) ∷ (instr.Case 10 (pos 2), 1) ∷ (instr.Case 10 (pos 3), 1) ∷
     (instr.Drop, 1) ∷ (instr.Jump 13, 0) ∷
     (instr.Push (pos 1), 0) ∷ (instr.Store 16, 1) ∷ (instr.Drop, 1) ∷ (instr.Jump 16, 0) ∷
     (instr.Push (pos 2), 0) ∷ (instr.Store 16, 1) ∷ (instr.Drop, 1) ∷

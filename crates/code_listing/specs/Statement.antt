@@ -60,7 +60,7 @@ for_test_code typed (Some e) target place = back_code typed e target place
 abbrev pub labels_code : List (Option ℤ) → ℕ → Listing
 labels_code [] at = []
 labels_code (None ∷ labels) at = labels_code labels at
-labels_code (Some n ∷ labels) at = (instr.Case n at, 1) ∷ labels_code labels at
+labels_code (Some n ∷ labels) at = (instr.Case at n, 1) ∷ labels_code labels at
 
 -- the cases of groups with these sizes, the first of which is at a place
 abbrev pub cases_code : List (List (Option ℤ)) → List ℕ → ℕ → Listing

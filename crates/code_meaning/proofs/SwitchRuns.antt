@@ -65,13 +65,13 @@ module _ (code : Code) (closed : Bool) (moment : ℕ) (gives : Bool) (stack : Li
           Comes code closed moment (machine_at (place + 1) (v ∷ stack) calls w) (further (place + 1 + count_by is_some labels)) →
           Comes code closed moment m (if z || list_any (same_label (Some v)) labels
           then machine_at target stack calls w else machine_at (place + count_by is_some (Some n ∷ labels)) (v ∷ stack) calls w)
-      by_match true e next = one_moves code closed moment place target (v ∷ stack) stack calls w (instr.Case n target) h.0.0
+      by_match true e next = one_moves code closed moment place target (v ∷ stack) stack calls w (instr.Case target n) h.0.0
           (ap (λ z. if z then goes_to target m stack else goes_on m (v ∷ stack)) e)
       by_match false e next =
           let len : place + 1 + count_by is_some labels ≡ place + count_by is_some (Some n ∷ labels) =
           omega (arith, sum_by-cons (λ (label : Option ℤ). if is_some label then 1 else 0) (Some n) labels) in
           subst (λ p. Comes code closed moment m (further p)) len
-          (comes_on code closed moment (one_moves code closed moment place (place + 1) (v ∷ stack) (v ∷ stack) calls w (instr.Case n target) h.0.0
+          (comes_on code closed moment (one_moves code closed moment place (place + 1) (v ∷ stack) (v ∷ stack) calls w (instr.Case target n) h.0.0
           (ap (λ z. if z then goes_to target m stack else goes_on m (v ∷ stack)) e)) next)
 
   -- where cases lead: to a group, the value being dropped; or past them, with the value still there

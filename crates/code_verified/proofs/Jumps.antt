@@ -81,7 +81,7 @@ module _ (s : Site) where
 
   -- `Case`
   pub keep_case : {label : ℤ} {place target depth : ℕ} → IsNumber label →
-      Stands s place (instr.Case label target) (depth + 1) →
+      Stands s place (instr.Case target label) (depth + 1) →
       s.function.start + (depth + 1) ≤ place → place < target → Reached s target depth →
       Reached s (place + 1) (depth + 1) → Keep s place (place + 1)
   keep_case {label} {place} {target} {depth} in_range stands low forward next further = keep_one s stands (record {

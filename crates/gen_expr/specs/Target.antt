@@ -7,7 +7,7 @@ use Rattle.bytecode.specs.declared.instr.Instr.TheVariants.{Jump, Zero, Case, Ba
 abbrev pub HasTarget : Instr → Type 0
 HasTarget (Jump target) = ⊤
 HasTarget (Zero target) = ⊤
-HasTarget (Case label target) = ⊤
+HasTarget (Case target label) = ⊤
 HasTarget (Back target) = ⊤
 HasTarget _ = ⊥
 
@@ -15,6 +15,6 @@ HasTarget _ = ⊥
 abbrev pub aimed : ℕ → Instr → Instr
 aimed target (Jump old) = Jump target
 aimed target (Zero old) = Zero target
-aimed target (Case label old) = Case label target
+aimed target (Case old label) = Case target label
 aimed target (Back old) = Back target
 aimed target other = other

@@ -106,7 +106,7 @@ fn aimed(instr: Instr, target: u32) -> Instr
     match instr {
         Instr::Jump(_) => Instr::Jump(target),
         Instr::Zero(_) => Instr::Zero(target),
-        Instr::Case(label, _) => Instr::Case(label, target),
+        Instr::Case(_, label) => Instr::Case(target, label),
         Instr::Back(_) => Instr::Back(target),
         other => other,
     }

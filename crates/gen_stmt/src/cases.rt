@@ -35,7 +35,7 @@ fn add_label(label: Option<i128>, at: u32, into: &mut Emitter) -> Result<(), NoM
     match label {
         None => Ok(()),
         Some(n) => {
-            into.add(Instr::Case(n, at), 1)?;
+            into.add(Instr::Case(at, n), 1)?;
             Ok(())
         }
     }

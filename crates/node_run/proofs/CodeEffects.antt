@@ -164,7 +164,7 @@ module _ (code : Code) (m : Machine) (before : AreOf code m) where
   row_of units closed moment (Jump target) stack names = before
   row_of units closed moment (Zero target) stack names =
       one stack _ (λ n below. either (int_eq n (pos 0)) _ _ before before)
-  row_of units closed moment (Case label target) stack names =
+  row_of units closed moment (Case target label) stack names =
       one stack _ (λ n below. either (int_eq n label) _ _ before before)
   row_of units closed moment (Back target) stack names =
       one stack _ (λ n below. either (int_eq n (pos 0)) _ _ before (turned m.turns _ (λ left. before)))

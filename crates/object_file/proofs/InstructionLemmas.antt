@@ -78,7 +78,7 @@ module _ (number : IsComplete integer (FitsSigned w128) integer_at) (place : IsC
   instruction_complete Drop rest sound = refl
   instruction_complete (Jump a) rest sound = placed 18 a (Jump a) rest refl
   instruction_complete (Zero a) rest sound = placed 19 a (Zero a) rest refl
-  instruction_complete (Case n a) rest sound = tried_complete (with_number_and_place 20) (Case n a) (λ (p : ℤ × ℕ). integer p.0 ++ dword p.1) (λ p. FitsSigned w128 p.0 × ⊤) (pair_at integer_at dword_at) labelled (n, a) rest (sound, tt) refl
+  instruction_complete (Case a n) rest sound = tried_complete (with_number_and_place 20) (Case a n) (λ (p : ℤ × ℕ). integer p.0 ++ dword p.1) (λ p. FitsSigned w128 p.0 × ⊤) (pair_at integer_at dword_at) labelled (n, a) rest (sound, tt) refl
   instruction_complete (Back a) rest sound = placed 21 a (Back a) rest refl
   instruction_complete Turn rest sound = refl
   instruction_complete (Call a) rest sound = placed 23 a (Call a) rest refl

@@ -61,7 +61,7 @@ instruction_text Dup = byte 16
 instruction_text Drop = byte 17
 instruction_text (Jump target) = byte 18 ++ dword target
 instruction_text (Zero target) = byte 19 ++ dword target
-instruction_text (Case label target) = byte 20 ++ integer label ++ dword target
+instruction_text (Case target label) = byte 20 ++ integer label ++ dword target
 instruction_text (Back target) = byte 21 ++ dword target
 instruction_text Turn = byte 22
 instruction_text (Call function) = byte 23 ++ dword function
@@ -78,6 +78,6 @@ instruction_text Now = byte 32
 -- a number of an instruction has 128 bits, and a field is one of four
 abbrev pub IsInRange : Instr → Type 0
 IsInRange (Push n) = FitsSigned w128 n
-IsInRange (Case label target) = FitsSigned w128 label
+IsInRange (Case target label) = FitsSigned w128 label
 IsInRange (SetField field at) = field ≤ 3
 IsInRange _ = ⊤

@@ -315,7 +315,7 @@ fn with_number_and_place(n: u8, label: i128, target: u32) -> Option<Instr>
     ensures range { FitsSigned w128 label → IfSome result IsInRange }
 {
     if n == 20 {
-        Some(Instr::Case(label, target))
+        Some(Instr::Case(target, label))
     } else {
         None
     }
@@ -459,7 +459,7 @@ impl Stored for Instr {
             Instr::Drop => 17u8.write(into),
             Instr::Jump(target) => (18u8, *target).write(into),
             Instr::Zero(target) => (19u8, *target).write(into),
-            Instr::Case(label, target) => (20u8, (*label, *target)).write(into),
+            Instr::Case(target, label) => (20u8, (*label, *target)).write(into),
             Instr::Back(target) => (21u8, *target).write(into),
             Instr::Turn => 22u8.write(into),
             Instr::Call(function) => (23u8, *function).write(into),

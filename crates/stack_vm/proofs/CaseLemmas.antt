@@ -40,7 +40,7 @@ no_cases code start = record { within = All-nil _; whole = λ place from below. 
 
 -- one Case more, behind them
 pub one_more : (code : Code) (start : ℕ) (cases : List (ℤ × ℕ)) (label : ℤ) (target place : ℕ) → place ≡ start + length cases →
-    slice_get code.instrs place ≡ Some (Case label target) → AreCasesFrom code start cases → AreCasesFrom code start (cases ++ (label, place) ∷ [])
+    slice_get code.instrs place ≡ Some (Case target label) → AreCasesFrom code start cases → AreCasesFrom code start (cases ++ (label, place) ∷ [])
 one_more code start cases label target place e is are =
     let long = length_push cases (label, place) in
     record {
@@ -98,14 +98,14 @@ index_more code index cases is run place found e =
 
 -- the label of a Case of verified code is a number
 pub label_is_number : (code : Code) → IsVerified code → (place target : ℕ) (label : ℤ) → place < length code.instrs →
-    slice_get code.instrs place ≡ Some (Case label target) → IsNumber label
+    slice_get code.instrs place ≡ Some (Case target label) → IsNumber label
 label_is_number code verified place target label below is =
     let has = Cover-has 0 code.functions (length code.instrs) verified.laid_out.covered place (omega arith) below in
     let rule = rule_at code verified has.number has.function place has.is_there has.inside in
-    let same : rule.instr ≡ Case label target = (let e : Some rule.instr ≡ Some (Case label target) = sym rule.is_instr ∙ is in cc) in
+    let same : rule.instr ≡ Case target label = (let e : Some rule.instr ≡ Some (Case target label) = sym rule.is_instr ∙ is in cc) in
     names_number rule.instr same rule.keeps.names_exist
   where
-    names_number : (instr : Instr) → instr ≡ Case label target → NamesWhatExists code (shape_of code instr).named → IsNumber label
+    names_number : (instr : Instr) → instr ≡ Case target label → NamesWhatExists code (shape_of code instr).named → IsNumber label
     names_number instr e named = subst (λ (i : Instr). NamesWhatExists code (shape_of code i).named) e named
 
 -- ---- Cases with other labels
@@ -138,7 +138,7 @@ others_all code start cases are n none place from before =
 -- ---- passing over them
 
 other_row : (code : Code) (closed : Bool) (moment : ℕ) (m : Machine) (label : ℤ) (target : ℕ) (n : ℤ) (below : List ℤ) → m.stack ≡ n ∷ below → label ≢ n →
-    row code closed moment m (Case label target) m.stack ≡ Goes (record m { place = m.place + 1 })
+    row code closed moment m (Case target label) m.stack ≡ Goes (record m { place = m.place + 1 })
 other_row code closed moment m label target n below e other =
     let doing : ℤ → List ℤ → Next = λ top rest. cond (int_eq top label) (goes_to target m rest) (goes_on m (top ∷ rest)) in
     let not_equal : int_eq n label ≡ false = differs (int_eq n label) (Decides-int_eq n label) in
@@ -156,7 +156,7 @@ pass_over code closed moment n below zero m e others = ap (λ (p : ℕ). Goes (r
 pass_over code closed moment n below (suc count) m e others =
     let here = others m.place (omega arith) (omega arith) in
     let next : Machine = record m { place = m.place + 1 } in
-    let one : step code closed moment m ≡ Goes next = step_is_row code closed moment m (Case here.label here.target) here.is_case
+    let one : step code closed moment m ≡ Goes next = step_is_row code closed moment m (Case here.target here.label) here.is_case
     ∙ other_row code closed moment m here.label here.target n below e here.other in
     ap (λ (after : Next). continuing after (λ m'. go code closed moment count m')) one
     ∙ pass_over code closed moment n below count next e (λ place from before. others place (omega (arith, from)) (omega (arith, before)))

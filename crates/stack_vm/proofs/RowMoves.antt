@@ -182,7 +182,7 @@ module _ (code : Code) (function : Fun) (depth : ℕ) (m : Machine) where
       to target reached.0 (omega arith) refl refl
   Steps-row closed moment (Zero target) stack is taken reached =
       one stack _ (λ n below. either (int_eq n (pos 0)) _ _ (to target reached.0 (omega arith) refl refl) (on reached.1.0 (omega arith) refl refl))
-  Steps-row closed moment (Case label target) stack is taken reached =
+  Steps-row closed moment (Case target label) stack is taken reached =
       one stack _ (λ n below. either (int_eq n label) _ _ (to target reached.0 (omega arith) refl refl) (on reached.1.0 (omega arith) refl refl))
   Steps-row closed moment (Back target) stack is taken reached =
       one stack _ (λ n below. either (int_eq n (pos 0)) _ _ (on reached.1.0 (omega arith) refl refl)

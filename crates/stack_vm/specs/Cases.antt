@@ -10,7 +10,7 @@ use Rattle.bytecode.specs.declared.instr.Instr.TheVariants.{Case}
 pub record IsListed (code : Code) (cases : List (ℤ × ℕ)) (place : ℕ) : Type 0 where
   pub label : ℤ
   pub target : ℕ
-  pub is_case : slice_get code.instrs place ≡ Some (Case label target)
+  pub is_case : slice_get code.instrs place ≡ Some (Case target label)
   pub is_listed : Contains cases (label, place)
 
 -- a list has the Cases of as many places as it is long, from this place on: each by its label and its place
@@ -36,7 +36,7 @@ IsIndexOf code index = (place : ℕ) (cases : List (ℤ × ℕ)) →
 pub record HasOtherLabel (code : Code) (n : ℤ) (place : ℕ) : Type 0 where
   pub label : ℤ
   pub target : ℕ
-  pub is_case : slice_get code.instrs place ≡ Some (Case label target)
+  pub is_case : slice_get code.instrs place ≡ Some (Case target label)
   pub other : label ≢ n
 
 -- so has each place from one up to another

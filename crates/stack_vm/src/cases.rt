@@ -92,7 +92,7 @@ fn cases_from(alloc: Global, code: &Code, start: usize) -> Result<Vec<(i128, usi
     let instrs = code.instrs.as_slice();
     let mut cases = Vec::new(alloc);
     for place in start..instrs.len() {
-        let Instr::Case(label, _) = instrs[place] else {
+        let Instr::Case(_, label) = instrs[place] else {
             break;
         };
         cases.push((label, place))?;
@@ -116,7 +116,7 @@ pub(crate) fn has_run(index: &Items<Items<(i128, usize)>>, place: usize) -> bool
 #[cold]
 #[inline(never)]
 pub(crate) fn pass_run(state: &mut State, index: &Items<Items<(i128, usize)>>)
-    requires ready { (code : Code) × (label : ℤ) × (target : ℕ) × IsReady code (Case label target) state.old }
+    requires ready { (code : Code) × (label : ℤ) × (target : ℕ) × IsReady code (Case target label) state.old }
     requires index { (code : Code) × IsIndexOf code index.now }
     ensures { (code : Code) → IsIndexOf code index.now →
         HasOtherLabel code (top_of state.old) state.old.place → Passes code state.old state.new }

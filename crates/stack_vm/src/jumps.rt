@@ -45,9 +45,9 @@ pub(crate) fn jump_at(
     label: i128,
     target: u32,
 ) -> Result<(), Needs>
-    requires { (code : Code) × IsReady code (Case label target) state.old }
-    ensures jumps { OnOk result (Does (Case label target) state.old None state.new) }
-    ensures needs { IfErr result (IsNeededBy (Case label target) state.new) }
+    requires { (code : Code) × IsReady code (Case target label) state.old }
+    ensures jumps { OnOk result (Does (Case target label) state.old None state.new) }
+    ensures needs { IfErr result (IsNeededBy (Case target label) state.new) }
     ensures stays { OnErr result (state.new ≡ state.old) }
 {
     if is_equal(state.top(), label) {

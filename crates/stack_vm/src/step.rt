@@ -60,7 +60,7 @@ pub(crate) fn step(
         Instr::Drop => operands::take(state),
         Instr::Jump(target) => jumps::jump(state, target),
         Instr::Zero(target) => jumps::jump_at_zero(state, target),
-        Instr::Case(label, target) => jumps::jump_at(state, indexed, label, target)?,
+        Instr::Case(target, label) => jumps::jump_at(state, indexed, label, target)?,
         Instr::Back(target) => return Ok(jumps::jump_back(state, target).err()),
         Instr::Turn => return Ok(calls::turn(state).err()),
         Instr::Call(f) => return Ok(calls::call(state, code, f).err()),

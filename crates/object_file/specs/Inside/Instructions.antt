@@ -110,7 +110,7 @@ with_operation n parts = if n == 11 then Some (Bin parts.0 parts.1) else None
 
 -- the instruction of a number that holds a number of 128 bits and a place
 abbrev pub with_number_and_place : ℕ → ℤ × ℕ → Option Instr
-with_number_and_place n parts = if n == 20 then Some (Case parts.0 parts.1) else None
+with_number_and_place n parts = if n == 20 then Some (Case parts.1 parts.0) else None
 
 -- the instruction of a number that holds a timer and a truth value
 abbrev pub with_place_and_truth : ℕ → ℕ × Bool → Option Instr

@@ -44,7 +44,7 @@ top_of s = slice_index_or s.stack 0 (pos 0)
 pub record IsOtherCase (instr : Instr) (n : ℤ) : Type 0 where
   pub label : ℤ
   pub target : ℕ
-  pub is_case : instr ≡ Case label target
+  pub is_case : instr ≡ Case target label
   pub other : label ≢ n
 
 -- what an instruction needs, at a state, that a step does not have at hand

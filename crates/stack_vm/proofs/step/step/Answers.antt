@@ -59,13 +59,13 @@ returns-in-Zero-clause-does c = does_as c.args.code.now c.in-Zero.is c.jump_at_z
 pub returns-in_ok-jump_at-in-Case-clause-does : goal.returns-in_ok-jump_at-in-Case-clause-does
 returns-in_ok-jump_at-in-Case-clause-does c =
     let named = (ready_as c.in-Case.is c.requires).named in
-    does_as c.args.code.now (c.in-Case.is ∙ ap (λ n. Case n c.in-Case.target) (sym (read_back c.in-Case.label named))) c.in_ok-jump_at-in-Case.ensures.jumps
+    does_as c.args.code.now (c.in-Case.is ∙ ap (λ n. Case c.in-Case.target n) (sym (read_back c.in-Case.label named))) c.in_ok-jump_at-in-Case.ensures.jumps
 
 pub returns-in_err-jump_at-in-Case-clause-needs : goal.returns-in_err-jump_at-in-Case-clause-needs
 returns-in_err-jump_at-in-Case-clause-needs c =
     let named = (ready_as c.in-Case.is c.requires).named in
     let p = err_from_is_err_and c.from_residual.result c.from_residual.ensures.1 in
-    let e = c.in-Case.is ∙ ap (λ n. Case n c.in-Case.target) (sym (read_back c.in-Case.label named)) in
+    let e = c.in-Case.is ∙ ap (λ n. Case c.in-Case.target n) (sym (read_back c.in-Case.label named)) in
     rw (p.1, p.2) (needed_as c.jump_at.new.state c.in_err-jump_at-in-Case.field-0.0 e c.in_err-jump_at-in-Case.ensures.needs)
 
 pub returns-in-Copy-clause-does : goal.returns-in-Copy-clause-does
