@@ -20,5 +20,6 @@ pub mod ReadingLemmas
 mod PartialReadingLemmas
 mod CommentFronts
 mod StepLemmas
+mod LineLemmas
 mod ItemFronts
 mod ScreeningLemmas

@@ -1,19 +1,24 @@
 -- How a reading grows piece by piece, from the beginning of a text to its end or its bad place.
-use Rattle.std.proofs.Common.{◌≡◌, ◌<◌, ◌≤◌, ◌+◌, ◌-◌, ℕ, List, [], ◌∷◌, ◌++◌, length, take, drop, inl, inr, Option, Some, None, refl, sym, ap, subst, ◌∙◌, arith, eqb, length-drop, length-append}
+use Rattle.std.proofs.Common.{◌≡◌, ◌<◌, ◌≤◌, ◌+◌, ◌-◌, ℕ, List, [], ◌∷◌, ◌++◌, length, take, drop, get_or, inl, inr, Option, Some, None, refl, sym, ap, subst, ◌∙◌, arith, eqb, length-drop, length-append, drop-cons}
 use Rattle.std.specs.Prelude.{not}
 use Rattle.std.proofs.lemmas.Bool.{cases_lt}
 use Rattle.std.specs.List.{suffix_len}
 use Rattle.std.proofs.lemmas.List.Sums.{count_by-le-length}
-use Rattle.std.proofs.lemmas.List.{append_assoc, append-nil, drop-drop, drop_all, take_all, take-append-le, length-take-le}
+use Rattle.std.proofs.lemmas.List.{append_assoc, append-nil, drop-drop, drop_all, take_all, take_at, take-append-le, length-take-le}
+use Rattle.capl_lexer.specs.Spelling.{IsBlank}
 use Rattle.capl_lexer.specs.Reading.{Piece, Blank, Comment, Lexeme, IsFront, AreFront, first_place, line_at, column_at, tokens_at, IsReading, IsBadPlace}
+use Rattle.capl_lexer.specs.Inside.ByteClass.{IsFirstInClass}
 use Rattle.capl_lexer.specs.Inside.Step.{IsStep, HasNoPiece, token_of}
-use Rattle.capl_lexer.specs.Inside.Position.{IsPositionIn}
+use Rattle.capl_lexer.specs.Inside.Position.{IsPositionIn, IsInLine}
+use Rattle.capl_lexer.specs.declared.byte_class.ByteClass.TheVariants as class
 use Rattle.capl_lexer.specs.declared.position.Position.{Position}
 use Rattle.capl_lexer.specs.declared.step.Step.{Step}
 use Rattle.capl_lexer.specs.declared.token.Tok.{Tok}
 use Rattle.capl_lexer.specs.declared.token.Token.{Token}
 use Rattle.capl_lexer.proofs.CommentLemmas.{comment-positive}
 use Rattle.capl_lexer.proofs.SpellingLemmas.{spelling-front}
+use Rattle.capl_lexer.proofs.StepLemmas.{step_blank}
+use Rattle.capl_lexer.proofs.LineLemmas.{spelling-in_line}
 
 -- pieces that give these tokens lead from the beginning to the place
 pub record HasRead (text : List ℕ) (place : ℕ) (tokens : List Token) : Type 0 where
@@ -52,6 +57,15 @@ piece-positive (Comment bytes) text rest (comment, split) = comment-positive byt
 piece-positive (Lexeme bytes tok) text rest (spells, split, longest, no_comment) =
     let front = spelling-front bytes tok spells in omega (arith, ap length front.is)
 
+-- the bytes of a token end no line
+piece-in_line : (piece : Piece) (text rest : List ℕ) (size : ℕ) (tok : Tok) → IsFront piece text rest
+    → size_of piece ≡ size → Some tok ≡ token_of piece → IsInLine (take size text)
+piece-in_line (Blank byte) text rest size tok front is some = cc
+piece-in_line (Comment bytes) text rest size tok front is some = cc
+piece-in_line (Lexeme bytes spelled) text rest size tok (spells, split, longest, no_comment) is some =
+    let taken : take size text ≡ bytes = ap (take size) split ∙ take_at bytes rest size is in
+    subst IsInLine (sym taken) (spelling-in_line bytes spelled spells)
+
 -- the tokens of a piece, and then those of the pieces behind it
 tokens_at-step : (text : List ℕ) (place : ℕ) (piece : Piece) (more : List Piece)
     → tokens_at text place (piece ∷ more) ≡ tokens_at text place (piece ∷ []) ++ tokens_at text (place + size_of piece) more
@@ -75,6 +89,13 @@ step-positive text place step is =
 pub step-within : (text : List ℕ) (place : ℕ) (step : Step) → place ≤ length text → IsStep (drop place text) step
     → place + step.length ≤ length text
 step-within text place step within is = omega (arith, is.within, length-drop place text)
+
+-- the bytes of a step that is a token end no line
+pub step-in_line : (text : List ℕ) (place : ℕ) (step : Step) (tok : Tok) → IsStep (drop place text) step
+    → step.tok ≡ Some tok → IsInLine (take step.length (drop place text))
+step-in_line text place step tok is some =
+    piece-in_line is.piece (drop place text) (drop step.length (drop place text)) step.length tok is.front
+    (step-size text place step is) (sym some ∙ is.tok)
 
 -- a piece is read
 read_piece : (text : List ℕ) (place : ℕ) (tokens : List Token) (step : Step) → HasRead text place tokens
@@ -162,6 +183,14 @@ pub keep_passed : (limit : ℕ) (text : List ℕ) (place : ℕ) (tokens : List T
     → IsStep (drop place text) step → step.tok ≡ None → HasKept limit text (place + step.length) tokens
 keep_passed limit text place tokens step has is none =
     record { all = has.all; read = read_passed text place has.all step has.read is none; kept = has.kept }
+
+-- a blank is passed over
+pub keep_blank : (limit : ℕ) (text : List ℕ) (place : ℕ) (tokens : List Token) → HasKept limit text place tokens
+    → place < length text → IsBlank (get_or text place 0) → HasKept limit text (place + 1) tokens
+keep_blank limit text place tokens has within blank =
+    let step : Step = record { tok = None; length = 1 } in
+    let first = subst (IsFirstInClass class.Blank) (sym (drop-cons text place 0 within)) blank in
+    keep_passed limit text place tokens step has (step_blank (drop place text) step first refl refl) refl
 
 -- a token is kept
 pub keep_token : (limit : ℕ) (text : List ℕ) (place : ℕ) (tokens : List Token) (step : Step) (token : Token) → HasKept limit text place tokens

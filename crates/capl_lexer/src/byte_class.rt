@@ -38,6 +38,7 @@ pub(crate) enum ByteClass {
 
 impl ByteClass {
     /// Whether the byte is of this class.
+    #[inline(always)]
     pub(crate) fn contains(self, byte: u8) -> bool
         ensures { IsTrue result ↔ IsInClass self byte }
     {
@@ -45,7 +46,10 @@ impl ByteClass {
             ByteClass::Blank => matches!(byte, 9..=13 | b' '),
             ByteClass::BlankInLine => matches!(byte, 9 | 11..=13 | b' '),
             ByteClass::NameStart => matches!(byte, b'A'..=b'Z' | b'a'..=b'z' | b'_'),
-            ByteClass::NamePart => matches!(byte, b'A'..=b'Z' | b'a'..=b'z' | b'_' | b'0'..=b'9'),
+            // Most bytes of names are small letters, so that these are tested first.
+            ByteClass::NamePart => {
+                matches!(byte, b'a'..=b'z') || matches!(byte, b'A'..=b'Z' | b'_' | b'0'..=b'9')
+            }
             ByteClass::Letter => matches!(byte, b'A'..=b'Z' | b'a'..=b'z'),
             ByteClass::Digit => matches!(byte, b'0'..=b'9'),
             ByteClass::HexDigit => matches!(byte, b'0'..=b'9' | b'A'..=b'F' | b'a'..=b'f'),

@@ -1,8 +1,10 @@
 // Places in a text, with their lines and columns.
 
-ghost use Rattle.std.specs.Prelude.{◌≡◌, ◌+◌, ◌<◌, ◌≤◌, length};
+ghost use Rattle.std.specs.Prelude.{◌≡◌, ◌+◌, ◌<◌, ◌≤◌, length, take, drop};
 ghost use Rattle.capl_lexer.specs.Reading.{first_place};
-ghost use Rattle.capl_lexer.specs.Inside.Position.{IsPositionIn};
+ghost use Rattle.capl_lexer.specs.Inside.Position.{IsPositionIn, IsInLine};
+
+use memchr::memchr;
 
 /// A place in a text, with its line and its column.
 #[derive(Clone, Copy, Debug)]
@@ -41,15 +43,31 @@ impl Position {
         ensures at { IsPositionIn text.now result }
         ensures place { result.place ≡ self.place + count }
     {
+        let end = self.place + count;
         let mut position = self;
-        for _ in 0..count {
-            position = position.next(text);
+        while let Some(ahead) = memchr(b'\n', &text[position.place..end]) {
+            position = position.along(text, ahead).next(text);
         }
-        position
+        position.along(text, end - position.place)
+    }
+
+    /// The position so many bytes on, none of which ends a line. Takes constant time.
+    pub(crate) fn along(self, _text: &[u8], count: usize) -> Position
+        requires at { IsPositionIn _text.now self }
+        requires within { self.place + count ≤ length _text.now }
+        requires in_line { IsInLine (take count (drop self.place _text.now)) }
+        ensures at { IsPositionIn _text.now result }
+        ensures place { result.place ≡ self.place + count }
+    {
+        Position {
+            place: self.place + count,
+            line: self.line,
+            column: self.column + count,
+        }
     }
 
     /// The position one byte on.
-    fn next(self, text: &[u8]) -> Position
+    pub(crate) fn next(self, text: &[u8]) -> Position
         requires at { IsPositionIn text.now self }
         requires within { self.place < length text.now }
         ensures at { IsPositionIn text.now result }

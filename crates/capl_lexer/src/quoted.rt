@@ -61,6 +61,7 @@ pub(crate) fn character(text: &[u8]) -> Option<Front>
 }
 
 /// The byte that stands for itself, or the escape, at the front of the text.
+#[inline(always)]
 fn item_front(text: &[u8], plain: ByteClass) -> Option<Item>
     ensures { MatchOption result (HasNoItem plain text.now) (IsItemFront plain text.now) }
 {

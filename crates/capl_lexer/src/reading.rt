@@ -5,6 +5,7 @@ ghost use Rattle.capl_lexer.specs.Reading.{IsReading, token_limit};
 ghost use Rattle.capl_lexer.specs.Refusal.{IsRefusalOf, RefusesAllReadings};
 ghost use Rattle.capl_lexer.specs.declared.token.Token.{Token};
 
+use crate::byte_class::ByteClass;
 use crate::position::Position;
 use crate::refusal::LexRefusal;
 use crate::step::next_step;
@@ -37,14 +38,21 @@ pub fn lex(alloc: Global, bytes: &[u8]) -> Result<Vec<Token>, LexRefusal>
     let mut tokens = Vec::new(alloc);
     let mut position = Position::start(bytes);
     while position.place < bytes.len() {
+        // A text has many blanks, which are passed over without a step.
+        if ByteClass::Blank.contains(bytes[position.place]) {
+            position = position.next(bytes);
+            continue;
+        }
         let Some(step) = next_step(alloc, &bytes[position.place..])? else {
             return Err(LexRefusal::Bad {
                 line: position.line as u32,
                 column: position.column as u32,
             });
         };
-        let next = position.after(bytes, step.length);
+        let length = step.length;
+        // A token has no line end in it, and a comment may have some.
         if let Some(tok) = step.tok {
+            let next = position.along(bytes, length);
             let token = Token {
                 tok,
                 from: position.place as u32,
@@ -53,8 +61,10 @@ pub fn lex(alloc: Global, bytes: &[u8]) -> Result<Vec<Token>, LexRefusal>
                 column: position.column as u32,
             };
             keep(&mut tokens, token)?;
+            position = next;
+        } else {
+            position = position.after(bytes, length);
         }
-        position = next;
     }
     if tokens.len() > TOKEN_LIMIT {
         return Err(LexRefusal::Many);

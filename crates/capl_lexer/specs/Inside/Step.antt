@@ -23,9 +23,13 @@ pub record IsStep (text : List ℕ) (step : Step) : Type 0 where
 abbrev pub HasNoPiece : List ℕ → Type 0
 HasNoPiece text = (piece : Piece) (rest : List ℕ) → IsFront piece text rest → ⊥
 
+-- no blank stands at the front
+abbrev pub HasNoBlank : List ℕ → Type 0
+HasNoBlank text = IsFirstInClass class.Blank text → ⊥
+
 -- no blank stands at the front, and no comment begins there
 pub record HasNoPassed (text : List ℕ) : Type 0 where
-  pub no_blank : IsFirstInClass class.Blank text → ⊥
+  pub no_blank : HasNoBlank text
   pub no_comment : OpensComment text → ⊥
 
 -- the text begins with `//`

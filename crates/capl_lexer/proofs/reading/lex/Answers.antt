@@ -7,7 +7,7 @@ use Rattle.capl_lexer.specs.declared.step.Step.{Step}
 use Rattle.capl_lexer.specs.declared.token.Tok.{Tok}
 use Rattle.capl_lexer.specs.declared.token.Token.{Token}
 use Rattle.capl_lexer.proofs.ReadingLemmas.{reading-unique, bad_place-reading}
-use Rattle.capl_lexer.proofs.PartialReadingLemmas.{HasKept, keep_passed, keep_one, kept_all, kept_many, step-positive, reading_from, bad_place_from, line-le, column-le}
+use Rattle.capl_lexer.proofs.PartialReadingLemmas.{HasKept, keep_passed, keep_blank, keep_one, kept_all, kept_many, step-positive, step-in_line, reading_from, bad_place_from, line-le, column-le}
 use Rattle.capl_lexer.proofs.reading.lex.Goals as goal
 
 -- the step that was found at the place
@@ -35,15 +35,33 @@ returns-in_default-clause-no_reading c = λ tokens reading.
     let has = c.loop-position.invariant.read in
     bad_place-reading text place tokens (bad_place_from text place has.all has.read c.loop-position-test.true none) reading
 
-pub loop-position-smaller-in_ok-keep : goal.loop-position-smaller-in_ok-keep
-loop-position-smaller-in_ok-keep c =
+pub loop-position-preserved-then-contains : goal.loop-position-preserved-then-contains
+loop-position-preserved-then-contains c =
+    let text = c.args.bytes.now in
+    let place = c.loop-position.position.place in
+    let blank = c.contains.ensures.0 c.if-contains.true in
+    record {
+      at = c.next-position.ensures.at;
+      read = subst (λ n. HasKept token_limit text n c.loop-position.tokens.items) (sym c.next-position.ensures.place)
+          (keep_blank token_limit text place c.loop-position.tokens.items c.loop-position.invariant.read c.loop-position-test.true blank);
+    }
+
+pub along-next-requires-clause-in_line : goal.along-next-requires-clause-in_line
+along-next-requires-clause-in_line c =
     let text = c.args.bytes.now in
     let place = c.loop-position.position.place in
     let is = found_step text place c.in_ok-step.field-0 c.in-Some.step c.in-Some.is c.in_ok-step.ensures in
-    omega (arith, step-positive text place c.in-Some.step is, c.after-next.ensures.place, c.loop-position-test.true)
+    step-in_line text place c.in-Some.step c.in-Some-tok.tok is c.in-Some-tok.is
 
-pub loop-position-preserved-in_ok-keep : goal.loop-position-preserved-in_ok-keep
-loop-position-preserved-in_ok-keep c =
+pub loop-position-smaller-in-Some-tok : goal.loop-position-smaller-in-Some-tok
+loop-position-smaller-in-Some-tok c =
+    let text = c.args.bytes.now in
+    let place = c.loop-position.position.place in
+    let is = found_step text place c.in_ok-step.field-0 c.in-Some.step c.in-Some.is c.in_ok-step.ensures in
+    omega (arith, step-positive text place c.in-Some.step is, c.along-next.ensures.place, c.loop-position-test.true)
+
+pub loop-position-preserved-in-Some-tok : goal.loop-position-preserved-in-Some-tok
+loop-position-preserved-in-Some-tok c =
     let text = c.args.bytes.now in
     let place = c.loop-position.position.place in
     let step = c.in-Some.step in
@@ -51,17 +69,17 @@ loop-position-preserved-in_ok-keep c =
     let token : Tok → Token = λ tok. record {
       tok = tok;
       from = place;
-      to = c.after-next.result.place;
+      to = c.along-next.result.place;
       line = c.loop-position.position.line;
       column = c.loop-position.position.column;
     } in
     let same = ap (λ (tok : Tok). c.loop-position.tokens.items ++ token tok ∷ []) c.in-Some-tok.tok-is in
     let at = c.loop-position.invariant.at in
     record {
-      at = c.after-next.ensures.at;
-      read = subst (λ n. HasKept token_limit text n c.keep.new.tokens.items) (sym c.after-next.ensures.place)
+      at = c.along-next.ensures.at;
+      read = subst (λ n. HasKept token_limit text n c.keep.new.tokens.items) (sym c.along-next.ensures.place)
           (keep_one token_limit text place c.loop-position.tokens.items c.keep.new.tokens.items step (token c.in-Some-tok.tok) c.loop-position.invariant.read is
-          c.in-Some-tok.is refl c.after-next.ensures.place at.line at.column (λ few. c.in_ok-keep.ensures.kept few ∙ same) c.in_ok-keep.ensures.enough);
+          c.in-Some-tok.is refl c.along-next.ensures.place at.line at.column (λ few. c.in_ok-keep.ensures.kept few ∙ same) c.in_ok-keep.ensures.enough);
     }
 
 pub loop-position-smaller : goal.loop-position-smaller
@@ -69,7 +87,7 @@ loop-position-smaller c =
     let text = c.args.bytes.now in
     let place = c.loop-position.position.place in
     let is = found_step text place c.in_ok-step.field-0 c.in-Some.step c.in-Some.is c.in_ok-step.ensures in
-    omega (arith, step-positive text place c.in-Some.step is, c.after-next.ensures.place, c.loop-position-test.true)
+    omega (arith, step-positive text place c.in-Some.step is, c.after-position.ensures.place, c.loop-position-test.true)
 
 pub loop-position-preserved : goal.loop-position-preserved
 loop-position-preserved c =
@@ -77,8 +95,8 @@ loop-position-preserved c =
     let place = c.loop-position.position.place in
     let is = found_step text place c.in_ok-step.field-0 c.in-Some.step c.in-Some.is c.in_ok-step.ensures in
     record {
-      at = c.after-next.ensures.at;
-      read = subst (λ n. HasKept token_limit text n c.loop-position.tokens.items) (sym c.after-next.ensures.place)
+      at = c.after-position.ensures.at;
+      read = subst (λ n. HasKept token_limit text n c.loop-position.tokens.items) (sym c.after-position.ensures.place)
           (keep_passed token_limit text place c.loop-position.tokens.items c.in-Some.step c.loop-position.invariant.read is c.in_default-tok.is);
     }
 

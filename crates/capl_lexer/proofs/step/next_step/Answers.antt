@@ -1,17 +1,13 @@
--- A blank, a comment up to its line's end, or one up to its closing.
+-- A comment up to its line's end, or one up to its closing.
 use Rattle.std.proofs.Common.{sym, subst}
 use Rattle.capl_lexer.specs.Inside.Step.{IsLineCommentFront, IsBlockCommentFront}
-use Rattle.capl_lexer.proofs.StepLemmas.{step_blank, step_line, step_block}
+use Rattle.capl_lexer.proofs.StepLemmas.{step_line, step_block}
 use Rattle.capl_lexer.proofs.step.next_step.Goals as goal
-
-pub returns-then-begins : goal.returns-then-begins
-returns-then-begins c =
-    step_blank c.args.text.now c.passed.result (c.begins.ensures.0 c.if-begins.true) c.passed.ensures.tok c.passed.ensures.length
 
 pub returns-in-47 : goal.returns-in-47
 returns-in-47 c =
     let text = c.args.text.now in
-    step_line text c.passed-in-47.result (subst (IsLineCommentFront text) (sym c.passed-in-47.ensures.length) c.line_comment.ensures) c.passed-in-47.ensures.tok
+    step_line text c.passed.result (subst (IsLineCommentFront text) (sym c.passed.ensures.length) c.line_comment.ensures) c.passed.ensures.tok
 
 pub returns-in-Some : goal.returns-in-Some
 returns-in-Some c =

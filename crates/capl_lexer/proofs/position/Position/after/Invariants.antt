@@ -1,10 +1,13 @@
--- The position is as many bytes on as turns were taken.
-use Rattle.std.proofs.Common.{◌≡◌, ◌+◌}
+-- The position is between the first one and the end.
+use Rattle.std.proofs.Common.{◌≤◌, ◌-◌}
 use Rattle.capl_lexer.specs.Inside.Position.{IsPositionIn}
 use Rattle.capl_lexer.proofs.position.Position.after.Given as goal
 
-abbrev pub invariant-loop : goal.invariant-loop
-invariant-loop l = record {
+abbrev pub invariant-loop-ahead : goal.invariant-loop-ahead
+invariant-loop-ahead l = record {
   at : IsPositionIn l.text l.position;
-  place : l.position.place ≡ l.fn.self.place + l.counter;
+  within : l.position.place ≤ l.end;
 }
+
+abbrev pub decreases-loop-ahead : goal.decreases-loop-ahead
+decreases-loop-ahead l = l.end - l.position.place
