@@ -2,6 +2,7 @@
 
 ghost use Rattle.std.specs.Prelude.{◌≡◌, ◌+◌, ◌<◌, ◌≤◌, ◌^◌, false, All, IfOk, IfErr, OnOk, IfSome, IsErrOf, length};
 ghost use Rattle.capl_lexer.specs.Reading.{token_limit};
+ghost use Rattle.capl_lexer.specs.declared.token.Tok.TheVariants as tok;
 ghost use Rattle.texts.specs.Fault.{HasRisen, raised, raised_by};
 ghost use Rattle.capl_include.specs.Expansion.{Went, file_limit};
 ghost use Rattle.capl_include.specs.Answer.{IsAnswer, IsOnly, HaveDifferentNames, token_count};
@@ -150,6 +151,7 @@ fn are_bytes(text: &[u8])
 
 /// The name of the file to visit for the token of a file, or None where it names none or one that was
 /// met.
+#[inline(always)]
 fn next_name(
     alloc: Global,
     naming: &Text,
@@ -160,9 +162,27 @@ fn next_name(
     ensures not_met { IfOk result (λ found. IfSome found (λ name. has_met progress.now.met name ≡ false)) }
     ensures no_fault { IsErrOf result ExpandRefusal.Failed → ⊥ }
 {
-    let Tok::Include(own) = &token.tok else {
-        return Ok(None);
-    };
+    match &token.tok {
+        Tok::Include(own) => new_name(alloc, naming, token, own, progress),
+        _ => Ok(None),
+    }
+}
+
+/// The name of the file that the token of a file names by `own`, or None where it was met. It stands by
+/// itself, so that all other tokens are passed by without what it prepares.
+#[inline(never)]
+fn new_name(
+    alloc: Global,
+    naming: &Text,
+    token: &Token,
+    own: &Text,
+    progress: &Progress,
+) -> Result<Option<Text>, ExpandRefusal>
+    requires { token.now.tok ≡ tok.Include own.now }
+    ensures told { StepAgrees naming.now token.now progress.now.met result }
+    ensures not_met { IfOk result (λ found. IfSome found (λ name. has_met progress.now.met name ≡ false)) }
+    ensures no_fault { IsErrOf result ExpandRefusal.Failed → ⊥ }
+{
     let name = included_name(alloc, naming.bytes(), own.bytes())?;
     if !is_included_name(own.bytes(), name.bytes()) {
         return Err(blamed_at(alloc, naming, token.line, token.column, NO_NAME));
