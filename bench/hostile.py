@@ -34,7 +34,8 @@ DATABASE = 16 << 20
 LOG = 64 << 20
 DAY = 86_400_000
 
-# Names of 8 bytes whose SipHash-1-3 without a seed, of their length and their bytes, has the same lowest 10 bits.
+# Names of 8 bytes whose hash without a seed has the same lowest 10 bits: that of a database's tables, SipHash-1-3 of their
+# length and their bytes, or that of a program's, which multiplies them and folds the product.
 SEARCH = r"""
 #include <stdint.h>
 #include <stdio.h>
@@ -60,7 +61,14 @@ static void take(uint64_t word)
     v0 ^= word;
 }
 
-static uint64_t hash(uint64_t name)
+static uint64_t fold(uint64_t name)
+{
+    unsigned __int128 product =
+        (unsigned __int128)(name ^ 0x243f6a8885a308d3) * (0x9e3779b97f4a7c15 ^ 16);
+    return (uint64_t)product ^ (uint64_t)(product >> 64);
+}
+
+static uint64_t sip(uint64_t name)
 {
     v0 = 0x736f6d6570736575; v1 = 0x646f72616e646f6d; v2 = 0x6c7967656e657261; v3 = 0x7465646279746573;
     take(8);
@@ -73,6 +81,7 @@ static uint64_t hash(uint64_t name)
 
 int main(int count, char **words)
 {
+    uint64_t (*hash)(uint64_t) = strcmp(words[2], "fold") ? sip : fold;
     long wanted = atol(words[1]), found = 0;
     for (uint64_t number = 0; found < wanted; number++) {
         char text[9];
@@ -102,12 +111,12 @@ def single(source, *items, nodes=1, **more):
 # ---- names
 
 
-def colliding(count):
-    """Names that collide where they are hashed without a seed."""
+def colliding(count, by):
+    """Names that collide where they are hashed so without a seed."""
     with tempfile.TemporaryDirectory() as folder:
         program = pathlib.Path(folder) / "search"
         subprocess.run(["gcc", "-O2", "-x", "c", "-", "-o", program], input=SEARCH.encode(), check=True)
-        return subprocess.run([program, str(count)], capture_output=True, text=True, check=True).stdout.split()
+        return subprocess.run([program, str(count), by], capture_output=True, text=True, check=True).stdout.split()
 
 
 def globals_of(names):
@@ -123,7 +132,7 @@ def ordinary_names(count):
 
 def colliding_names(count):
     """Globals whose names collide."""
-    return globals_of(colliding(count))
+    return globals_of(colliding(count, "fold"))
 
 
 def long_names(count):
@@ -139,7 +148,7 @@ def messages_of(names):
 
 def colliding_messages(count):
     """A database whose names of messages collide."""
-    return messages_of(colliding(count))
+    return messages_of(colliding(count, "sip"))
 
 
 # ---- nesting

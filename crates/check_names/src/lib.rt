@@ -22,6 +22,7 @@ mod declaration;
 mod first;
 mod function;
 mod global;
+mod hasher;
 mod head;
 mod inner;
 mod key;

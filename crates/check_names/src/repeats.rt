@@ -125,7 +125,7 @@ fn note_repeated<'p>(
     ensures { OnOk result (first.new ≡ noted first.old
         (map name_offence (repeated same_name [] (names_at names.now)))) }
 {
-    let mut table = NameTable::new(alloc, seed);
+    let mut table = NameTable::with_room(alloc, seed, names.len())?;
     for name in names {
         let known = table.note(name.name.bytes(), 0)?;
         note_where(known, name.file, name.token, TWICE, first);

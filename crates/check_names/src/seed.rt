@@ -1,16 +1,17 @@
 // The hash of the tables.
 
 use crate::function::DeclaredFunction;
+use crate::hasher::NameHasher;
 use crate::variable::Declared;
-use std::hash::{BuildHasher, DefaultHasher, Hasher};
+use std::hash::{BuildHasher, DefaultHasher, FoldHasher, Hasher};
 
-/// The hash of a program's tables: SipHash, begun with a number that hangs on all its names. Each
-/// change of a name changes the hash of all, so names that fall into one place of a table cannot be
-/// looked for one after another.
+/// The hash of a program's tables, begun with numbers that hang on all its names, by SipHash. Each change
+/// of a name changes the hash of all, so names that fall into one place of a table cannot be looked for
+/// one after another.
 #[derive(Clone, Copy)]
 pub(crate) struct Seed {
-    /// What each hash begins as: it has taken the number.
-    begun: DefaultHasher,
+    /// What each hash begins as: it has taken a number, and its secret is another one.
+    begun: NameHasher,
 }
 
 impl Seed {
@@ -25,18 +26,23 @@ impl Seed {
             hasher.write(function.name.bytes());
             hasher.write_u8(0);
         }
-        let mut begun = DefaultHasher::new();
-        begun.write_u64(hasher.finish());
-        Seed { begun }
+        let mut folded = FoldHasher::default();
+        folded.write_u64(hasher.finish());
+        hasher.write_u8(0);
+        // An odd factor loses no bit of what it multiplies.
+        let secret = hasher.finish() | 1;
+        Seed {
+            begun: NameHasher { folded, secret },
+        }
     }
 }
 
 impl BuildHasher for Seed {
-    type Hasher = DefaultHasher;
+    type Hasher = NameHasher;
 
     ghost build_hasher = { λ seed. seed.begun };
 
-    fn build_hasher(&self) -> DefaultHasher {
+    fn build_hasher(&self) -> NameHasher {
         self.begun
     }
 }

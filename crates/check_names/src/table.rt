@@ -27,6 +27,19 @@ impl<'p> NameTable<'p> {
         }
     }
 
+    /// No names, with room for so many.
+    pub(crate) fn with_room(
+        alloc: Global,
+        seed: Seed,
+        room: usize,
+    ) -> Result<NameTable<'p>, NoMemory>
+        ensures { (name : List ℕ) → IfOk result (λ table. numbered table name ≡ None) }
+    {
+        Ok(NameTable {
+            numbers: IndexMap::with_capacity_and_hasher(alloc, room, seed)?,
+        })
+    }
+
     /// The number of a name, or None where it was not noted. Takes time linear in the name, and
     /// constant in the number of names but for names of one hash.
     pub(crate) fn number(&self, name: &[u8]) -> Option<u32>
@@ -42,10 +55,11 @@ impl<'p> NameTable<'p> {
             option_or (numbered self.old other) (if bytes_eq other name.now then Some number else None)) }
         ensures known { IfOk result (λ known. known ≡ is_some (numbered self.old name.now)) }
     {
-        if self.number(name).is_some() {
-            return Ok(true);
-        }
-        self.numbers.insert(Key { bytes: name }, number)?;
-        Ok(false)
+        let Some(first) = self.numbers.insert(Key { bytes: name }, number)? else {
+            return Ok(false);
+        };
+        // The number that it was first noted with stays.
+        self.numbers.insert(Key { bytes: name }, first)?;
+        Ok(true)
     }
 }
