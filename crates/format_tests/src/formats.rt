@@ -8,7 +8,7 @@ use items::Items;
 use std::alloc::Global;
 use std::test::Fail;
 use texts::{NoMemory, Text};
-use write_format::{ArgKind, CharCells, Format, FormatRefusal, laws, render};
+use write_format::{ArgKind, CharCells, Format, FormatRefusal, laws, render, render_list};
 
 /// What C's `printf` makes of a number: a format, the kind of its argument, the number and the text.
 ///
@@ -257,7 +257,8 @@ fn has_arrays(alloc: Global, format: &Format, kinds: &[Kind]) -> Result<bool, Fa
     Ok(format.has_arrays_in(&cells))
 }
 
-/// The line of a format with these numbers, where the arrays stand in the test's cells.
+/// The line of a format with these numbers, where the arrays stand in the test's cells. It has to be the
+/// same as a list.
 fn line(alloc: Global, format: &Format, numbers: &[i128]) -> Result<Text, Fail> {
     let kinds = [Kind::Char; 7];
     let has_arrays = has_arrays(alloc, format, &kinds)?;
@@ -265,7 +266,12 @@ fn line(alloc: Global, format: &Format, numbers: &[i128]) -> Result<Text, Fail> 
     if !fits || !has_arrays || !are_bytes(&CELLS) {
         return Err("the format takes something else".into());
     }
-    Ok(render(alloc, format, numbers, &CELLS)?)
+    let list = render_list(alloc, format, numbers, &CELLS)?;
+    let text = render(alloc, format, numbers, &CELLS)?;
+    if list.as_slice() != text.bytes() {
+        return Err("the list is another line".into());
+    }
+    Ok(text)
 }
 
 /// What a format makes of a number of this kind.

@@ -27,15 +27,31 @@ pub fn write_line(
     ensures { IfOk result (λ line. line ≡ log_line seconds micros interface.now f.now) }
 {
     let mut line = Vec::with_capacity(alloc, interface.len().saturating_add(ROOM))?;
+    append_line(&mut line, seconds, micros, interface, f)?;
+    Text::from_list(alloc, line)
+}
+
+/// Appends the line that [`write_line`] gives to a list, so that many lines can take the memory of one.
+pub fn append_line(
+    line: &mut Vec<u8>,
+    seconds: u64,
+    micros: u32,
+    interface: &[u8],
+    f: &Frame,
+) -> Result<(), NoMemory>
+    requires { micros < 1000000 }
+    ensures { OnOk result (
+        line.new.items ≡ line.old.items ++ log_line seconds micros interface.now f.now) }
+{
     line.push(b'(')?;
-    append_stamp(&mut line, seconds, micros)?;
+    append_stamp(line, seconds, micros)?;
     line.extend_from_slice(b") ")?;
     line.extend_from_slice(interface)?;
     line.push(b' ')?;
-    append_ident(&mut line, f.ident())?;
-    append_data(&mut line, f)?;
+    append_ident(line, f.ident())?;
+    append_data(line, f)?;
     line.push(b'\n')?;
-    Text::from_list(alloc, line)
+    Ok(())
 }
 
 /// Appends the seconds in at least ten digits and the microseconds in six.

@@ -118,20 +118,21 @@ fn show_run<B: Bus, S: Sink>(
     ensures fault { IsErrOf result TaskFault.Record → HasRisen (S.faults sink.old) (S.faults sink.new) }
     ensures faults_stay { S.faults sink.old ≤ S.faults sink.new }
 {
+    let mut line = Vec::new(alloc);
     let mut into = ShowRecord {
-        alloc,
         show,
         labels,
         sink,
+        line: &mut line,
     };
     run_into(core, &mut into, meter)?;
     Ok(())
 }
 
 /// Runs a simulation into a record, whose references stay.
-fn run_into<'n, 'a, B: Bus, S: Sink>(
+fn run_into<'n, 'a, 'l, B: Bus, S: Sink>(
     core: &mut Core<B>,
-    into: &mut ShowRecord<'n, 'a, S>,
+    into: &mut ShowRecord<'n, 'a, 'l, S>,
     meter: &mut Meter,
 ) -> Result<(), TaskFault>
     requires is_new { core.old.phase ≡ New }

@@ -1,18 +1,17 @@
 // The record that shows a run.
 
-ghost use Rattle.std.specs.Prelude.{◌≡◌, ◌+◌, ◌/◌, ◌%◌, ◌<◌, ◌^◌, IfOk};
+ghost use Rattle.std.specs.Prelude.{◌≡◌, ◌+◌, ◌++◌, ◌/◌, ◌%◌, ◌<◌, ◌^◌, OnOk};
 ghost use Rattle.log_line.specs.Written.{log_line};
 ghost use Rattle.sim_play.specs.Show.{interface_of, name_of, shows_frames, shows_texts};
 
 use crate::labels::{Labels, Show};
 use crate::piece::write_piece;
 use can_frame::Frame;
-use log_line::write_line;
+use log_line::append_line;
 use run_records::Record;
 use sim_outside::Sink;
-use sim_text::window_line;
-use std::alloc::Global;
-use texts::{NoMemory, Text};
+use sim_text::append_window_line;
+use texts::NoMemory;
 use vm_host::RecordFault;
 
 /// How many microseconds a second has.
@@ -20,15 +19,16 @@ const MICROS_PER_SECOND: u64 = 1_000_000;
 
 /// A record that hands the line of each entry that is shown to a sink, as one piece.
 #[derive(Drop)]
-pub(crate) struct ShowRecord<'n, 'a, S: Sink> {
-    pub(crate) alloc: Global,
+pub(crate) struct ShowRecord<'n, 'a, 'l, S: Sink> {
     pub(crate) show: Show,
     pub(crate) labels: &'n Labels,
     pub(crate) sink: &'a mut S,
+    /// The line that was shown last, whose memory the next one takes.
+    pub(crate) line: &'l mut Vec<u8>,
     ghost in_range: { labels.now.epoch < 2 ^ 32 },
 }
 
-impl<'n, 'a, S: Sink> Record for ShowRecord<'n, 'a, S> {
+impl<'n, 'a, 'l, S: Sink> Record for ShowRecord<'n, 'a, 'l, S> {
     ghost use Rattle.std.specs.Prelude.{◌≡◌, None};
     ghost use Rattle.sim_play.specs.Inside.Pieces.{RefusesPiece, WritesPiece};
     ghost use Rattle.sim_play.specs.Show.{piece};
@@ -50,16 +50,18 @@ impl<'n, 'a, S: Sink> Record for ShowRecord<'n, 'a, S> {
         if !shows_texts(self.show) {
             return Ok(());
         }
-        let line = window_line(self.alloc, now, name_of(self.labels, node), text)?;
-        write_piece(self.sink, line.bytes())
+        self.line.clear();
+        append_window_line(self.line, now, name_of(self.labels, node), text)?;
+        write_piece(self.sink, self.line.as_slice())
     }
 
     fn frame(&mut self, now: u64, f: &Frame) -> Result<(), RecordFault> {
         if !shows_frames(self.show) {
             return Ok(());
         }
-        let line = frame_line(self.alloc, self.labels, now, f)?;
-        write_piece(self.sink, line.bytes())
+        self.line.clear();
+        append_frame_line(self.line, self.labels, now, f)?;
+        write_piece(self.sink, self.line.as_slice())
     }
 }
 
@@ -104,14 +106,19 @@ fn interface_of(labels: &Labels, channel: u8) -> &[u8]
     }
 }
 
-/// The line of a frame that ended at a moment, on the interface of its channel. The seconds of the moment are
-/// added to those at which the measurement began.
-fn frame_line(alloc: Global, labels: &Labels, now: u64, f: &Frame) -> Result<Text, NoMemory>
+/// Appends the line of a frame that ended at a moment, on the interface of its channel. The seconds of the
+/// moment are added to those at which the measurement began.
+fn append_frame_line(
+    line: &mut Vec<u8>,
+    labels: &Labels,
+    now: u64,
+    f: &Frame,
+) -> Result<(), NoMemory>
     requires in_range { labels.now.epoch < 2 ^ 32 }
-    ensures { IfOk result (λ line. line ≡ log_line
+    ensures { OnOk result (line.new.items ≡ line.old.items ++ log_line
         (labels.now.epoch + now / 1000000) (now % 1000000) (interface_of labels.now f.now.can) f.now) }
 {
     let seconds = labels.epoch + now / MICROS_PER_SECOND;
     let micros = (now % MICROS_PER_SECOND) as u32;
-    write_line(alloc, seconds, micros, interface_of(labels, f.can()), f)
+    append_line(line, seconds, micros, interface_of(labels, f.can()), f)
 }

@@ -23,14 +23,27 @@ pub fn window_line(alloc: Global, now: u64, node: &[u8], text: &[u8]) -> Result<
 {
     let room = node.len().saturating_add(text.len()).saturating_add(ROOM);
     let mut line = Vec::with_capacity(alloc, room)?;
+    append_window_line(&mut line, now, node, text)?;
+    Text::from_list(alloc, line)
+}
+
+/// Appends the line that [`window_line`] gives to a list, so that many lines can take the memory of one.
+pub fn append_window_line(
+    line: &mut Vec<u8>,
+    now: u64,
+    node: &[u8],
+    text: &[u8],
+) -> Result<(), NoMemory>
+    ensures { OnOk result (line.new.items ≡ line.old.items ++ window_line now node.now text.now) }
+{
     line.extend_from_slice(b"w ")?;
-    append_moment(&mut line, now)?;
+    append_moment(line, now)?;
     line.push(b' ')?;
     line.extend_from_slice(node)?;
     line.push(b' ')?;
-    append_shown(&mut line, text)?;
+    append_shown(line, text)?;
     line.push(b'\n')?;
-    Text::from_list(alloc, line)
+    Ok(())
 }
 
 /// Appends a moment: its seconds, and six digits of microseconds.

@@ -15,9 +15,9 @@ use crate::frame::frame;
 use crate::state::State;
 use bytecode::Code;
 use int_kinds::{Kind, truth, wrap};
-use texts::{NoMemory, Text};
+use texts::NoMemory;
 use vm_host::{Host, RecordFault};
-use write_format::{Format, render};
+use write_format::{Format, render_list};
 
 /// Asks to stop the measurement.
 #[inline]
@@ -129,18 +129,18 @@ pub(crate) fn write<H: Host>(
 {
     let format = &code.formats.as_slice()[f as usize];
     let text = line(state, format)?;
-    host.line(text.bytes())?;
+    host.line(text.as_slice())?;
     state.forget(format.numbers_taken());
     Ok(())
 }
 
 /// The line of a format with the numbers that were given last.
-fn line(state: &State, format: &Format) -> Result<Text, NoMemory>
+fn line(state: &State, format: &Format) -> Result<Vec<u8>, NoMemory>
     requires numbers { numbers_taken format.now ≤ length state.now.stack }
     requires arrays { All (HoldsBytes state.now.cells) (char_arrays format.now) }
-    ensures { IfOk result (λ text. text ≡ rendered format.now
+    ensures { IfOk result (λ line. line.items ≡ rendered format.now
         (reverse (take (numbers_taken format.now) state.now.stack)) state.now.cells) }
 {
     let numbers = state.last_given(format.numbers_taken());
-    render(state.alloc(), format, numbers, state.cells())
+    render_list(state.alloc(), format, numbers, state.cells())
 }

@@ -1,7 +1,7 @@
 // Lines as tools write them.
 
 use can_frame::{Frame, Ident};
-use log_line::{Entry, Line, LineRefusal, laws, read_line, view_line, write_line};
+use log_line::{Entry, Line, LineRefusal, append_line, laws, read_line, view_line, write_line};
 use std::alloc::Global;
 use std::process::Abort;
 use std::test::Fail;
@@ -190,6 +190,17 @@ fn lines_of_some_frames_are_written(rt: HostRuntime) -> Result<(), Fail> {
         let line = write_line(rt.alloc(), seconds, micros, b"can0", &frame)?;
         assert_eq!(rt; line.bytes(), text.as_bytes());
     }
+    Ok(())
+}
+
+#[test]
+fn lines_stand_behind_one_another(rt: HostRuntime) -> Result<(), Fail> {
+    let frame = Frame::make(Ident::Std(0x12), false, 2, [0xAB; 8], 1).ok_or("a frame")?;
+    let mut lines = Vec::new(rt.alloc());
+    append_line(&mut lines, 1, 2, b"can0", &frame)?;
+    append_line(&mut lines, 3, 4, b"x", &frame)?;
+    let text = "(0000000001.000002) can0 012#ABAB\n(0000000003.000004) x 012#ABAB\n";
+    assert_eq!(rt; lines.as_slice(), text.as_bytes());
     Ok(())
 }
 

@@ -2,7 +2,7 @@
 
 use items::Items;
 use run_effects::{Event, Selector};
-use sim_text::{blame_line, profile_line, summary_line, window_line};
+use sim_text::{append_window_line, blame_line, profile_line, summary_line, window_line};
 use stack_vm::MeterRow;
 use std::test::Fail;
 use texts::{Blame, Rule, Text};
@@ -23,6 +23,18 @@ fn lines_of_some_texts(rt: HostRuntime) -> Result<(), Fail> {
     for (now, text, line) in rows {
         assert_eq!(rt; window_line(rt.alloc(), now, b"N", text)?.bytes(), line);
     }
+    Ok(())
+}
+
+#[test]
+fn lines_stand_behind_one_another(rt: HostRuntime) -> Result<(), Fail> {
+    let mut lines = Vec::new(rt.alloc());
+    append_window_line(&mut lines, 0, b"N", b"hi")?;
+    append_window_line(&mut lines, 1, b"M", b"a\n")?;
+    assert_eq!(rt;
+        lines.as_slice(),
+        b"w 0.000000 N hi\nw 0.000001 M a\\n\n".as_slice()
+    );
     Ok(())
 }
 

@@ -4,7 +4,7 @@
 //! once, together with what is known of its arguments before the program runs, and refuses it where a
 //! code is none of CAPL's or an argument does not fit its code. [`Format::of_owned`] does the same and
 //! keeps what it is given. [`render`] then makes a line of it as often as it is written, from the numbers
-//! and the cells of that moment.
+//! and the cells of that moment; [`render_list`] gives the line as a list of bytes.
 //!
 //! A code is `%`, flags `-` and `0` in any order, a width of at most 32, and letters:
 //!
@@ -25,7 +25,7 @@ pub use argument::ArgKind;
 pub use chars::CharCells;
 pub use code::{Code, Conversion, Digits, Field};
 pub use format::Format;
-pub use line::render;
+pub use line::{render, render_list};
 pub use piece::{Piece, next_piece};
 pub use refusal::FormatRefusal;
 

@@ -21,6 +21,21 @@ pub fn render(alloc: Global, f: &Format, numbers: &[i128], cells: &[i128]) -> Re
     requires arrays { All (HoldsBytes cells.now) (char_arrays f.now) }
     ensures { IfOk result (λ text. text ≡ rendered f.now numbers.now cells.now) }
 {
+    let line = render_list(alloc, f, numbers, cells)?;
+    Text::from_list(alloc, line)
+}
+
+/// The same line as [`render`], as a list of its bytes, for who shows it at once.
+pub fn render_list(
+    alloc: Global,
+    f: &Format,
+    numbers: &[i128],
+    cells: &[i128],
+) -> Result<Vec<u8>, NoMemory>
+    requires numbers { length numbers.now ≡ numbers_taken f.now }
+    requires arrays { All (HoldsBytes cells.now) (char_arrays f.now) }
+    ensures { IfOk result (λ line. line.items ≡ rendered f.now numbers.now cells.now) }
+{
     let mut line = Vec::with_capacity(alloc, room_of(f))?;
     let mut taken = 0;
     for part in f.parts() {
@@ -34,7 +49,7 @@ pub fn render(alloc: Global, f: &Format, numbers: &[i128], cells: &[i128]) -> Re
         )?;
         taken += numbers_in(part);
     }
-    Text::from_list(alloc, line)
+    Ok(line)
 }
 
 /// How many bytes a line has at most, where no field is wider than 20 and no text is shown.

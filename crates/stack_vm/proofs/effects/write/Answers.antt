@@ -66,7 +66,7 @@ returns-in_err-line-clause-refused g c =
       gives = tt;
       leads = λ effects. write_row code (host.is_closed stands) (host.moment stands) (machine s timers effects) f format s.stack is enough (arrays_lie code c.requires.verified f format is r.named s.cells r.cells_held);
       may_be = inl (rendered format (reverse (take (numbers_taken format) s.stack)) s.cells, refl);
-      refusal = inr (subst (λ (text : List ℕ). host.refuses stands (effect.Line text) c.line-2.new.self) (c.bytes.ensures ∙ c.in_ok-text.ensures) c.in_err-line.ensures.refused);
+      refusal = inr (subst (λ (text : List ℕ). host.refuses stands (effect.Line text) c.line-2.new.self) (c.as_slice-2.ensures.value ∙ c.in_ok-text.ensures) c.in_err-line.ensures.refused);
     })
 
 pub returns-clause-does : goal.returns-clause-does
@@ -86,4 +86,4 @@ returns-clause-does g c =
     (c.forget.ensures ∙ ap after c.numbers_taken.ensures) (line_of format s.stack s.cells) timers (host.is_closed stands) (host.moment stands) refl refl
     (λ effects. write_row code (host.is_closed stands) (host.moment stands) (machine s timers effects) f format s.stack is enough (arrays_lie code c.requires.verified f format is r.named s.cells r.cells_held))
     c.line-2.ensures.timers_stay
-    (subst (λ (text : List ℕ). host.takes stands (effect.Line text) c.line-2.new.self) (c.bytes.ensures ∙ c.in_ok-text.ensures) c.in_ok-line.ensures.taken)
+    (subst (λ (text : List ℕ). host.takes stands (effect.Line text) c.line-2.new.self) (c.as_slice-2.ensures.value ∙ c.in_ok-text.ensures) c.in_ok-line.ensures.taken)

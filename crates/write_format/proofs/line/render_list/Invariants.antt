@@ -3,7 +3,7 @@ use Rattle.std.proofs.Common.{◌≡◌, take}
 use Rattle.std.specs.Prelude.{count_by}
 use Rattle.write_format.specs.Line.{takes_number, line_of}
 use Rattle.write_format.specs.Inside.Parts.{all_elements}
-use Rattle.write_format.proofs.line.render.Given as goal
+use Rattle.write_format.proofs.line.render_list.Given as goal
 
 abbrev pub invariant-loop-part : goal.invariant-loop-part
 invariant-loop-part l =

@@ -7,7 +7,7 @@ use Rattle.write_format.specs.Inside.Parts.{elements_in}
 use Rattle.write_format.specs.declared.part.Part.TheVariants.{Text}
 use Rattle.write_format.proofs.LineLemmas.{line_more}
 use Rattle.write_format.proofs.PartLemmas.{arrays_at, numbers_more, room}
-use Rattle.write_format.proofs.line.render.Goals as goal
+use Rattle.write_format.proofs.line.render_list.Goals as goal
 
 pub numbers_from-requires : goal.numbers_from-requires
 numbers_from-requires c =
