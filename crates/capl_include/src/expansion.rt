@@ -1,10 +1,10 @@
 // The expansion of a file.
 
-ghost use Rattle.std.specs.Prelude.{◌≡◌, ◌+◌, ◌<◌, ◌≤◌, ◌^◌, false, All, IfOk, IfErr, OnOk, IfSome, IsErrOf, length};
+ghost use Rattle.std.specs.Prelude.{◌≡◌, ◌+◌, ◌<◌, ◌≤◌, ◌^◌, ◌∷◌, [], false, All, IfOk, IfErr, IsFalse, OnOk, IfSome, IsErrOf, length};
 ghost use Rattle.capl_lexer.specs.Reading.{token_limit};
 ghost use Rattle.capl_lexer.specs.declared.token.Tok.TheVariants as tok;
 ghost use Rattle.texts.specs.Fault.{HasRisen, raised, raised_by};
-ghost use Rattle.capl_include.specs.Expansion.{Went, file_limit};
+ghost use Rattle.capl_include.specs.Expansion.{Went, file_limit, includes_of};
 ghost use Rattle.capl_include.specs.Answer.{IsAnswer, IsOnly, HaveDifferentNames, token_count};
 ghost use Rattle.capl_include.specs.Text.{AreOfTexts, IsOfText};
 ghost use Rattle.capl_include.specs.Inside.Once.{GoesOnce, ReadsEach};
@@ -99,8 +99,11 @@ fn visit<F: Files>(
     let tokens = read_tokens(alloc, files, name, progress.count())?;
     progress.meet(alloc, name, tokens.len())?;
     for token in &tokens {
-        if let Some(next) = next_name(alloc, name, token, progress)? {
-            visit(alloc, files, root, &next, progress)?;
+        // Nearly all tokens include nothing, and are passed by without what an include prepares.
+        if is_include(token) {
+            if let Some(next) = next_name(alloc, name, token, progress)? {
+                visit(alloc, files, root, &next, progress)?;
+            }
         }
     }
     progress.append(SourceFile {
@@ -149,9 +152,17 @@ fn are_bytes(text: &[u8])
     ensures { All (λ byte. byte < 2 ^ 8) text.now }
 {}
 
+/// Whether a token includes a file.
+#[inline(always)]
+fn is_include(token: &Token) -> bool
+    ensures { IsFalse result → includes_of (token.now ∷ []) ≡ [] }
+{
+    matches!(token.tok, Tok::Include(_))
+}
+
 /// The name of the file to visit for the token of a file, or None where it names none or one that was
 /// met.
-#[inline(always)]
+#[inline(never)]
 fn next_name(
     alloc: Global,
     naming: &Text,
@@ -168,9 +179,7 @@ fn next_name(
     }
 }
 
-/// The name of the file that the token of a file names by `own`, or None where it was met. It stands by
-/// itself, so that all other tokens are passed by without what it prepares.
-#[inline(never)]
+/// The name of the file that the token of a file names by `own`, or None where it was met.
 fn new_name(
     alloc: Global,
     naming: &Text,

@@ -1,5 +1,5 @@
 -- Each way in which a visit ends, and how its includes go on.
-use Rattle.std.proofs.Common.{◌≡◌, ◌<◌, ◌≤◌, ◌+◌, ◌++◌, ◌∷◌, [], ℕ, List, Option, Bool, length, true, false, refl, sym, subst, ◌∙◌, ap, arith, Ok, Err, nat_le, length-append}
+use Rattle.std.proofs.Common.{◌≡◌, ◌<◌, ◌≤◌, ◌+◌, ◌++◌, ◌∷◌, [], ℕ, List, Option, Bool, length, true, false, inl, refl, sym, subst, ◌∙◌, ap, arith, Ok, Err, nat_le, length-append}
 use Rattle.std.specs.Prelude.{IfSome, IfErr}
 use Rattle.std.proofs.lemmas.Bool.Decides.{nat_tests}
 use Rattle.std.proofs.lemmas.List.Elements.{All-push}
@@ -14,7 +14,7 @@ use Rattle.capl_include.specs.Inside.Visit.{IsRead, ReadAgrees, StepAgrees, IsVi
 use Rattle.capl_include.specs.declared.expanded.SourceFile.{SourceFile}
 use Rattle.capl_include.proofs.VisitLemmas.{GoesFrom, goes_first, goes_past, goes_through, whole_ends, full_refusal, read_refusal, step_refusal, inside_refusal, told_always, told_from, told_from_two, told_from_three, passed_on}
 use Rattle.capl_include.proofs.OnceLemmas.{once_nothing, once_then, once_visit, reads_first, reads_same, reads_then, reads_visit}
-use Rattle.capl_include.proofs.expansion.+visit.Goals.{in-Some+in_ok-visit, in_default}
+use Rattle.capl_include.proofs.expansion.+visit.Goals.{then-is_include+in_ok-next+in-Some+in_ok-visit, then-is_include+in_ok-next+in_default, else-is_include}
 use Rattle.capl_include.proofs.expansion.+visit.Goals as goal
 
 many_files : (count : ℕ) (full : Bool) → full ≡ nat_le file_limit count → full ≡ true → file_limit ≤ count
@@ -156,12 +156,12 @@ loop-token-preserved g t c =
     let list = c.deref-token-items.result.now in
     let held = g.F.Files.held c.args.files.now in
     let before = c.loop-token.invariant in
-    elim c.match-branch-4.branch [
-      | in-Some+in_ok-visit w ↦
+    elim c.if-is_include.branch [
+      | then-is_include+in_ok-next+in-Some+in_ok-visit w ↦
           let next = w.in-Some.next in
           let new = w.visit.new.progress in
           let done = w.in_ok-visit.ensures in
-          let step = subst (λ (n : Option (List ℕ)). StepAgrees name c.token-item.result at.met (Ok n)) w.in-Some.is c.in_ok-next.ensures.told in
+          let step = subst (λ (n : Option (List ℕ)). StepAgrees name c.token-item.result at.met (Ok n)) w.in-Some.is w.in_ok-next.ensures.told in
           let went = subst (λ (h : Option Contents). IfSome h (λ contents. IsVisitAt contents root next at (Went new))) before.contents_stay done.went in
           record {
             reads = reads_same 1 (g.F.Files.reads c.args.files.now) (g.F.Files.reads w.visit.new.files) _ old new _ (ap g.F.Files.reads w.files-is) w.progress-is
@@ -184,8 +184,27 @@ loop-token-preserved g t c =
                 c.loop-token-test.true c.token-item.is before.grows goes step visit)
                 before.told went);
           }
-      | in_default w ↦
-          let step = subst (λ (n : Option (List ℕ)). StepAgrees name c.token-item.result at.met (Ok n)) w.in_default.is c.in_ok-next.ensures.told in
+      | then-is_include+in_ok-next+in_default w ↦
+          let step = subst (λ (n : Option (List ℕ)). StepAgrees name c.token-item.result at.met (Ok n)) w.in_default.is w.in_ok-next.ensures.told in
+          record {
+            reads = reads_same 1 (g.F.Files.reads c.args.files.now) (g.F.Files.reads c.loop-token.files) _ old at _ (ap g.F.Files.reads w.files-is) w.progress-is
+                before.reads;
+            once = subst (GoesOnce (meeting name list old)) (sym w.progress-is) before.once;
+            grows = subst (λ (p : Expansion). length old.met < length p.met) (sym w.progress-is) before.grows;
+            appends = subst (λ (p : Expansion). length p.files + (length old.met + 1) ≡ length old.files + length p.met) (sym w.progress-is) before.appends;
+            few_files = subst (λ (p : Expansion). length p.met ≤ file_limit) (sym w.progress-is) before.few_files;
+            few = subst (λ (p : Expansion). p.count ≤ token_limit) (sym w.progress-is) before.few;
+            counts = subst (λ (p : Expansion). token_count p.files + (old.count + length list) ≡ token_count old.files + p.count) (sym w.progress-is) before.counts;
+            texts = λ are. subst (λ (p : Expansion). AreOfTexts p.files) (sym w.progress-is) (before.texts are);
+            faults_stay = subst (λ f. g.F.Files.faults c.args.files.now ≤ g.F.Files.faults f) (sym w.files-is) before.faults_stay;
+            contents_stay = subst (λ f. g.F.Files.held f ≡ held) (sym w.files-is) before.contents_stay;
+            told = subst (λ (p : Expansion). IfSome held (λ contents. GoesFrom contents root name list old (place + 1) p)) (sym w.progress-is)
+                (told_from held (λ contents. GoesFrom contents root name list old place at) (λ contents. GoesFrom contents root name list old (place + 1) at)
+                (λ contents goes. goes_past contents root name list old place at c.token-item.result c.loop-token-test.true c.token-item.is goes step)
+                before.told);
+          }
+      | else-is_include w ↦
+          let step = inl (c.is_include.ensures w.if-is_include.false) in
           record {
             reads = reads_same 1 (g.F.Files.reads c.args.files.now) (g.F.Files.reads c.loop-token.files) _ old at _ (ap g.F.Files.reads w.files-is) w.progress-is
                 before.reads;
