@@ -10,7 +10,7 @@ ghost use Rattle.gen_stmt.specs.Example.{on_start};
 use crate::{CheckedRefusal, compile_checked};
 use bytecode::{Code, Instr, Verified};
 use capl_tree::{FileTree, Head, Proc, Program, Stmt, TopItem};
-use gen_stmt::{compile, make_code};
+use gen_stmt::{compile, compile_weighed, make_code};
 use int_kinds::Kind;
 use items::{Boxed, Items};
 use message_cells::MESSAGE_KINDS;
@@ -101,6 +101,19 @@ fn compiled(alloc: Global) -> Result<Verified, Fail> {
     let typed = endless_program(alloc)?;
     let source = source(alloc)?;
     Ok(compile(alloc, &source, &typed)?)
+}
+
+/// The code of that program, of which only the weight is known.
+fn compiled_weighed(alloc: Global) -> Result<Verified, Fail> {
+    let typed = endless_program(alloc)?;
+    Ok(compile_weighed(alloc, 16, &typed)?)
+}
+
+#[test]
+fn the_weight_is_enough(rt: HostRuntime) -> Result<(), Fail> {
+    let code = compiled_weighed(rt.alloc())?;
+    assert_eq!(rt; code.code().instrs.as_slice().len(), 3);
+    Ok(())
 }
 
 #[test]

@@ -8,3 +8,4 @@ pub mod Rows
 pub mod SoundExamples
 pub mod SoundFields
 pub mod Steps
+pub mod Weighed

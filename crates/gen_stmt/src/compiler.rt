@@ -1,6 +1,6 @@
 // The compiler.
 
-ghost use Rattle.std.specs.Prelude.{◌≡◌, ◌↔◌, ◌<◌, ◌≤◌, ◌⊎◌, IfOk, IsErrOf, IsTrue};
+ghost use Rattle.std.specs.Prelude.{◌≡◌, ◌↔◌, ◌<◌, ◌≤◌, ◌⊎◌, IfOk, IsErrOf};
 ghost use Rattle.capl_tree.specs.Weight.{saturated, weight};
 ghost use Rattle.typed_tree.specs.Size.{size};
 ghost use Rattle.typed_tree.specs.Sound.{IsSound};
@@ -67,18 +67,28 @@ pub fn compile(alloc: Global, program: &Program, typed: &Typed) -> Result<Verifi
     ensures code { IfOk result (IsCodeOf typed.now) }
     ensures means { IfOk result (DoesWhatItMeans typed.now) }
 {
-    if is_too_large(program, typed) {
+    compile_weighed(alloc, weight_of(program), typed)
+}
+
+/// The same as [`compile`] of a program of this weight, whose source need not be there any more. A weight
+/// above 1,000,000 is too great, whatever it is.
+pub fn compile_weighed(
+    alloc: Global,
+    weight: u64,
+    typed: &Typed,
+) -> Result<Verified, CompileRefusal>
+    requires sound { IsSound typed.now }
+    requires bounded { weight ≤ 1000000 → size typed.now ≤ weight }
+    ensures size { IsErrOf result CompileRefusal.Size
+        ↔ ((1000000 < cell_count typed.now) ⊎ (1000000 < weight)) }
+    ensures code { IfOk result (IsCodeOf typed.now) }
+    ensures means { IfOk result (DoesWhatItMeans typed.now) }
+{
+    if cells_of(typed) > MOST || weight > MOST {
         return Err(CompileRefusal::Size);
     }
     let verified = verified_code(alloc, typed)?;
     Ok(verified)
-}
-
-/// Whether the cells or the weight of a program are above what is compiled.
-fn is_too_large(program: &Program, typed: &Typed) -> bool
-    ensures { IsTrue result ↔ ((1000000 < cell_count typed.now) ⊎ (1000000 < weight program.now)) }
-{
-    cells_of(typed) > MOST || weight_of(program) > MOST
 }
 
 /// The code of a typed program, verified.

@@ -1,5 +1,5 @@
 -- A typed program has as many cells as are counted in its source.
-use Rattle.std.proofs.Common.{◌≡◌, ◌≢◌, ◌≤◌, ◌+◌, ℕ, List, [], ◌∷◌, length, Option, Some, None, sym, ap, subst, ◌∙◌, arith, length-append}
+use Rattle.std.proofs.Common.{◌≡◌, ◌≢◌, ◌≤◌, ◌<◌, ◌+◌, ℕ, List, [], ◌∷◌, length, Option, Some, None, sym, ap, subst, ◌∙◌, arith, length-append}
 use Rattle.std.specs.Prelude.{sum_by}
 use Rattle.std.specs.List.{AllPairs, flat_map, filter_map, cons_option}
 use Rattle.std.proofs.lemmas.Bool.Decides.{nat_tests}
@@ -76,9 +76,13 @@ cells_told base program lines typed told is said =
     ap (λ (t : Typed). cell_count t) is.made.typed_is ∙ cells_counted base program is.made.order (line_in lines) in
     small_told told (cells_of_program base program) (said ∙ ap saturated counted) is.made.few_cells
 
--- the weight that is told of a program that is not too heavy is the program's
-pub weight_told : (program : Program) (told : ℕ) → weight program ≤ most → told ≡ saturated (weight program) → told ≡ weight program
-weight_told program told light said = small_told told (weight program) said light
+-- a weight that is told within the limit is the program's
+pub weight_within : (program : Program) (told : ℕ) → told ≡ saturated (weight program) → told ≤ most → told ≡ weight program
+weight_within program told said small = grind (arith, nat_tests)
+
+-- a weight that is told above the limit is one
+pub weight_above : (program : Program) (told : ℕ) → told ≡ saturated (weight program) → most < told → most < weight program
+weight_above program told said above = grind (arith, nat_tests)
 
 -- the code of an accepted program is within the program's weight, as typed programs are
 pub within_weight : (base : List DbcMessage) (program : Program) (lines : List (List ℕ)) (typed : Typed) → IsAccepted base program lines typed →

@@ -30,7 +30,7 @@ use capl_parser::{ParseRefusal, parse};
 use capl_tree::{FileTree, Program, weight_of};
 use check_types::{CheckRefusal, check};
 use dbc_reader::Database;
-use gen_stmt::{CompileRefusal, cells_of, compile};
+use gen_stmt::{CompileRefusal, cells_of, compile_weighed};
 use input_refusals::{InputRefusal, blamed_file, blamed_place};
 use items::Items;
 use small_trees::laws::{
@@ -64,12 +64,15 @@ pub(crate) fn code_of(
     programs_declare_no_more_than_their_tokens();
     let typed = check_program(alloc, name, files, &program, base)?;
     code_is_within_the_weight();
-    let code = compile_program(alloc, name, &program, &typed)?;
+    let weight = weight_of(&program);
+    // The code can take the memory of the trees.
+    drop(program);
+    let code = compile_program(alloc, name, weight, &typed)?;
     let names = names_of(alloc, files)?;
     Ok(Compiled {
         code,
         cells: cells_of(&typed),
-        weight: weight_of(&program),
+        weight,
         files: Items::from_list(names),
     })
 }
@@ -243,16 +246,16 @@ fn blamed_offence(alloc: Global, files: &[SourceFile], offence: &Offence) -> Inp
 fn compile_program(
     alloc: Global,
     name: &Text,
-    program: &Program,
+    weight: u64,
     typed: &Typed,
 ) -> Result<Verified, InputRefusal>
     requires sound { IsSound typed.now }
-    requires bounded { size typed.now ≤ weight program.now }
+    requires bounded { weight ≤ most → size typed.now ≤ weight }
     requires few_cells { cell_count typed.now ≤ most }
-    ensures { Judges (λ code. IsCodeOf typed.now code × (weight program.now ≤ most))
-        (λ blame. (most < weight program.now) × (blame ≡ file_blame name.now (source_rule 29))) result }
+    ensures { Judges (λ code. IsCodeOf typed.now code × (weight ≤ most))
+        (λ blame. (most < weight) × (blame ≡ file_blame name.now (source_rule 29))) result }
 {
-    match compile(alloc, program, typed) {
+    match compile_weighed(alloc, weight, typed) {
         Ok(code) => Ok(code),
         Err(CompileRefusal::Size) => Err(blamed_file(alloc, name, TOO_LARGE)),
         Err(CompileRefusal::NoMemory) => Err(InputRefusal::NoMemory),

@@ -1,16 +1,17 @@
 -- What is known of a typed program that is compiled, how large it is, and what is to blame of one that is too
 -- heavy.
-use Rattle.std.proofs.Common.{◌≡◌, ◌≤◌, ◌<◌, ◌∙◌, inr}
+use Rattle.std.proofs.Common.{◌≡◌, ◌≤◌, ◌<◌, ◌∙◌, inr, subst, sym}
 use Rattle.texts.specs.Rule.{source_rule}
 use Rattle.bytecode.specs.declared.code.Code.{Code}
 use Rattle.capl_include.specs.Blame.{file_blame}
 use Rattle.capl_tree.specs.Weight.{weight}
 use Rattle.check_names.specs.Names.{messages_of}
+use Rattle.typed_tree.specs.Size.{size}
 use Rattle.code_listing.specs.Program.{IsCodeOf}
 use Rattle.source_compiler.specs.Source.{IsProgramBlame, lines_of, most}
 use Rattle.source_compiler.specs.Compiled.{IsCompiled}
 use Rattle.source_compiler.specs.declared.compiled.Compiled.{Compiled}
-use Rattle.source_compiler.proofs.CellLemmas.{cells_told, few_cells, weight_told, within_weight}
+use Rattle.source_compiler.proofs.CellLemmas.{cells_told, few_cells, weight_above, weight_within, within_weight}
 use Rattle.source_compiler.proofs.ReadableLemmas.{files_few, files_light, files_readable}
 use Rattle.input_refusals.proofs.Passing.{judged_on}
 use Rattle.source_compiler.proofs.program.code_of.Goals as goal
@@ -35,7 +36,8 @@ pub compile_program-requires-clause-bounded : goal.compile_program-requires-clau
 compile_program-requires-clause-bounded c =
     let base = messages_of c.args.base in
     let program = c.in_ok-program.program in
-    within_weight base program (lines_of c.args.files.now) c.in_ok-typed.typed c.in_ok-typed.ensures (c.code_is_within_the_weight.ensures base program)
+    let bound = within_weight base program (lines_of c.args.files.now) c.in_ok-typed.typed c.in_ok-typed.ensures (c.code_is_within_the_weight.ensures base program) in
+    λ small. subst (λ n. size c.in_ok-typed.typed ≤ n) (sym (weight_within program c.weight_of-weight.result c.weight_of-weight.ensures small)) bound
 
 pub compile_program-requires-clause-few_cells : goal.compile_program-requires-clause-few_cells
 compile_program-requires-clause-few_cells c =
@@ -48,10 +50,11 @@ returns-in_err-code c =
     let name = c.args.name.now in
     let files = c.args.files.now in
     let program = c.in_ok-program.program in
-    judged_on {A = Code} {B = Compiled} (λ code. IsCodeOf c.in_ok-typed.typed code × (weight program ≤ most))
-    (λ blame. (most < weight program) × (blame ≡ file_blame name (source_rule 29))) (IsCompiled base files) (IsProgramBlame base name files)
+    let told = c.weight_of-weight.result in
+    judged_on {A = Code} {B = Compiled} (λ code. IsCodeOf c.in_ok-typed.typed code × (told ≤ most))
+    (λ blame. (most < told) × (blame ≡ file_blame name (source_rule 29))) (IsCompiled base files) (IsProgramBlame base name files)
     c.in_err-code.field-0.0 c.from_residual-in_err-code.result c.from_residual-in_err-code.ensures.1
-    (λ blame heavy. inr (inr (c.in_ok-screen_files.ensures, (program, c.in_ok-program.ensures, inr (c.in_ok-typed.ensures.made.no_offence, inr heavy.0, heavy.1)))))
+    (λ blame heavy. inr (inr (c.in_ok-screen_files.ensures, (program, c.in_ok-program.ensures, inr (c.in_ok-typed.ensures.made.no_offence, inr (weight_above program told c.weight_of-weight.ensures heavy.0), heavy.1)))))
     c.in_err-code.ensures
 
 -- a program that is compiled
@@ -61,15 +64,16 @@ returns c =
     let program = c.in_ok-program.program in
     let lines = lines_of c.args.files.now in
     let typed = c.in_ok-typed.typed in
+    let weight_is = weight_within program c.weight_of-weight.result c.weight_of-weight.ensures c.in_ok-code.ensures.1 in
     record {
       screened = c.in_ok-screen_files.ensures;
       program = program;
       trees = c.in_ok-program.ensures;
-      light = c.in_ok-code.ensures.1;
+      light = subst (λ n. n ≤ most) weight_is c.in_ok-code.ensures.1;
       made = record {
         code_is = (typed, c.in_ok-typed.ensures, c.in_ok-code.ensures.0);
         cells_are = cells_told base program lines typed c.cells_of.result c.in_ok-typed.ensures c.cells_of.ensures;
-        weight_is = weight_told program c.weight_of.result c.in_ok-code.ensures.1 c.weight_of.ensures;
+        weight_is = weight_is;
         files_are = c.from_list.ensures ∙ c.in_ok-names.ensures;
       };
     }
