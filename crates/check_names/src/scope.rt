@@ -79,6 +79,29 @@ fn note_variable<'p>(
     )
 }
 
+/// How many of these variables are globals.
+fn count_globals(variables: &[Declared]) -> usize {
+    variables
+        .iter()
+        .filter(|variable| variable.place.owner == 0)
+        .count()
+}
+
+/// The table of the globals alone, with room for those of these variables.
+fn first_table<'p>(
+    alloc: Global,
+    seed: Seed,
+    variables: &[Declared<'p>],
+) -> Result<Vec<NameTable<'p>>, NoMemory>
+    ensures { (owner : ℕ) (name : List ℕ) →
+        IfOk result (λ tables. number_at tables.items owner name ≡ None) }
+{
+    let table = NameTable::with_room(alloc, seed, count_globals(variables))?;
+    let mut tables = Vec::new(alloc);
+    tables.push(table)?;
+    Ok(tables)
+}
+
 /// The tables of variables.
 pub(crate) fn tables_of<'p>(
     alloc: Global,
@@ -89,7 +112,7 @@ pub(crate) fn tables_of<'p>(
     ensures { (base : List DbcMessage) →
         IfOk result (λ tables. AreTables tables.items (variables_in base variables.now)) }
 {
-    let mut tables = Vec::new(alloc);
+    let mut tables = first_table(alloc, seed, variables)?;
     let mut number = 0u32;
     for variable in variables {
         note_variable(alloc, seed, number, variable, &mut tables)?;

@@ -24,6 +24,7 @@ fn no_program(alloc: Global) -> Typed {
 /// number is not 0.
 fn emitted(alloc: Global, typed: &Typed) -> Result<Emitter, NoMemory> {
     let mut code = Emitter::new(alloc);
+    code.reserve(5)?;
     emit(&TExpr::Const(5), typed, 0, &mut code)?;
     emit_values(&[TExpr::Now], typed, 1, &mut code)?;
     emit_dropped(&TExpr::Now, typed, &mut code)?;

@@ -41,6 +41,15 @@ impl Emitter {
         }
     }
 
+    /// Makes room for so many more instructions.
+    pub fn reserve(&mut self, more: usize) -> Result<(), NoMemory>
+        ensures { self.new ≡ self.old }
+    {
+        self.instrs.reserve(more)?;
+        self.depths.reserve(more)?;
+        Ok(())
+    }
+
     /// Appends an instruction with its depth. After an error it holds what it held.
     pub fn add(&mut self, instr: Instr, depth: u32) -> Result<(), NoMemory>
         ensures grows { OnOk result (length self.new ≡ length self.old + 1) }

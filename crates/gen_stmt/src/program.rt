@@ -52,6 +52,8 @@ fn emit_procedure(
         ++ procedure_code typed.now (record { gives = gives; body = body.now }) (length into.old)) }
 {
     let extent = note_statements(body, typed, notes)?;
+    // The end of the procedure may take two more.
+    into.reserve((extent.size as usize).saturating_add(2))?;
     let end = into.place() + extent.size as u32;
     let exits = Exits {
         break_at: end,

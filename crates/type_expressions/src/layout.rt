@@ -118,7 +118,7 @@ impl Layout {
         ensures { IfOk result (IsLaidOut names.now) }
     {
         let count = names.variable_count();
-        let mut all = Vec::new(alloc);
+        let mut all = Vec::with_capacity(alloc, count as usize)?;
         let mut next = Next {
             cell: EVENT_CELLS,
             timers: 0,

@@ -434,7 +434,7 @@ pub fn make_body(
     ensures formats { OnOk result
         (formats.new.items ≡ formats.old.items ++ formats_of_body (scope_in scope.entry) statements.now) }
 {
-    let mut made = Vec::new(alloc);
+    let mut made = Vec::with_capacity(alloc, statements.len())?;
     for statement in statements {
         let tree = make_statement(alloc, scope, tables, formats, statement)?;
         made.push(tree)?;
@@ -458,7 +458,7 @@ fn make_arms(
     ensures formats { OnOk result
         (formats.new.items ≡ formats.old.items ++ formats_in_arms (scope_in scope.entry) arms.now) }
 {
-    let mut made = Vec::new(alloc);
+    let mut made = Vec::with_capacity(alloc, arms.len())?;
     for arm in arms {
         let tree = make_arm(alloc, scope, tables, formats, arm)?;
         made.push(tree)?;
@@ -533,7 +533,7 @@ fn make_groups(
     ensures formats { OnOk result
         (formats.new.items ≡ formats.old.items ++ formats_in_groups (scope_in scope.entry) groups.now) }
 {
-    let mut made = Vec::new(alloc);
+    let mut made = Vec::with_capacity(alloc, groups.len())?;
     for group in groups {
         let body = make_body(alloc, scope, tables, formats, group.body.as_slice())?;
         push_group(

@@ -1,5 +1,5 @@
--- One more variable.
-use Rattle.std.proofs.Common.{◌∙◌, List, sym, subst, rules, take}
+-- The first table, and one more variable.
+use Rattle.std.proofs.Common.{◌∙◌, List, refl, sym, subst, rules, take}
 use Rattle.std.proofs.lemmas.List.{take_all}
 use Rattle.capl_meaning.specs.Variable.{Variable}
 use Rattle.check_names.specs.declared.variable.Declared.{Declared}
@@ -8,6 +8,12 @@ use Rattle.check_names.specs.Variable.{variable_in, variables_in}
 use Rattle.check_names.proofs.ScopeLemmas.{tables_more}
 use Rattle.check_names.proofs.TakeLemmas.{map_length, map_more}
 use Rattle.check_names.proofs.scope.tables_of.Goals as goal
+
+pub loop-variable-init : goal.loop-variable-init
+loop-variable-init c = record {
+  number = refl;
+  tables = λ base. c.in_ok-tables.ensures;
+}
 
 pub loop-variable-preserved : goal.loop-variable-preserved
 loop-variable-preserved c = record {
