@@ -3,7 +3,7 @@
 ghost use Rattle.std.specs.Prelude.{◌≡◌, List, None, Some, slice_get};
 ghost use Rattle.std.specs.Option.{option_map_or};
 ghost use Rattle.dbc_reader.specs.declared.message.DbcMessage.{DbcMessage};
-ghost use Rattle.capl_meaning.specs.Variable.{Misfit, form_of, identifier};
+ghost use Rattle.capl_meaning.specs.Variable.{ByName, Message, Misfit, form_of, identifier, message_named};
 ghost use Rattle.check_names.specs.Variable.{variable_in};
 ghost use Rattle.check_sorts.specs.Form.{form_in};
 
@@ -59,6 +59,15 @@ fn identifier(value: Option<u64>, extended: bool) -> u128
     }
 }
 
+/// What a declaration of a message by its name declares. It stands by itself, so that numbers do not pay for
+/// looking up names.
+#[inline(never)]
+fn form_by_name<'p>(names: &Names<'p>, name: &[u8]) -> Form<'p>
+    ensures { form_in result ≡ Message (ByName (message_named names.now.base name.now)) }
+{
+    Form::Message(MessageType::ByName(names.message(name)))
+}
+
 /// What a declaration without a size declares.
 fn plain_form<'p>(names: &Names<'p>, what: &DeclType) -> Form<'p>
     ensures { form_in result ≡ form_of names.now.base what.now None }
@@ -72,9 +81,7 @@ fn plain_form<'p>(names: &Names<'p>, what: &DeclType) -> Form<'p>
         DeclType::ById { value, ext, .. } => {
             Form::Message(MessageType::ByIdentifier(identifier(*value, *ext)))
         }
-        DeclType::ByName { name, .. } => {
-            Form::Message(MessageType::ByName(names.message(name.bytes())))
-        }
+        DeclType::ByName { name, .. } => form_by_name(names, name.bytes()),
         DeclType::Seconds => Form::Timer(1_000_000),
         DeclType::Millis => Form::Timer(1_000),
     }
