@@ -292,7 +292,7 @@ fn numbers_are_shown_as_in_c(rt: HostRuntime) -> Result<(), Fail> {
 /// The copy of a format with arguments of these letters.
 fn copied(alloc: Global, text: &[u8], letters: &[u8]) -> Result<Format, Fail> {
     let args = arguments(alloc, letters)?;
-    Ok(Format::read(alloc, text, &args)?.copy()?)
+    Ok(Format::read(alloc, text, &args)?.copy(alloc)?)
 }
 
 #[test]
@@ -334,7 +334,7 @@ fn arrays_are_looked_for(rt: HostRuntime) -> Result<(), Fail> {
 #[test]
 fn a_format_keeps_what_it_is_given(rt: HostRuntime) -> Result<(), Fail> {
     let text = Text::make(rt.alloc(), b"100%%")?;
-    let format = Format::of_owned(rt.alloc(), text, Items::from_list(Vec::new(rt.alloc())))?;
+    let format = Format::of_owned(text, Items::from_list(Vec::new(rt.alloc())))?;
     assert_eq!(rt; format.text(), b"100%%".as_slice());
     assert_eq!(rt; format.args().len(), 0);
     Ok(())

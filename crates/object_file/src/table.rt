@@ -191,14 +191,14 @@ pub(crate) fn are_kept(formats: &[Format]) -> bool
 }
 
 /// The format of a text and arguments, which it keeps.
-fn read_format(alloc: Global, own: Text, args: Items<ArgKind>) -> Result<Format, ReadRefusal>
+fn read_format(own: Text, args: Items<ArgKind>) -> Result<Format, ReadRefusal>
     ensures found { IfOk result (IsFormatOf own args) }
     ensures short { IfOk result (λ format.
         length own < 2 ^ 32 → All IsShortArgument args → IsShort format) }
     ensures bad { IsErrOf result Bad → format_of own args ≡ None }
 {
     pieces_are_found();
-    match Format::of_owned(alloc, own, args) {
+    match Format::of_owned(own, args) {
         Ok(format) => Ok(format),
         Err(FormatRefusal::Wrong { .. }) => Err(ReadRefusal::Bad),
         Err(FormatRefusal::NoMemory) => Err(ReadRefusal::NoMemory),
@@ -226,7 +226,7 @@ impl Stored for Format {
     fn read(alloc: Global, bytes: &[u8]) -> Result<(Format, &[u8]), ReadRefusal> {
         <(Text, Items<ArgKind>) as Stored>::complete();
         let ((own, args), rest) = <(Text, Items<ArgKind>) as Stored>::read(alloc, bytes)?;
-        let format = read_format(alloc, own, args)?;
+        let format = read_format(own, args)?;
         Ok((format, rest))
     }
 

@@ -33,7 +33,7 @@ fn copy_formats(alloc: Global, formats: &[Format]) -> Result<Items<Format>, NoMe
 {
     let mut copies = Vec::new(alloc);
     for format in formats {
-        copies.push(format.copy()?)?;
+        copies.push(format.copy(alloc)?)?;
     }
     Ok(Items::from_list(copies))
 }

@@ -140,7 +140,7 @@ rows_alone : Rows []
 rows_alone = record { d = code.letter_d; u = code.letter_u; x = code.letter_x; upper_x = code.upper_x; o = code.letter_o }
 
 -- a letter that stands alone
-plain_spelled : (letter : ℕ) (conversion : Conversion) → plain_conversion letter ≡ Some conversion
+pub plain_spelled : (letter : ℕ) (conversion : Conversion) → plain_conversion letter ≡ Some conversion
     → SpellsConversion (letter ∷ []) conversion
 plain_spelled letter conversion is =
     elim (chosen (letter == 99) _ _ conversion is) [

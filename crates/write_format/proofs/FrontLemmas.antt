@@ -5,14 +5,16 @@ use Rattle.std.specs.Option.{option_map, option_and_then, option_or}
 use Rattle.std.proofs.lemmas.Bool.Decides.{nat_tests}
 use Rattle.std.proofs.lemmas.Bool.{eqb-true}
 use Rattle.std.proofs.lemmas.List.{length-append}
+use Rattle.std.proofs.lemmas.List.Elements.{All-nil}
+use Rattle.text_parts.specs.Number.{IsDigit}
 use Rattle.std.proofs.lemmas.Option.{cond_some, none-some, same_Some}
-use Rattle.write_format.specs.Code.{SpellsCode, SpellsConversion, SpellsField}
-use Rattle.write_format.specs.Reading.{behind_flags, behind_numeral, behind_percent, code_at, code_behind, conversion_at, field_of, flags_at, numeral_at, percent_at, piece_at, Spells}
+use Rattle.write_format.specs.Code.{IsFlag, IsWidth, SpellsCode, SpellsConversion, SpellsField}
+use Rattle.write_format.specs.Reading.{behind_flags, behind_numeral, behind_percent, code_at, code_behind, conversion_at, field_of, flags_at, numeral_at, percent_at, piece_at, plain_conversion, Spells}
 use Rattle.write_format.specs.declared.code.Code as declared
 use Rattle.write_format.specs.declared.code.Conversion.{Conversion}
 use Rattle.write_format.specs.declared.piece.Piece.{Piece}
 use Rattle.write_format.specs.declared.piece.Piece.TheVariants.{Byte, Argument}
-use Rattle.write_format.proofs.ConversionLemmas.{conversion_found, conversion_spelled, letters_no_flag, letters_no_digit}
+use Rattle.write_format.proofs.ConversionLemmas.{conversion_found, conversion_spelled, letters_no_flag, letters_no_digit, plain_spelled}
 use Rattle.write_format.proofs.FieldLemmas.{field_found, field_spelled, field_text, parts_found}
 
 -- what a map of an option was made of
@@ -48,6 +50,16 @@ code_found bytes code rest middle letters is field conversion =
     ∙ ap (λ o. option_and_then (λ f. code_behind f (behind_numeral (behind_flags (flags ++ (numeral ++ behind))))) o) of
     ∙ ap (code_behind code.field) found.rest_is
     ∙ ap (λ o. option_map (λ found. (record { field = code.field; conversion = found.0 }, found.1)) o) (conversion_found conversion rest)
+
+-- so is one that is a letter
+pub letter_found : (letter : ℕ) (conversion : Conversion) (rest : List ℕ) → plain_conversion letter ≡ Some conversion
+    → code_at (letter ∷ rest) ≡ Some (record { field = record { left = false; zeros = false; width = 0 }; conversion = conversion }, rest)
+letter_found letter conversion rest is =
+    let width : IsWidth [] 0 = record { decimal = All-nil IsDigit; no_zero = λ no. absurd (omega (arith, no)); is = refl; most = omega arith } in
+    let field : SpellsField [] (record { left = false; zeros = false; width = 0 }) =
+    record { flags = []; numeral = []; spelled = refl; are_flags = All-nil IsFlag; left = refl; zeros = refl; is_width = width } in
+    code_found (letter ∷ []) (record { field = record { left = false; zeros = false; width = 0 }; conversion = conversion }) rest [] (letter ∷ [])
+    refl field (plain_spelled letter conversion is)
 
 -- and a code that is found
 code_spelled : (bytes : List ℕ) (code : declared.Code) (rest : List ℕ) → code_at bytes ≡ Some (code, rest)

@@ -4,9 +4,10 @@ mod ConversionLemmas
 mod FieldLemmas
 pub mod FrontLemmas
 mod LineLemmas
-mod PartLemmas
 mod PieceLemmas
 mod RangeLemmas
 mod ReadingLemmas
 mod SearchLemmas
 mod ShortLemmas
+mod ShowLemmas
+mod ShownLemmas

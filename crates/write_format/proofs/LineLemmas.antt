@@ -1,21 +1,20 @@
 -- The text of parts in a row.
 use Rattle.std.proofs.Common.{◌≡◌, ◌<◌, ◌≤◌, ◌+◌, ℕ, Bool, true, false, cond, List, [], ◌∷◌, ◌++◌, length, get_or, take, drop, refl, sym, ap, ◌∙◌, append_assoc, arith, to_z, of_z}
-use Rattle.std.specs.Prelude.{ℤ, pos, negsuc, ◌≤ℤ◌, ◌==◌, count_by, flat_map, map, unsigned_abs}
+use Rattle.std.specs.Prelude.{ℤ, pos, negsuc, ◌≤ℤ◌, ◌==◌, count_by, map, unsigned_abs}
 use Rattle.std.specs.Int.{w128}
 use Rattle.std.proofs.lemmas.Int.{ints, to_z-of_z}
 use Rattle.std.proofs.lemmas.List.{drop-drop, get_or-map, length-map, map-append, take-map, take_more}
 use Rattle.std.proofs.lemmas.List.Sums.{position_or_len_is, sum_by-cons}
 use Rattle.write_format.specs.Line.{Element, Byte, Number, Character, Chars, Str, takes_number, character_of, filled, first_argument, line_of, number_text, text_in, cells_of}
-use Rattle.write_format.specs.declared.part.Part.{Part}
-use Rattle.write_format.proofs.PartLemmas.{elements_more}
 
 -- bytes are written as they are
-pub line_of_text : (bytes : List ℕ) (numbers cells : List ℤ) → line_of (map Byte bytes) numbers cells ≡ bytes
-line_of_text [] numbers cells = refl
-line_of_text (byte ∷ bytes) numbers cells = ap (λ l. byte ∷ l) (line_of_text bytes numbers cells)
+pub line_of_text : (bytes : List ℕ) (elements : List Element) (numbers cells : List ℤ)
+    → line_of (map Byte bytes ++ elements) numbers cells ≡ bytes ++ line_of elements numbers cells
+line_of_text [] elements numbers cells = refl
+line_of_text (byte ∷ bytes) elements numbers cells = ap (λ l. byte ∷ l) (line_of_text bytes elements numbers cells)
 
 -- how many numbers these parts take
-abbrev taken_by : List Element → ℕ
+abbrev pub taken_by : List Element → ℕ
 taken_by elements = count_by takes_number elements
 
 -- 1 where something is so
@@ -97,18 +96,6 @@ text_in_is cells place within before at =
 pub bytes_more : (cells : List ℤ) (i : ℕ) → i < length cells
     → map unsigned_abs (take (i + 1) cells) ≡ map unsigned_abs (take i cells) ++ unsigned_abs (get_or cells i (pos 0)) ∷ []
 bytes_more cells i within = ap (map unsigned_abs) (take_more cells i (pos 0) within) ∙ map-append unsigned_abs (take i cells) (get_or cells i (pos 0) ∷ [])
-
--- one more part of a line
-pub line_more : (shown : Part → List Element) → (parts : List Part) (i taken : ℕ) (d : Part) (numbers cells : List ℤ) → i < length parts
-    → taken ≡ taken_by (flat_map shown (take i parts))
-    → line_of (flat_map shown (take i parts)) numbers cells ++ line_of (shown (get_or parts i d)) (drop taken numbers) cells
-    ≡ line_of (flat_map shown (take (i + 1) parts)) numbers cells
-line_more shown parts i taken d numbers cells within count =
-    let front = flat_map shown (take i parts) in
-    let part = get_or parts i d in
-    ap (λ n. line_of front numbers cells ++ line_of (shown part) (drop n numbers) cells) count
-    ∙ sym (line_of-append front (shown part) numbers cells)
-    ∙ ap (λ l. line_of l numbers cells) (sym (elements_more shown parts i d within))
 
 -- a byte is read back as it was written
 pub byte_read_back : (n : ℤ) → (pos 0 ≤ℤ n) × (n ≤ℤ pos 255) → to_z w128 (of_z w128 n) ≡ n

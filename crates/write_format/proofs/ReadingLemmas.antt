@@ -153,7 +153,7 @@ zip-length (c ∷ codes) [] few = absurd (omega (arith, few))
 zip-length (c ∷ codes) (first ∷ arguments) few = ap suc (zip-length codes arguments (omega (arith, few)))
 
 -- no element passes
-none_passes : {X : Type 0} (test : X → Bool) (xs : List X) → position test xs ≡ None → position_or_len test xs ≡ length xs
+pub none_passes : {X : Type 0} (test : X → Bool) (xs : List X) → position test xs ≡ None → position_or_len test xs ≡ length xs
 none_passes test xs none = by_test (nat_lt (position_or_len test xs) (length xs)) refl
   where
     by_test : (t : Bool) → nat_lt (position_or_len test xs) (length xs) ≡ t → position_or_len test xs ≡ length xs

@@ -1,3 +1,3 @@
 -- What the code goes by on its way to a format.
 pub mod Chars
-pub mod Parts
+pub mod Shown

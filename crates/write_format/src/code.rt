@@ -1,7 +1,7 @@
 // Codes: flags, a width, and the letters of a conversion (ISO/IEC 9899, fprintf, of which CAPL's
 // `write` has these).
 
-ghost use Rattle.std.specs.Prelude.{◌≡◌};
+ghost use Rattle.std.specs.Prelude.{◌≡◌, IfSome, Some};
 ghost use Rattle.std.specs.List.{AllPass, prefix_len};
 ghost use Rattle.std.specs.Option.{option_map};
 ghost use Rattle.text_parts.specs.Number.{is_digit};
@@ -72,6 +72,30 @@ pub(crate) enum Size {
 
 /// The code at the front, behind its `%`, and what stands behind it.
 pub(crate) fn code_at(bytes: &[u8]) -> Option<(Code, &[u8])>
+    ensures { option_map (λ found. (found.0, found.1.now)) result ≡ code_at bytes.now }
+{
+    match letter_code_at(bytes) {
+        Some(found) => Some(found),
+        None => field_code_at(bytes),
+    }
+}
+
+/// The code at the front where it is one letter, as most are, and what stands behind it.
+fn letter_code_at(bytes: &[u8]) -> Option<(Code, &[u8])>
+    ensures { IfSome result (λ found. code_at bytes.now ≡ Some (found.0, found.1.now)) }
+{
+    let (letter, rest) = bytes.split_first()?;
+    let conversion = plain_conversion(*letter)?;
+    let field = Field {
+        left: false,
+        zeros: false,
+        width: 0,
+    };
+    Some((Code { field, conversion }, rest))
+}
+
+/// The code at the front, with any flags and width, and what stands behind it.
+fn field_code_at(bytes: &[u8]) -> Option<(Code, &[u8])>
     ensures { option_map (λ found. (found.0, found.1.now)) result ≡ code_at bytes.now }
 {
     let (flags, rest) = bytes.split_at(flag_count(bytes));

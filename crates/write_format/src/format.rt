@@ -1,16 +1,15 @@
 // Formats.
 
-ghost use Rattle.std.specs.Prelude.{◌≡◌, ◌↔◌, ◌<◌, ◌^◌, ℕ, List, All, IfOk, IfErr, IsErrOf, IsTrue, Some, None, count_by, length};
-ghost use Rattle.write_format.specs.Line.{IsCharArray, IsFormatOf, IsShort, IsShortArgument, array_of, char_arrays, numbers_taken, takes_number};
-ghost use Rattle.write_format.specs.Inside.Parts.{AreFit, IsWithin, all_elements, elements_in, format_held};
-ghost use Rattle.write_format.specs.Reading.{HasCodesFor, IsFirstUnfit};
-ghost use Rattle.write_format.specs.declared.argument.ArgKind as argument;
-ghost use Rattle.std.specs.List.{filter_map};
+ghost use Rattle.std.specs.Prelude.{◌≡◌, ◌↔◌, ◌<◌, ◌^◌, ℕ, List, All, IfOk, IsErrOf, IsTrue, Some, None, count_by, length};
+ghost use Rattle.write_format.specs.Line.{IsCharArray, IsFormatOf, IsShort, IsShortArgument, char_arrays, numbers_taken};
+ghost use Rattle.write_format.specs.Inside.Shown.{AreFit, IsArrayIn, IsShownShort, format_held, is_number};
+ghost use Rattle.write_format.specs.Reading.{AreSpelled, HasCodesFor, IsFirstUnfit};
+ghost use Rattle.write_format.specs.declared.piece.Piece as declared;
 
 use crate::argument::ArgKind;
 use crate::chars::CharCells;
-use crate::part::{Part, is_short_part, numbers_in, part_len, parts_of};
-use crate::reading::count_parts;
+use crate::piece::{count_pieces, place_of};
+use crate::reading::check_codes;
 use crate::refusal::FormatRefusal;
 use items::Items;
 use std::alloc::Global;
@@ -22,29 +21,26 @@ pub(crate) const LIMIT: usize = 0x1_0000_0000;
 
 /// A format with what is known of its arguments.
 ///
-/// It keeps the text and the arguments that it was read from, and the parts of its line, which name what
-/// they show by its place in these.
+/// It keeps the text and the arguments that it was read from, of which a line is made piece by piece, and
+/// how many numbers a line takes.
 #[derive(Debug, Drop)]
 pub struct Format {
     text: Text,
     args: Items<ArgKind>,
-    parts: Vec<Part>,
     numbers: usize,
 }
 
 impl Model for Format {
-    ghost use Rattle.std.specs.Prelude.{◌≡◌, All, count_by};
-    ghost use Rattle.write_format.specs.Line.{FormatText, IsFormatOf, takes_number};
-    ghost use Rattle.write_format.specs.Inside.Parts.{IsWithin, all_elements, format_held};
+    ghost use Rattle.std.specs.Prelude.{◌≡◌};
+    ghost use Rattle.write_format.specs.Line.{FormatText, numbers_taken};
+    ghost use Rattle.write_format.specs.Inside.Shown.{AreFit, format_held};
 
     ghost Value = { FormatText };
 
-    ghost view = { λ format. format_held format.text format.args format.parts.items };
+    ghost view = { λ format. format_held format.text format.args };
 
-    ghost invariant = { λ format.
-        (format.numbers ≡ count_by takes_number (all_elements format.text format.args format.parts.items))
-        × IsFormatOf format.text format.args (format_held format.text format.args format.parts.items)
-        × All (IsWithin format.text format.args) format.parts.items };
+    ghost invariant = { λ format. AreFit format.text format.args
+        × (format.numbers ≡ numbers_taken (format_held format.text format.args)) };
 }
 
 impl Format {
@@ -62,18 +58,15 @@ impl Format {
         ensures short { IfOk result (λ format.
             length text.now < 2 ^ 32 → All IsShortArgument args.now → IsShort format) }
     {
-        let room = count_parts(text, args)?;
-        Ok(make_of_copies(alloc, text, args, room)?)
+        check_codes(text, args)?;
+        let own = Text::make(alloc, text)?;
+        let given = copy_args(alloc, args)?;
+        Ok(from_fit(own, given))
     }
 
     /// The same as [`Format::read`] of a text and arguments that it keeps, so that nothing is copied.
-    /// Takes time linear in the text and in the texts among the arguments, and memory linear in the
-    /// text.
-    pub fn of_owned(
-        alloc: Global,
-        text: Text,
-        args: Items<ArgKind>,
-    ) -> Result<Format, FormatRefusal>
+    /// Takes time linear in the text and in the arguments, and no memory.
+    pub fn of_owned(text: Text, args: Items<ArgKind>) -> Result<Format, FormatRefusal>
         ensures format { IfOk result (IsFormatOf text args) }
         ensures wrong { IsErrOf result (FormatRefusal.Wrong None) ↔ ¬ (HasCodesFor text args) }
         ensures unfit { (place : ℕ) →
@@ -83,19 +76,17 @@ impl Format {
         ensures short { IfOk result (λ format.
             length text < 2 ^ 32 → All IsShortArgument args → IsShort format) }
     {
-        let room = count_parts(text.bytes(), args.as_slice())?;
-        Ok(make(alloc, text, args, room)?)
+        check_codes(text.bytes(), args.as_slice())?;
+        Ok(from_fit(text, args))
     }
 
     /// The same format once more. Takes time and memory linear in its text and the texts in it.
-    pub fn copy(&self) -> Result<Format, NoMemory>
+    pub fn copy(&self, alloc: Global) -> Result<Format, NoMemory>
         ensures { IfOk result (λ format. format ≡ self.now) }
     {
-        let alloc = *self.parts.allocator();
         let text = Text::make(alloc, self.text.bytes())?;
         let args = copy_args(alloc, self.args.as_slice())?;
-        let parts = Vec::from_slice(alloc, &self.parts)?;
-        Ok(from_parts(text, args, parts))
+        Ok(from_fit(text, args))
     }
 
     /// The text that it was read from.
@@ -120,79 +111,34 @@ impl Format {
         self.numbers
     }
 
-    /// Whether the arrays of characters that it reads are among these cells. Takes time linear in the
-    /// parts of the format.
+    /// Whether the arrays of characters that it reads are among these cells. Takes time linear in its
+    /// arguments.
     pub fn has_arrays_in(&self, cells: &CharCells<'_>) -> bool
         ensures { IsTrue result ↔ All (IsCharArray cells.now) (char_arrays self.now) }
     {
-        for part in self.parts() {
-            if !has_array_in(part, cells) {
-                return false;
-            }
-        }
-        true
+        are_arrays_in(self.args.as_slice(), cells)
     }
 
     /// Whether it is as short as the lists of code have to be: it has fewer than 2^32 parts, of which
-    /// each byte of its text is one, and so have the texts in it. Takes time linear in its parts.
+    /// each byte of its text is one, and so have the texts in it. Takes time linear in its text and in
+    /// its arguments.
     pub fn is_short(&self) -> bool
         ensures { IsTrue result ↔ IsShort self.now }
     {
-        let mut count = 0;
-        for part in self.parts() {
-            let len = part_len(part);
-            if len >= LIMIT - count || !is_short_part(part) {
-                return false;
-            }
-            count += len;
-        }
-        true
-    }
-
-    /// The parts of its line.
-    pub(crate) fn parts(&self) -> &[Part]
-        ensures shown { (self.now).elements ≡ all_elements (self.now).text (self.now).arguments result.now }
-        ensures within { All (IsWithin (self.now).text (self.now).arguments) result.now }
-    {
-        self.parts.as_slice()
+        has_few_pieces(self.text.bytes()) && are_shown_short(self.args.as_slice())
     }
 }
 
-/// The same as [`make`] of copies of a text and arguments.
-fn make_of_copies(
-    alloc: Global,
-    text: &[u8],
-    args: &[ArgKind],
-    room: usize,
-) -> Result<Format, NoMemory>
-    requires { AreFit text.now args.now }
-    ensures { IfOk result (IsFormatOf text.now args.now) }
-{
-    let own = Text::make(alloc, text)?;
-    let given = copy_args(alloc, args)?;
-    make(alloc, own, given, room)
-}
-
-/// The format of a text and arguments, each of which its code shows, with room for so many parts.
-fn make(alloc: Global, text: Text, args: Items<ArgKind>, room: usize) -> Result<Format, NoMemory>
+/// The format of a text and arguments, each of which its code shows.
+fn from_fit(text: Text, args: Items<ArgKind>) -> Format
     requires { AreFit text args }
-    ensures { IfOk result (IsFormatOf text args) }
+    ensures held { result ≡ format_held text args }
+    ensures format { IsFormatOf text args result }
 {
-    let parts = parts_of(alloc, text.bytes(), args.as_slice(), room)?;
-    Ok(from_parts(text, args, parts))
-}
-
-/// The format that was read from this text with these arguments and has these parts.
-fn from_parts(text: Text, args: Items<ArgKind>, parts: Vec<Part>) -> Format
-    requires format { IsFormatOf text args (format_held text args parts.items) }
-    requires within { All (IsWithin text args) parts.items }
-    ensures { result ≡ format_held text args parts.items }
-{
-    let numbers = count_numbers(&parts);
+    let numbers = count_numbers(args.as_slice());
     Format {
         text,
         args,
-        parts,
         numbers,
     }
 }
@@ -201,35 +147,71 @@ fn from_parts(text: Text, args: Items<ArgKind>, parts: Vec<Part>) -> Format
 fn copy_args(alloc: Global, args: &[ArgKind]) -> Result<Items<ArgKind>, NoMemory>
     ensures { IfOk result (λ copies. copies ≡ args.now) }
 {
-    let mut copies = Vec::new(alloc);
+    let mut copies = Vec::with_capacity(alloc, args.len())?;
     for arg in args {
         copies.push(arg.copy(alloc)?)?;
     }
     Ok(Items::from_list(copies))
 }
 
-/// How many parts show a number.
-fn count_numbers(parts: &[Part]) -> usize
-    ensures { (text : List ℕ) (arguments : List argument.ArgKind) →
-        result ≡ count_by takes_number (all_elements text arguments parts.now) }
+/// How many arguments are numbers.
+fn count_numbers(args: &[ArgKind]) -> usize
+    ensures { result ≡ count_by is_number args.now }
 {
-    let mut count = 0;
-    for part in parts {
-        count += numbers_in(part);
-    }
-    count
+    args.iter().filter(|arg| is_number(arg)).count()
 }
 
-/// Whether the array that a part reads, if it reads one, is among these cells.
-fn has_array_in(part: &Part, cells: &CharCells<'_>) -> bool
-    ensures { (text : List ℕ) (arguments : List argument.ArgKind) → (IsTrue result
-        ↔ All (IsCharArray cells.now) (filter_map array_of (elements_in text arguments part.now))) }
+/// Whether an argument is a number.
+fn is_number(arg: &ArgKind) -> bool
+    ensures { result ≡ is_number arg.now }
 {
-    match part {
-        Part::Chars { base, len, .. } => cells.has_array(*base as usize, *len as usize),
-        Part::Text { .. } => true,
-        Part::Number { .. } => true,
-        Part::Character { .. } => true,
-        Part::Str { .. } => true,
+    match arg {
+        ArgKind::Number(_) => true,
+        ArgKind::Chars { .. } | ArgKind::Str(_) => false,
+    }
+}
+
+/// Whether the arrays among the arguments are arrays of characters among these cells.
+fn are_arrays_in(args: &[ArgKind], cells: &CharCells<'_>) -> bool
+    ensures { IsTrue result ↔ All (IsArrayIn cells.now) args.now }
+{
+    args.iter().all(|arg| is_array_in(arg, cells))
+}
+
+/// Whether an argument is no array, or one of characters among these cells.
+fn is_array_in(arg: &ArgKind, cells: &CharCells<'_>) -> bool
+    ensures { IsTrue result ↔ IsArrayIn cells.now arg.now }
+{
+    match arg {
+        ArgKind::Chars { base, len } => cells.has_array(*base as usize, *len as usize),
+        ArgKind::Number(_) => true,
+        ArgKind::Str(_) => true,
+    }
+}
+
+/// Whether a text reads into fewer pieces than a list of code has at most, if it reads into pieces.
+fn has_few_pieces(text: &[u8]) -> bool
+    ensures { (pieces : List declared.Piece) → AreSpelled text.now pieces →
+        (IsTrue result ↔ length pieces < 2 ^ 32) }
+{
+    // Most texts have as few bytes.
+    text.len() < LIMIT || count_pieces(text) < LIMIT
+}
+
+/// Whether what is shown of each text among the arguments is short.
+fn are_shown_short(args: &[ArgKind]) -> bool
+    ensures { IsTrue result ↔ All IsShownShort args.now }
+{
+    args.iter().all(|arg| is_shown_short(arg))
+}
+
+/// Whether an argument is no text, or one of which a short text is shown.
+fn is_shown_short(arg: &ArgKind) -> bool
+    ensures { IsTrue result ↔ IsShownShort arg.now }
+{
+    match arg {
+        ArgKind::Str(text) => place_of(0, text.bytes()) < LIMIT,
+        ArgKind::Number(_) => true,
+        ArgKind::Chars { .. } => true,
     }
 }

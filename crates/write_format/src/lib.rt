@@ -36,7 +36,6 @@ mod field;
 mod format;
 pub mod laws;
 mod line;
-mod part;
 mod piece;
 mod reading;
 mod refusal;

@@ -2,13 +2,14 @@
 
 ghost use Rattle.std.specs.Prelude.{◌≡◌, ◌≤◌, ◌<◌, ◌≤ℤ◌, ◌+◌, ◌++◌, All, IfOk, OnOk, count_by, drop, length, map, pos, take, unsigned_abs};
 ghost use Rattle.std.specs.List.{filter_map};
-ghost use Rattle.write_format.specs.Line.{HoldsBytes, cells_of, array_of, char_arrays, numbers_taken, rendered, takes_number, line_of, text_in};
-ghost use Rattle.write_format.specs.Inside.Parts.{IsWithin, elements_in, range_of, text_at};
+ghost use Rattle.write_format.specs.Line.{HoldsBytes, cells_of, array_of, before_zero, char_arrays, element_of, numbers_taken, rendered, takes_number, line_of, text_in};
+ghost use Rattle.write_format.specs.Inside.Shown.{numbers_of, plain_at};
 
 use crate::argument::ArgKind;
+use crate::code::{Code, Conversion};
 use crate::field::{append_filled, append_number};
 use crate::format::Format;
-use crate::part::{Part, numbers_in};
+use crate::piece::{Piece, next_piece, place_of};
 use int_kinds::{Kind, residue};
 use std::alloc::{AllocError, Global};
 use texts::{NoMemory, Text};
@@ -37,17 +38,20 @@ pub fn render_list(
     ensures { IfOk result (λ line. line.items ≡ rendered f.now numbers.now cells.now) }
 {
     let mut line = Vec::with_capacity(alloc, room_of(f))?;
-    let mut taken = 0;
-    for part in f.parts() {
-        append_part(
-            alloc,
-            &mut line,
-            f,
-            part,
-            numbers_from(numbers, taken),
-            cells,
-        )?;
-        taken += numbers_in(part);
+    let mut args = f.args();
+    let mut numbers = numbers;
+    let mut rest = append_plain(&mut line, f.text())?;
+    while let Some((piece, behind)) = next_piece(rest) {
+        match piece {
+            Piece::Byte(byte) => line.push(byte)?,
+            Piece::Argument(code) => {
+                let arg = &args[0];
+                append_argument(alloc, &mut line, code, arg, numbers, cells)?;
+                numbers = behind_number(numbers, arg);
+                args = &args[1..];
+            }
+        }
+        rest = append_plain(&mut line, behind)?;
     }
     Ok(line)
 }
@@ -59,69 +63,67 @@ fn room_of(f: &Format) -> usize {
         .saturating_add(f.numbers_taken().saturating_mul(20))
 }
 
-/// Appends what a part shows.
-fn append_part(
+/// Appends the bytes before the first `%`, and gives what stands from there on.
+fn append_plain<'a>(line: &mut Vec<u8>, bytes: &'a [u8]) -> Result<&'a [u8], AllocError>
+    ensures line { OnOk result (line.new.items ≡ line.old.items ++ take (plain_at bytes.now) bytes.now) }
+    ensures rest { IfOk result (λ rest. rest.now ≡ drop (plain_at bytes.now) bytes.now) }
+{
+    let (plain, rest) = bytes.split_at(place_of(b'%', bytes));
+    line.extend_from_slice(plain)?;
+    Ok(rest)
+}
+
+/// Appends what a code shows of an argument, if it shows it.
+fn append_argument(
     alloc: Global,
     line: &mut Vec<u8>,
-    f: &Format,
-    part: &Part,
+    code: Code,
+    arg: &ArgKind,
     numbers: &[i128],
     cells: &[i128],
 ) -> Result<(), AllocError>
-    requires within { IsWithin (f.now).text (f.now).arguments part.now }
-    requires numbers { count_by takes_number (elements_in (f.now).text (f.now).arguments part.now)
+    requires numbers { count_by takes_number (element_of code.field code.conversion arg.now)
         ≤ length numbers.now }
     requires arrays { All (HoldsBytes cells.now)
-        (filter_map array_of (elements_in (f.now).text (f.now).arguments part.now)) }
+        (filter_map array_of (element_of code.field code.conversion arg.now)) }
     ensures { OnOk result (line.new.items ≡ line.old.items
-        ++ line_of (elements_in (f.now).text (f.now).arguments part.now) numbers.now cells.now) }
+        ++ line_of (element_of code.field code.conversion arg.now) numbers.now cells.now) }
 {
-    match part {
-        Part::Text { from, len } => line.extend_from_slice(range_of(*from, *len, f.text())),
-        Part::Number {
-            field,
-            kind,
-            digits,
-        } => { append_number(alloc, line, *field, *kind, *digits, numbers[0]) }
-        Part::Character { field } => {
-            append_filled(line, *field, &[residue(Kind::Byte, numbers[0]) as u8])
+    let field = code.field;
+    match (code.conversion, arg) {
+        (Conversion::Number { kind, digits }, ArgKind::Number(_)) => {
+            append_number(alloc, line, field, kind, digits, numbers[0])
         }
-        Part::Chars { field, base, len } => {
+        (Conversion::Character, ArgKind::Number(_)) => {
+            append_filled(line, field, &[residue(Kind::Byte, numbers[0]) as u8])
+        }
+        (Conversion::Text, ArgKind::Chars { base, len }) => {
             let text = text_in(alloc, cells_at(cells, *base as usize, *len as usize))?;
-            append_filled(line, *field, &text)
+            append_filled(line, field, &text)
         }
-        Part::Str { field, place, len } => {
-            append_filled(line, *field, beginning_of(f.args(), *place, *len))
+        (Conversion::Text, ArgKind::Str(text)) => {
+            append_filled(line, field, before_zero(text.bytes()))
         }
+        _ => Ok(()),
     }
 }
 
-/// So many bytes of a text, from a place on.
-fn range_of(from: usize, len: usize, text: &[u8]) -> &[u8]
-    requires { from + len ≤ length text.now }
-    ensures { result.now ≡ range_of from len text.now }
+/// The bytes before the first 0.
+fn before_zero(bytes: &[u8]) -> &[u8]
+    ensures { result.now ≡ before_zero bytes.now }
 {
-    &text[from..from + len]
+    &bytes[..place_of(0, bytes)]
 }
 
-/// So many bytes of the text that is the argument at a place.
-fn beginning_of(args: &[ArgKind], place: usize, len: usize) -> &[u8]
-    requires there { place < length args.now }
-    requires long { len ≤ length (text_at place args.now) }
-    ensures { result.now ≡ take len (text_at place args.now) }
+/// The numbers behind the one that an argument takes, if it is a number.
+fn behind_number<'a>(numbers: &'a [i128], arg: &ArgKind) -> &'a [i128]
+    requires { numbers_of arg.now ≤ length numbers.now }
+    ensures { result.now ≡ drop (numbers_of arg.now) numbers.now }
 {
-    match &args[place] {
-        ArgKind::Str(text) => &text.bytes()[..len],
-        ArgKind::Number(_) | ArgKind::Chars { .. } => &[],
+    match arg {
+        ArgKind::Number(_) => &numbers[1..],
+        ArgKind::Chars { .. } | ArgKind::Str(_) => numbers,
     }
-}
-
-/// The numbers from a place on.
-fn numbers_from(numbers: &[i128], place: usize) -> &[i128]
-    requires { place ≤ length numbers.now }
-    ensures { result.now ≡ drop place numbers.now }
-{
-    &numbers[place..]
 }
 
 /// So many cells from one on.

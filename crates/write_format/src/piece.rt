@@ -1,9 +1,10 @@
 // Pieces of the text of a format.
 
-ghost use Rattle.std.specs.Prelude.{◌≡◌, ◌≤◌, ◌==◌, length};
+ghost use Rattle.std.specs.Prelude.{◌≡◌, ◌≤◌, ◌==◌, List, length};
 ghost use Rattle.std.specs.List.{position_or_len};
 ghost use Rattle.std.specs.Option.{option_map};
-ghost use Rattle.write_format.specs.Reading.{behind_percent, piece_at};
+ghost use Rattle.write_format.specs.Reading.{AreSpelled, behind_percent, piece_at};
+ghost use Rattle.write_format.specs.declared.piece.Piece as declared;
 
 use crate::code::{Code, code_at};
 use memchr::memchr;
@@ -42,6 +43,24 @@ fn piece_behind_percent(bytes: &[u8]) -> Option<(Piece, &[u8])>
     } else {
         None
     }
+}
+
+/// How many pieces spell a text, of which each byte between two `%` is one. Takes time linear in it, and
+/// no memory.
+pub(crate) fn count_pieces(text: &[u8]) -> usize
+    ensures { (pieces : List declared.Piece) → AreSpelled text.now pieces → result ≡ length pieces }
+{
+    let mut rest = text;
+    let mut count = 0;
+    while let Some((piece, behind)) = next_piece(rest) {
+        let more = match piece {
+            Piece::Byte(_) => place_of(b'%', behind),
+            Piece::Argument(_) => 0,
+        };
+        count += 1 + more;
+        rest = &behind[more..];
+    }
+    count
 }
 
 /// The first place of a byte, or the length where it is not there.

@@ -1,7 +1,7 @@
 // The codes of a text against its arguments.
 
-ghost use Rattle.std.specs.Prelude.{◌≡◌, ◌↔◌, ◌≤◌, ℕ, List, IfOk, IsErrOf, IsTrue, IsNone, IfSome, None, Some, length};
-ghost use Rattle.write_format.specs.Inside.Parts.{AreFit};
+ghost use Rattle.std.specs.Prelude.{◌≡◌, ◌↔◌, ℕ, List, IfOk, IsErrOf, IsTrue, IsNone, IfSome, None, Some, length};
+ghost use Rattle.write_format.specs.Inside.Shown.{AreFit};
 ghost use Rattle.write_format.specs.Reading.{AreSpelled, HasCodesFor, IsFirstUnfit, codes_of, first_unfit, is_fit, is_wide};
 ghost use Rattle.write_format.specs.declared.piece.Piece as declared;
 
@@ -18,15 +18,11 @@ pub(crate) struct Survey {
     pub(crate) codes: usize,
     /// The first argument that its code does not show.
     pub(crate) unfit: Option<usize>,
-    /// How many parts stand for them and for the bytes between them.
-    pub(crate) parts: usize,
 }
 
-/// How many parts stand for a text that these arguments match, or why they are no format. Takes no
-/// memory.
-pub(crate) fn count_parts(text: &[u8], args: &[ArgKind]) -> Result<usize, FormatRefusal>
-    ensures fit { IfOk result (λ _. AreFit text.now args.now) }
-    ensures few { IfOk result (λ count. count ≤ length text.now) }
+/// Refuses a text and arguments that are no format. Takes no memory.
+pub(crate) fn check_codes(text: &[u8], args: &[ArgKind]) -> Result<(), FormatRefusal>
+    ensures fit { IfOk result (λ done. AreFit text.now args.now) }
     ensures wrong { IsErrOf result (FormatRefusal.Wrong None) ↔ ¬ (HasCodesFor text.now args.now) }
     ensures unfit { (place : ℕ) →
         IsErrOf result (FormatRefusal.Wrong (Some place)) ↔ IsFirstUnfit text.now args.now place }
@@ -40,7 +36,7 @@ pub(crate) fn count_parts(text: &[u8], args: &[ArgKind]) -> Result<usize, Format
     if let Some(place) = survey.unfit {
         return Err(FormatRefusal::Wrong { arg: Some(place) });
     }
-    Ok(survey.parts)
+    Ok(())
 }
 
 /// The codes of a text against these arguments, or None where the text has no reading.
@@ -49,14 +45,11 @@ fn look_over(text: &[u8], args: &[ArgKind]) -> Option<Survey>
     ensures some { IfSome result (λ survey. (pieces : List declared.Piece) × AreSpelled text.now pieces
         × (survey.codes ≡ length (codes_of pieces))
         × (survey.unfit ≡ first_unfit (codes_of pieces) args.now)) }
-    ensures few { IfSome result (λ survey. survey.parts ≤ length text.now) }
 {
     let mut rest = text;
     let mut codes = 0;
     let mut unfit = None;
-    let mut parts = 0;
     while let Some((piece, behind)) = next_piece(rest) {
-        parts += 1;
         match piece {
             Piece::Byte(_) => rest = &behind[place_of(b'%', behind)..],
             Piece::Argument(code) => {
@@ -69,11 +62,7 @@ fn look_over(text: &[u8], args: &[ArgKind]) -> Option<Survey>
         }
     }
     if rest.is_empty() {
-        Some(Survey {
-            codes,
-            unfit,
-            parts,
-        })
+        Some(Survey { codes, unfit })
     } else {
         None
     }

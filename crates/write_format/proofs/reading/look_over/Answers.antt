@@ -1,6 +1,5 @@
 -- One more piece, and the end.
-use Rattle.std.proofs.Common.{◌≡◌, Some, None, true, false, not, [], length, refl, sym, ap, subst, ◌∙◌, arith}
-use Rattle.std.proofs.lemmas.List.{length-drop}
+use Rattle.std.proofs.Common.{◌≡◌, Some, None, true, false, not, [], refl, sym, ap, subst, ◌∙◌, arith}
 use Rattle.write_format.specs.Reading.{piece_at, is_fit}
 use Rattle.write_format.specs.declared.piece.Piece.{Piece}
 use Rattle.write_format.specs.declared.piece.Piece.TheVariants.{Argument, Byte}
@@ -25,11 +24,8 @@ loop-piece-preserved c =
     let codes = c.loop-piece.codes in
     let unfit = c.loop-piece.unfit in
     let code = c.in-Argument.code in
-    let known = (c.loop-piece.invariant).0 in
+    let known = c.loop-piece.invariant in
     let found : piece_at rest ≡ Some (Argument code, behind) = sym c.in-Some.ensures ∙ ap (λ (p : Piece). Some (p, behind)) c.in-Argument.is in
-    let so_far = (c.loop-piece.invariant).1 in
-    let shorter = piece_shorter rest (Argument code) behind found in
-    let next =
     survey_code text given rest codes unfit c.if-is_none.unfit code behind known found
     (elim c.if-is_none.branch [
       | then-is_none+then-codes-args+then-not-is_fit w ↦
@@ -46,8 +42,7 @@ loop-piece-preserved c =
         | else-is_none-via-else-is_none v ↦
             unfit_before text given rest codes unfit code known (c.is_none.ensures ∙ ap not v.if-is_none.false)
       ]
-    ]) in
-    (next, omega (arith, so_far, shorter))
+    ])
 
 pub loop-piece-preserved-in-Byte : goal.loop-piece-preserved-in-Byte
 loop-piece-preserved-in-Byte c =
@@ -60,17 +55,12 @@ loop-piece-preserved-in-Byte c =
     let byte = c.in-Byte.field-0 in
     let more = c.place_of.result in
     let found : piece_at rest ≡ Some (Byte byte, behind) = sym c.in-Some.ensures ∙ ap (λ (p : Piece). Some (p, behind)) c.in-Byte.is in
-    let known = (c.loop-piece.invariant).0 in
-    let so_far = (c.loop-piece.invariant).1 in
-    let shorter = piece_shorter rest (Byte byte) behind found in
-    let left = ap length (rest_whole more behind) ∙ length-drop more behind in (
-      subst (λ l. IsSurvey text given l codes unfit) (sym (rest_whole more behind)) (survey_bytes text given rest codes unfit byte behind more known found c.place_of.ensures.first),
-      omega (arith, so_far, shorter, left),
-    )
+    subst (λ l. IsSurvey text given l codes unfit) (sym (rest_whole more behind))
+    (survey_bytes text given rest codes unfit byte behind more c.loop-piece.invariant found c.place_of.ensures.first)
 
 pub returns-then-is_empty-clause-none : goal.returns-then-is_empty-clause-none
 returns-then-is_empty-clause-none c =
-    let known = (c.loop-piece.invariant).0 in
+    let known = c.loop-piece.invariant in
     let rest = c.loop-piece.rest.now in
     let none : rest ≡ [] = is_nil rest (sym c.is_empty.ensures ∙ c.if-is_empty.true) in
     let spelled = survey_ends c.args.text.now c.args.args.now rest c.loop-piece.codes c.loop-piece.unfit known none in
@@ -78,14 +68,14 @@ returns-then-is_empty-clause-none c =
 
 pub returns-then-is_empty-clause-some : goal.returns-then-is_empty-clause-some
 returns-then-is_empty-clause-some c =
-    let known = (c.loop-piece.invariant).0 in
+    let known = c.loop-piece.invariant in
     let rest = c.loop-piece.rest.now in
     let none : rest ≡ [] = is_nil rest (sym c.is_empty.ensures ∙ c.if-is_empty.true) in
     (known.pieces, survey_ends c.args.text.now c.args.args.now rest c.loop-piece.codes c.loop-piece.unfit known none, known.count, known.first)
 
 pub returns-else-is_empty-clause-none : goal.returns-else-is_empty-clause-none
 returns-else-is_empty-clause-none c =
-    let known = (c.loop-piece.invariant).0 in
+    let known = c.loop-piece.invariant in
     let rest = c.loop-piece.rest.now in
     let some : rest ≡ [] → ⊥ = is_some_list rest (sym c.is_empty.ensures ∙ c.if-is_empty.false) in
     (λ _ pieces spelled. no_reading known.pieces pieces c.args.text.now rest known.leads (sym c.in_default.ensures) some spelled, λ _. refl)

@@ -4,7 +4,7 @@ use Rattle.std.proofs.lemmas.List.Sums.{prefix_len-le-length}
 use Rattle.text_parts.specs.Number.{is_digit}
 use Rattle.write_format.specs.Reading.{is_flag}
 use Rattle.write_format.proofs.FieldLemmas.{passes_found}
-use Rattle.write_format.proofs.code.code_at.Goals as goal
+use Rattle.write_format.proofs.code.field_code_at.Goals as goal
 
 pub split_at-requires : goal.split_at-requires
 split_at-requires c = omega (arith, c.flag_count.ensures, prefix_len-le-length is_flag c.args.bytes.now)

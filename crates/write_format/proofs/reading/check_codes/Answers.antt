@@ -2,7 +2,7 @@
 use Rattle.std.proofs.Common.{◌≡◌, Some, None, refl, sym, ◌∙◌}
 use Rattle.write_format.specs.Reading.{AreMatched, codes_of, first_unfit}
 use Rattle.write_format.proofs.ReadingLemmas.{count_differs, one_unfit}
-use Rattle.write_format.proofs.reading.count_parts.Goals as goal
+use Rattle.write_format.proofs.reading.check_codes.Goals as goal
 
 pub returns-then-survey-args-clause-wrong : goal.returns-then-survey-args-clause-wrong
 returns-then-survey-args-clause-wrong c =
