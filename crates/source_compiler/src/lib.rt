@@ -11,6 +11,7 @@ pub use compiled::Compiled;
 pub use source::read_source;
 
 mod compiled;
+mod places;
 mod program;
 mod rules;
 mod source;

@@ -1,11 +1,12 @@
 // The code of a program, from its files.
 
-ghost use Rattle.std.specs.Prelude.{◌≡◌, ◌≤◌, ◌<◌, ◌-◌, ◌^◌, ◌⊎◌, All, IfOk, length, map, slice_get};
+ghost use Rattle.std.specs.Prelude.{◌≡◌, ◌≤◌, ◌<◌, ◌-◌, ◌^◌, ◌⊎◌, All, List, length, map, slice_get};
 ghost use Rattle.texts.specs.Rule.{source_rule};
 ghost use Rattle.capl_include.specs.Answer.{token_count};
 ghost use Rattle.capl_include.specs.Blame.{file_blame};
 ghost use Rattle.capl_include.specs.Expansion.{file_limit};
 ghost use Rattle.capl_include.specs.Text.{AreOfTexts, IsOfText};
+ghost use Rattle.capl_include.specs.declared.expanded.SourceFile.{SourceFile};
 ghost use Rattle.capl_lexer.specs.Reading.{token_limit};
 ghost use Rattle.capl_tree.specs.Weight.{weight};
 ghost use Rattle.check_names.specs.Few.{IsFew};
@@ -16,16 +17,17 @@ ghost use Rattle.gen_stmt.specs.Cells.{cell_count};
 ghost use Rattle.code_listing.specs.Program.{IsCodeOf};
 ghost use Rattle.typed_tree.specs.Size.{size};
 ghost use Rattle.typed_tree.specs.Sound.{IsSound};
-ghost use Rattle.source_compiler.specs.Source.{IsProgramBlame, AreTreesOf, HasTree, IsFirstFile, IsOffenceBlame, IsParsed, IsScreened, IsSizeBlame, IsTokenBlame, IsTreeBlame, column_past, lines_of, most, offence_blame, wrong_blame};
+ghost use Rattle.source_compiler.specs.Source.{IsProgramBlame, AreTreesOf, HasTree, IsFirstFile, IsOffenceBlame, IsParsed, IsScreened, IsSizeBlame, IsTokenBlame, IsTreeBlame, column_past, lines_of, most, wrong_blame};
 ghost use Rattle.input_refusals.specs.Agreement.{IsBlamedOrNoMemory, Judges};
 ghost use Rattle.source_compiler.specs.Compiled.{IsCompiled};
+ghost use Rattle.source_compiler.specs.Inside.{ArePlacesOf};
 
 use crate::compiled::Compiled;
-use crate::rules::{NOT_SPELLED, TOO_DEEP, TOO_LARGE, source_rule};
+use crate::places::{Places, blamed_offence, places_of};
+use crate::rules::{NOT_SPELLED, TOO_DEEP, TOO_LARGE};
 use bytecode::Verified;
 use capl_include::SourceFile;
 use capl_lexer::{Token, screen};
-use capl_meaning::Offence;
 use capl_parser::{ParseRefusal, parse};
 use capl_tree::{FileTree, Program, weight_of};
 use check_types::{CheckRefusal, check};
@@ -38,7 +40,7 @@ use small_trees::laws::{
     programs_weigh_eight_times_their_tokens, tokens_of_texts_are_small,
 };
 use std::alloc::Global;
-use texts::{NoMemory, Text};
+use texts::Text;
 use typed_source::laws::code_is_within_the_weight;
 use typed_tree::Typed;
 
@@ -47,33 +49,36 @@ use typed_tree::Typed;
 pub(crate) fn code_of(
     alloc: Global,
     name: &Text,
-    files: &[SourceFile],
+    files: Items<SourceFile>,
     base: Option<&Database>,
 ) -> Result<Compiled, InputRefusal>
-    requires few_files { length files.now ≤ file_limit }
-    requires few { token_count files.now ≤ token_limit }
-    requires texts { AreOfTexts files.now }
-    ensures { Judges (IsCompiled (messages_of base.entry) files.now)
-        (IsProgramBlame (messages_of base.entry) name.now files.now) result }
+    requires few_files { length files ≤ file_limit }
+    requires few { token_count files ≤ token_limit }
+    requires texts { AreOfTexts files }
+    ensures { Judges (IsCompiled (messages_of base.entry) files)
+        (IsProgramBlame (messages_of base.entry) name.now files) result }
 {
-    screen_files(alloc, files)?;
-    let program = parse_files(alloc, files)?;
+    let sources = files.as_slice();
+    screen_files(alloc, sources)?;
+    let program = parse_files(alloc, sources)?;
+    let places = places_of(alloc, sources)?;
+    // What is checked and typed can take the memory of the tokens.
+    drop(files);
     tokens_of_texts_are_small();
     programs_of_small_texts_are_readable();
     programs_weigh_eight_times_their_tokens();
     programs_declare_no_more_than_their_tokens();
-    let typed = check_program(alloc, name, files, &program, base)?;
+    let typed = check_program(alloc, name, &places, &program, base)?;
     code_is_within_the_weight();
     let weight = weight_of(&program);
     // The code can take the memory of the trees.
     drop(program);
     let code = compile_program(alloc, name, weight, &typed)?;
-    let names = names_of(alloc, files)?;
     Ok(Compiled {
         code,
         cells: cells_of(&typed),
         weight,
-        files: Items::from_list(names),
+        files: Items::from_list(places.names),
     })
 }
 
@@ -168,76 +173,29 @@ fn column_past(token: &Token) -> u32
     token.column + token.to.saturating_sub(token.from)
 }
 
-/// The typed program of these files, whose program is readable, not too heavy to be sound, and declares few.
+/// The typed program of files whose tokens stand at these places. The program is readable, not too heavy to
+/// be sound, and declares few.
 fn check_program(
     alloc: Global,
     name: &Text,
-    files: &[SourceFile],
+    places: &Places,
     program: &Program,
     base: Option<&Database>,
 ) -> Result<Typed, InputRefusal>
     requires readable { IsReadable program.now }
     requires light { weight program.now < 2 ^ 35 }
     requires few { IsFew program.now }
-    ensures { Judges (IsAccepted (messages_of base.entry) program.now (lines_of files.now))
-        (λ blame. IsOffenceBlame (messages_of base.entry) files.now program.now blame
+    ensures { (files : List SourceFile) → ArePlacesOf files places.now.names.items
+        (map (λ row. row.items) places.now.lines.items) (map (λ row. row.items) places.now.columns.items) →
+        Judges (IsAccepted (messages_of base.entry) program.now (lines_of files))
+        (λ blame. IsOffenceBlame (messages_of base.entry) files program.now blame
         ⊎ IsSizeBlame (messages_of base.entry) name.now program.now blame) result }
 {
-    let lines = lines_of(alloc, files)?;
-    match check(alloc, program, &lines, base) {
+    match check(alloc, program, &places.lines, base) {
         Ok(typed) => Ok(typed),
-        Err(CheckRefusal::Offends(offence)) => Err(blamed_offence(alloc, files, &offence)),
+        Err(CheckRefusal::Offends(offence)) => Err(blamed_offence(alloc, places, &offence)),
         Err(CheckRefusal::Size) => Err(blamed_file(alloc, name, TOO_LARGE)),
         Err(CheckRefusal::NoMemory) => Err(InputRefusal::NoMemory),
-    }
-}
-
-/// The lines of the tokens of each file.
-fn lines_of(alloc: Global, files: &[SourceFile]) -> Result<Vec<Vec<u32>>, NoMemory>
-    ensures { IfOk result (λ lines. map (λ row. row.items) lines.items ≡ lines_of files.now) }
-{
-    let mut lines = Vec::new(alloc);
-    for file in files {
-        let row = lines_in(alloc, file)?;
-        lines.push(row)?;
-    }
-    Ok(lines)
-}
-
-/// The lines of the tokens of a file.
-fn lines_in(alloc: Global, file: &SourceFile) -> Result<Vec<u32>, NoMemory>
-    ensures { IfOk result (λ row. row.items ≡ map (λ token. token.line) file.now.tokens) }
-{
-    let mut row = Vec::with_capacity(alloc, file.tokens.len())?;
-    for token in file.tokens.as_slice() {
-        row.push(token.line)?;
-    }
-    Ok(row)
-}
-
-/// The names of these files.
-fn names_of(alloc: Global, files: &[SourceFile]) -> Result<Vec<Text>, NoMemory>
-    ensures { IfOk result (λ names. names.items ≡ map (λ file. file.name) files.now) }
-{
-    let mut names = Vec::new(alloc);
-    for file in files {
-        names.push(file.name.copy()?)?;
-    }
-    Ok(names)
-}
-
-/// The refusal that blames an offence, or that of want of memory.
-fn blamed_offence(alloc: Global, files: &[SourceFile], offence: &Offence) -> InputRefusal
-    ensures { IsBlamedOrNoMemory (offence_blame files.now offence.now) result }
-{
-    let rule = source_rule(offence.rule.number);
-    let Some(file) = files.get(offence.file as usize) else {
-        return blamed_place(alloc, b"", 0, 0, rule);
-    };
-    let name = file.name.bytes();
-    match file.tokens.as_slice().get(offence.token as usize) {
-        Some(token) => blamed_place(alloc, name, token.line, token.column, rule),
-        None => blamed_place(alloc, name, 0, 0, rule),
     }
 }
 

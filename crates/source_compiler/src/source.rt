@@ -41,7 +41,7 @@ pub fn read_source<F: Files>(
     ensures contents_stay { F.held files.new ≡ F.held files.old }
 {
     let sources = read_files(alloc, name, files)?;
-    let compiled = code_of(alloc, name, sources.as_slice(), base)?;
+    let compiled = code_of(alloc, name, sources, base)?;
     Ok(compiled)
 }
 
