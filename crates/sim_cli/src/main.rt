@@ -9,6 +9,7 @@ use sim_play::Out;
 use sim_run::simulate;
 use stack::{LEVEL, LEVELS, lowest};
 use stack_vm::Meter;
+use std::alloc::Global;
 use std::process::ExitCode;
 use std::rt::Env;
 use std::{env, io};
@@ -19,6 +20,10 @@ const NO_MEMORY: u8 = 5;
 // The exit status where a word is not UTF-8.
 const NOT_TEXT: u8 = 6;
 
+// The bytes of the list that is taken and given back before anything is read: about the largest, 32 MiB, by
+// which malloc of glibc goes.
+const LARGEST: usize = 31 << 20;
+
 /// Runs the words of the command line, and ends with the status.
 ///
 /// Where there is less stack than a source may need, the system ends the program at once, before
@@ -28,6 +33,7 @@ fn main(rt: HostRuntime) -> ExitCode {
     if lowest(LEVELS, &[0; LEVEL]) > 0 {
         return ExitCode::from(NO_MEMORY);
     }
+    widen_heap(rt.alloc());
     match words(&rt) {
         Ok(words) => {
             let mut files = RealFiles::new(&rt);
@@ -46,4 +52,13 @@ fn main(rt: HostRuntime) -> ExitCode {
 /// The words after the program's name.
 fn words<R: Env + AllocGlobal>(rt: &R) -> io::Result<Vec<String>> {
     Ok(env::args(rt)?.skip(1).collect(rt.alloc())?)
+}
+
+/// Takes the memory of a large list and gives it back untouched.
+///
+/// A list that is larger than any that was given back gets pages of its own from malloc of glibc, which the
+/// system clears, and takes away with the list. Behind this it stands in the heap, where the memory of a list
+/// that is no longer needed serves what comes next. Where there is not as much, all stays as it is.
+fn widen_heap(alloc: Global) {
+    drop(Vec::<u8>::with_capacity(alloc, LARGEST));
 }
