@@ -33,6 +33,8 @@ STANDS_ON = "stack_vm bytecode vm_host run_effects signal_codec can_frame int_ki
 KINDS = "Byte Word Dword Qword Int Long Int64 Char".split()
 OPERATORS = "Or Xor And Equal NotEqual Less LessEqual Greater GreaterEqual Shl Shr Add Sub Mul Div Rem".split()
 LAYOUTS = {"LITTLE": (3, 12, "false", "true"), "BIG": (29, 17, "true", "false")}
+# What is measured runs as `capl` runs the program: with large pages, unless malloc is told otherwise.
+os.environ.setdefault("GLIBC_TUNABLES", "glibc.malloc.hugetlb=1")
 TURNS = 20_000_000
 FEW_TURNS = 20_000
 MACHINE, TWIN, UNCHECKED = "machine", "twin", "unchecked"

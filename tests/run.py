@@ -23,7 +23,8 @@ A log of 64 MiB has to be read, and one of a byte more refused; both are of zero
 A folder whose name has a line feed has to be shown in one line by a refusal and by a profile.
 Last `capl` is tried: without words and when asked for help,
 in a checkout with the released program and nothing built, where that program is of the
-sources, and in one whose sources are others, where it has to build and cannot.
+sources, in one whose sources are others, where it has to build and cannot, and with a
+program that tells what malloc is asked for.
 The last line is 'N passed, M failed'.
 """
 import contextlib
@@ -287,6 +288,20 @@ def faults_of_released():
             yield f"of other sources than the released program's: status {status}, wrote {out[:400]!r}"
 
 
+def faults_of_pages():
+    """What is wrong with what capl has malloc ask for: large pages, unless it is told otherwise."""
+    with fresh_checkout() as (top, env):
+        program = top / "crates" / "sim_cli" / "out" / "sim_cli"
+        program.parent.mkdir()
+        program.write_text('#!/bin/sh\nprintf %s "$GLIBC_TUNABLES"\n')
+        program.chmod(0o755)
+        env.pop("GLIBC_TUNABLES", None)
+        for own, want in (({}, b"glibc.malloc.hugetlb=1"), ({"GLIBC_TUNABLES": ""}, b"")):
+            said = called(top / "capl", "window", "s.scn", env={**env, **own})
+            if said != (0, want, b""):
+                yield f"with {own}: {said}, not {want}"
+
+
 def main():
     if len(sys.argv) != 2:
         sys.exit("usage: run.py PROGRAM")
@@ -300,6 +315,7 @@ def main():
     trials += [("a name with a line feed", list(faults_of_names(program)))]
     trials += [(" ".join(["capl", *words]), list(faults_of_help(*words))) for words in ((), ("--help",), ("-h",))]
     trials += [("capl on a fresh clone", list(faults_of_released()))]
+    trials += [("capl and large pages", list(faults_of_pages()))]
     passed = failed = 0
     for name, faults in trials:
         if not faults:
