@@ -69,6 +69,7 @@ fn form_by_name<'p>(names: &Names<'p>, name: &[u8]) -> Form<'p>
 }
 
 /// What a declaration without a size declares.
+#[inline(always)]
 fn plain_form<'p>(names: &Names<'p>, what: &DeclType) -> Form<'p>
     ensures { form_in result ≡ form_of names.now.base what.now None }
 {
@@ -105,7 +106,8 @@ fn sized_form<'p>(what: &DeclType, size: &'p Expr) -> Form<'p>
     }
 }
 
-/// What a declared variable is.
+/// What a declared variable is. Whoever asks wants a part of it, and should not pay for the whole.
+#[inline(always)]
 pub(crate) fn declared_form<'p>(names: &Names<'p>, declared: &Declared<'p>) -> Form<'p>
     ensures { form_in result ≡ (variable_in names.now.base declared.now).form }
 {
@@ -123,6 +125,7 @@ pub(crate) fn declared_form<'p>(names: &Names<'p>, declared: &Declared<'p>) -> F
 
 /// What the variable of a number is; a misfit where there is no such variable. Takes time linear in the
 /// name of a message at most.
+#[inline(always)]
 pub fn form_of<'p>(names: &Names<'p>, number: u32) -> Form<'p>
     ensures { form_in result ≡ option_map_or (λ v. v.form) (slice_get names.now.variables number) Misfit }
 {
