@@ -1,5 +1,5 @@
-//! Tests of sim_core: simulations of sources in memory that are run to their ends, or instant by instant, on
-//! both buses; and calls of the laws on code and runs of sources.
+//! Tests of sim_core: simulations of sources in memory that are run to their ends, on both buses; and calls
+//! of the laws on code and runs of sources.
 //!
 //! They stand here, above those crates, so that each of those is proved without them. What the tests run is
 //! made by run_bench.
@@ -9,8 +9,6 @@
 mod buses;
 #[cfg(test)]
 mod checks;
-#[cfg(test)]
-mod instants;
 #[cfg(test)]
 mod laws;
 #[cfg(test)]

@@ -4,9 +4,8 @@ ghost use Rattle.std.specs.Prelude.{◌≢◌};
 ghost use Rattle.sim_core.specs.Core.{HaveRows};
 ghost use Rattle.sim_core.specs.declared.simulation.Phase.TheVariants.{Over};
 
-use crate::checks::{check_entries, check_rows};
 use arbitration::PlainBus;
-use run_bench::{Entry, Start, plain_start};
+use run_bench::{Entry, Start, are_noted, has_rows, plain_start};
 use run_records::MemRecord;
 use sim_core::{Core, Step};
 use stack_vm::Meter;
@@ -121,8 +120,8 @@ fn instants_come_one_by_one(rt: HostRuntime) -> Result<(), Fail> {
         for _ in 0..2 {
             let (after, step) = desk.step()?;
             assert_eq!(rt; step, Step::Ended);
-            check_entries(&rt, after.into.noted(), entries);
-            check_rows(&rt, &after.meter, rows);
+            assert!(rt; are_noted(after.into.noted(), entries));
+            assert!(rt; has_rows(&after.meter, rows));
             desk = after;
         }
     }
