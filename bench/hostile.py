@@ -4,11 +4,11 @@
     hostile.py PROGRAM [--only WORD] [--rounds N] [--core N]
     hostile.py --write FOLDER [--only WORD]
 
-Each input is made of two sizes: the greatest that the program takes, which mostly is a limit of its own (where a size
-is refused by E29 the greatest that is not is searched), and half of it. A row tells the size, the status with the
-beginning of the first line that was written, the median of the processor seconds of so many runs (3 if not given),
-pinned to a core where one is given, and the most memory, where it is more than that of this script, which is told
-above the rows.
+Each input is made of three sizes: the greatest that the program takes, which mostly is a limit of its own (where a
+size is refused by E29 the greatest that is not is searched), half of it, and a quarter. A row tells the size, the
+status with the beginning of the first line that was written, the median of the processor seconds of so many runs (3
+if not given), pinned to a core where one is given, and the most memory, where it is more than that of this script,
+which is told above the rows.
 
 Names that collide are searched by a small program, which gcc has to compile; without gcc they are left out. With
 --only inputs whose name has the word are tried. With --write their files are kept in a folder, and nothing is run.
@@ -181,6 +181,15 @@ def nesting(kind):
     return made
 
 
+def trees_of_if(tokens):
+    """A tree of `if` and `else` of at most so many tokens, below 160 further ones."""
+    def tree(high):
+        """One of a height, 10 times 2 to the height less 9 tokens."""
+        return f"if(a){{{tree(high - 1)}}}else{{{tree(high - 1)}}}" if high else ";"
+
+    return single("on start { long a; " + "if(a)" * 160 + tree((tokens // 10).bit_length() - 1) + " }")
+
+
 # ---- rows
 
 
@@ -194,6 +203,11 @@ def chain_of_calls(count):
     """So many functions of which each calls the one before, and the last one is called."""
     functions = "".join(f"void f{it}(){{f{it - 1}();}}" for it in range(1, count))
     return single(f"void f0(){{}}{functions} on start {{ f{count - 1}(); }}", f"turns {count}")
+
+
+def parameters(count):
+    """A function of so many parameters."""
+    return single("void f(" + ",".join(f"int p{it:x}" for it in range(count)) + "){}")
 
 
 def locals_of_one(count):
@@ -246,6 +260,15 @@ def one_statement(begin, piece, end):
         text = begin + piece * ((size - len(begin) - len(end)) // len(piece)) + end
         return single("", "database d.dbc", **{"d.dbc": text})
     return made
+
+
+def messages_of_a_signal(size):
+    """A database of so many bytes of messages with one signal each."""
+    text, at = [], 0
+    while (size := size - len(one := f'BO_ {2 ** 31 + at} M{at}: 8 U\n SG_ S{at} : 0|8@1+ (1,0) [0|0] "" A\n')) > 0:
+        text.append(one)
+        at += 1
+    return single("", "database d.dbc", **{"d.dbc": "".join(text)})
 
 
 def one_log_line(size):
@@ -327,6 +350,8 @@ INPUTS = {
     "globals with equal beginnings": (long_names, 1000),
     "messages whose names collide": (colliding_messages, 120_000),
     **{f"nesting of {kind}": (nesting(kind), TOKENS) for kind in NESTED},
+    "trees of if and else": (trees_of_if, 10 << 14),
+    "parameters of one function": (parameters, 99_000),
     "labels of a switch": (labels, 60_000), "calls in a chain": (chain_of_calls, 25_000),
     "variables of one procedure": (locals_of_one, 30_000), "uses of one array": (uses_of_one, 20_000),
     "texts of one array": (texts_of_one, 3_000), "procedures": (procedures, 30_000),
@@ -336,6 +361,7 @@ INPUTS = {
     "nodes in one statement": (one_statement("BU_:", " A", ""), DATABASE),
     "values in one statement": (one_statement("VAL_ 1 A", ' 1 "x"', ";"), DATABASE),
     "receivers of one signal": (one_statement('BO_ 1 M: 8 V\nSG_ S : 0|8@1+ (1,0) [0|0] "" A', ",A", ""), DATABASE),
+    "messages of one signal": (messages_of_a_signal, DATABASE),
     "quotes that open nothing": (one_statement('CM_ "', '\\"', ""), DATABASE),
     "statements without an end": (one_statement("", "CM_ ", ""), DATABASE),
     "a log of one line": (one_log_line, LOG), "a log without a line feed": (log_without_line_feed, LOG),
@@ -430,8 +456,8 @@ def main():
         folder = pathlib.Path(temporary) / "input"
         for name in names:
             if size := greatest(words, folder, name):
-                report(words, folder, name, size // 2)
-                report(words, folder, name, size)
+                for part in (4, 2, 1):
+                    report(words, folder, name, size // part)
 
 
 if __name__ == "__main__":

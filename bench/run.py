@@ -238,11 +238,12 @@ def counted(program, name, folder):
 
 
 def processor():
-    """The name of the processor, as lscpu gives it."""
+    """The name of the processor, as lscpu gives it, and what malloc is told."""
     said = subprocess.run(["lscpu"], capture_output=True, text=True).stdout
     names = {key.strip(): value.strip() for key, _, value in (line.partition(":") for line in said.splitlines())}
     model = " ".join(f"{key} {names[key]}" for key in ("CPU family", "Model") if key in names)
-    return f"{names.get('Model name', 'unknown')} ({model}, {names.get('CPU(s)', '?')} processors)"
+    told = os.environ["GLIBC_TUNABLES"] or "nothing"
+    return f"{names.get('Model name', 'unknown')} ({model}, {names.get('CPU(s)', '?')} processors); malloc is told {told}"
 
 
 def spread(ratios):

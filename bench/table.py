@@ -26,7 +26,7 @@ import subprocess
 import sys
 import tempfile
 
-from hostile import nesting, single, uses_of_one
+from hostile import nesting, parameters, single, uses_of_one
 from run import processor, spread
 
 TURNS = 3_200_000
@@ -143,11 +143,6 @@ def globals_used(count):
 def empty_statements(count):
     """So many empty statements; from 125,000 on they outweigh what a program may have, and are refused at the end."""
     return single("on start { " + ";" * count + " }")
-
-
-def parameters(count):
-    """A function of so many parameters."""
-    return single("void f(" + ",".join(f"int p{it:x}" for it in range(count)) + "){}")
 
 
 def texts(count):

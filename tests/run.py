@@ -24,7 +24,7 @@ A folder whose name has a line feed has to be shown in one line by a refusal and
 Last `capl` is tried: without words and when asked for help,
 in a checkout with the released program and nothing built, where that program is of the
 sources, in one whose sources are others, where it has to build and cannot, and with a
-program that tells what malloc is asked for.
+program that tells what malloc is asked for. The scenarios run with large pages, as `capl` runs them.
 The last line is 'N passed, M failed'.
 """
 import contextlib
@@ -306,6 +306,7 @@ def main():
     if len(sys.argv) != 2:
         sys.exit("usage: run.py PROGRAM")
     program = str(pathlib.Path(sys.argv[1]).resolve())
+    os.environ.setdefault("GLIBC_TUNABLES", "glibc.malloc.hugetlb=1")
     trials = [(f"{folder.relative_to(ROOT)}{which}", faults_of(program, folder, which))
               for group in ("examples", "tests/cases") for folder, which in trials_of(group)]
     trials += [("examples/body-bus under random picks", faults_of_picks(program))]
