@@ -3,6 +3,7 @@ pub mod ListItems
 pub mod ListPairs
 pub mod ZippedLists
 pub mod HandlerLists
+pub mod GivenLemmas
 pub mod SelectorRanks
 pub mod CoverLemmas
 pub mod FailureLemmas

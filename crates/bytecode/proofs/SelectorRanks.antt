@@ -1,151 +1,95 @@
--- How far the selectors of one rank reach.
-use Rattle.std.proofs.Common.{◌≡◌, ℕ, ◌<◌, ◌≤◌, ◌+◌, ◌∙◌, List, length, take, get_or, Option, Some, None, refl, sym, ap, subst, arith, inl, inr, length-take}
-use Rattle.std.specs.Prelude.{All, AllPairs, IsSomeAnd}
+-- Selectors of one rank and their keys.
+use Rattle.std.proofs.Common.{◌≡◌, ℕ, ◌<◌, ◌≤◌, ◌+◌, ◌∙◌, List, length, get_or, Some, None, Bool, true, false, ◌-◌, refl, sym, ap, arith, inl, inr}
+use Rattle.std.specs.Prelude.{◌==◌, ◌&&◌, nat_le, All, AllPairs, ⊤}
+use Rattle.std.specs.List.{filter_map}
 use Rattle.std.specs.List.Sorted.{IsNonDecreasingBy}
-use Rattle.std.proofs.lemmas.Bool.{cases_eq, cases_lt}
-use Rattle.std.proofs.lemmas.List.{get_or-take, get_or_default}
-use Rattle.bytecode.specs.Inside.Distinct.{AreApartIn}
+use Rattle.std.proofs.lemmas.Bool.{and_from, cases_eq, cond-true, eq-eqb, eqb-true, le-leb, leb-true}
+use Rattle.std.proofs.lemmas.Option.{cond_some, none-some}
+use Rattle.bytecode.specs.Inside.Distinct.{AreApartIn, AreSpansApart, span_in}
+use Rattle.bytecode.specs.declared.distinct.Span.{Span}
 use Rattle.run_effects.specs.Effect.{AreApart}
 use Rattle.run_effects.specs.declared.event.Selector.{Selector}
-use Rattle.bytecode.proofs.ListPairs.{AllPairs-take_more}
+use Rattle.bytecode.proofs.GivenLemmas.{All-given, AllPairs-given, AllPairs-giving}
 
--- the selector of key 0, where a list has none
-abbrev pub nowhere : Selector
-nowhere = record { rank = 0; low = 0; high = 0 }
+-- ---- one rank
 
--- a selector of a rank that holds some key
-pub record IsOfRank (rank : ℕ) (selector : Selector) : Type 0 where
+both : (a b : Bool) → (a && b) ≡ true → (a ≡ true) × (b ≡ true)
+both true b e = (refl, e)
+both false b e = absurd (cc)
+
+-- a selector that has a span is of the rank, and these are its keys, of which there are some
+pub record HasSpan (rank : ℕ) (selector : Selector) (span : Span) : Type 0 where
   pub of_rank : selector.rank ≡ rank
   pub some_key : selector.low ≤ selector.high
+  pub low : span.low ≡ selector.low
+  pub high : span.high ≡ selector.high
 
--- the greatest key of those selectors of a rank, none if they have no key
-abbrev pub IsHighest : ℕ → List Selector → Option ℕ → Type 0
-IsHighest rank selectors None = (k : ℕ) (d : Selector) → k < length selectors → IsOfRank rank (get_or selectors k d) → ⊥
-IsHighest rank selectors (Some last) =
-    ((k : ℕ) (d : Selector) → k < length selectors → IsOfRank rank (get_or selectors k d) → (get_or selectors k d).high ≤ last)
-    × ((k : ℕ) × (k < length selectors) × ((d : Selector) → IsOfRank rank (get_or selectors k d) × ((get_or selectors k d).high ≡ last)))
+has_span : (rank : ℕ) (selector : Selector) (span : Span) → span_in rank selector ≡ Some span → HasSpan rank selector span
+has_span rank selector span e =
+    let found = cond_some (selector.rank == rank && nat_le selector.low selector.high) _ span e in
+    let parts = both _ _ found.0 in
+    record {
+      of_rank = eqb-true _ _ parts.0;
+      some_key = leb-true _ _ parts.1;
+      low = sym (ap (λ (s : Span). s.low) found.1);
+      high = sym (ap (λ (s : Span). s.high) found.1);
+    }
 
--- what is left apart where one more selector is of another rank, or has no key
-pub apart_of_others : (rank n : ℕ) (selectors : List Selector) → n < length selectors → AllPairs (AreApartIn rank) (take n selectors) →
-    (IsOfRank rank (get_or selectors n nowhere) → ⊥) → AllPairs (AreApartIn rank) (take (n + 1) selectors)
-apart_of_others rank n selectors within before none =
-    AllPairs-take_more (AreApartIn rank) selectors n within before (λ k d below of_k of_n key in_k in_n.
-    none (subst (IsOfRank rank) (get_or_default selectors n d nowhere within) (record { of_rank = of_n; some_key = omega (arith, in_n.from, in_n.to) })))
+-- one that has none is of another rank, or has no key
+no_span : (rank : ℕ) (selector : Selector) → span_in rank selector ≡ None → selector.rank ≡ rank → selector.low ≤ selector.high → ⊥
+no_span rank selector e of_rank some =
+    none-some _ (sym e ∙ cond-true (selector.rank == rank && nat_le selector.low selector.high) _ _ (and_from _ _ (eq-eqb _ _ of_rank) (le-leb _ _ some)))
 
--- a selector among the first n, as one of all
-among : {A : Type 0} (xs : List A) (n k : ℕ) (d : A) → k < length (take n xs) → get_or (take n xs) k d ≡ get_or xs k d
-among xs n k d below = get_or-take n xs k d (omega (arith, below, length-take n xs))
+-- each span has a key
+pub some_keys : (rank : ℕ) (selectors : List Selector) → All (λ span. span.low ≤ span.high) (filter_map (span_in rank) selectors)
+some_keys rank selectors =
+    All-given (span_in rank) (λ _. ⊤) (λ span. span.low ≤ span.high)
+    (λ selector span e _. let has = has_span rank selector span e in omega (arith, has.some_key, has.low, has.high)) selectors (λ k d within. tt)
 
--- the highest key of the first ones stays where one more selector is of another rank, or has no key
-pub IsHighest-others : (rank n : ℕ) (selectors : List Selector) (reached : Option ℕ) → n < length selectors → IsHighest rank (take n selectors) reached →
-    (IsOfRank rank (get_or selectors n nowhere) → ⊥) → IsHighest rank (take (n + 1) selectors) reached
-IsHighest-others rank n selectors None within h none = λ k d below of_k.
-    let read = among selectors (n + 1) k d below in
-    let of_k' = subst (IsOfRank rank) read of_k in
-    elim (cases_eq k n) [
-      | inl same ↦ none (subst (IsOfRank rank) (ap (λ i. get_or selectors i d) same ∙ get_or_default selectors n d nowhere within) of_k')
-      | inr other ↦ (
-          let small : k < n = omega (arith, below, other, length-take (n + 1) selectors) in
-          h k d (omega (arith, small, within, length-take n selectors)) (subst (IsOfRank rank) (sym (get_or-take n selectors k d small)) of_k'))
-    ]
-IsHighest-others rank n selectors (Some last) within h none = (
-  λ k d below of_k.
-      let read = among selectors (n + 1) k d below in
-      let of_k' = subst (IsOfRank rank) read of_k in
-      elim (cases_eq k n) [
-        | inl same ↦ absurd (none (subst (IsOfRank rank) (ap (λ i. get_or selectors i d) same ∙ get_or_default selectors n d nowhere within) of_k'))
-        | inr other ↦ (
-            let small : k < n = omega (arith, below, other, length-take (n + 1) selectors) in
-            let front = get_or-take n selectors k d small in
-            let most = h.0 k d (omega (arith, small, within, length-take n selectors)) (subst (IsOfRank rank) (sym front) of_k') in
-            let P : Selector → Type 0 = λ s. s.high ≤ last in
-            subst P (sym read) (subst P front most))
-      ],
-  (let w = h.1 in
-      let small : w.0 < n = omega (arith, w.1, length-take n selectors) in (
-        w.0,
-        omega (arith, small, within, length-take (n + 1) selectors),
-        λ d.
-            let same : get_or (take n selectors) w.0 d ≡ get_or (take (n + 1) selectors) w.0 d = get_or-take n selectors w.0 d small ∙ sym (get_or-take (n + 1) selectors w.0 d (omega (arith, small))) in
-            let P : Selector → Type 0 = λ s. IsOfRank rank s × (s.high ≡ last) in
-            subst P same (w.2 d),
-      )),
-)
+-- selectors of a rank are apart where their spans are
+pub apart_of_spans : (rank : ℕ) (selectors : List Selector) → AllPairs AreSpansApart (filter_map (span_in rank) selectors) → AllPairs (AreApartIn rank) selectors
+apart_of_spans rank selectors =
+    AllPairs-giving (span_in rank) (AreApartIn rank) AreSpansApart
+    (λ a b x y of_a of_b apart _ _ key in_a in_b.
+    let p = has_span rank a x of_a in
+    let q = has_span rank b y of_b in
+    apart key (omega (arith, p.low, in_a.from)) (omega (arith, p.high, in_a.to)) (omega (arith, q.low, in_b.from)) (omega (arith, q.high, in_b.to)))
+    (λ a b none of_a _ key in_a in_b. no_span rank a none of_a (omega (arith, in_a.from, in_a.to)))
+    (λ a b none _ of_b key in_a in_b. no_span rank b none of_b (omega (arith, in_b.from, in_b.to)))
+    selectors
 
--- a selector that begins at or below the highest key has a key in common with an earlier one
-pub common_key : (rank n : ℕ) (selectors : List Selector) (reached : Option ℕ) → n < length selectors → IsNonDecreasingBy (λ s. s.low) selectors →
-    IsHighest rank (take n selectors) reached → IsOfRank rank (get_or selectors n nowhere) →
-    IsSomeAnd reached (λ last. (get_or selectors n nowhere).low ≤ last) → AllPairs (AreApartIn rank) selectors → ⊥
-common_key rank n selectors None within rises h of_n touches all = absurd touches
-common_key rank n selectors (Some last) within rises h of_n touches all =
-    let w = h.1 in
-    let small : w.0 < n = omega (arith, w.1, length-take n selectors) in
-    let d : Selector = nowhere in
-    let P : Selector → Type 0 = λ s. IsOfRank rank s × (s.high ≡ last) in
-    let earlier : P (get_or selectors w.0 d) = subst P (get_or-take n selectors w.0 d small) (w.2 d) in
-    let low = rises w.0 n d (omega (arith, small)) within in
-    all w.0 n d small within earlier.0.of_rank of_n.of_rank (get_or selectors n d).low
-    (record { from = low; to = omega (arith, touches, earlier.1) }) (record { from = omega arith; to = of_n.some_key })
+-- and their spans are where they are
+pub spans_of_apart : (rank : ℕ) (selectors : List Selector) → AllPairs (AreApartIn rank) selectors → AllPairs AreSpansApart (filter_map (span_in rank) selectors)
+spans_of_apart rank selectors =
+    AllPairs-given (span_in rank) (AreApartIn rank) AreSpansApart
+    (λ a b x y of_a of_b apart key from_x to_x from_y to_y.
+    let p = has_span rank a x of_a in
+    let q = has_span rank b y of_b in
+    apart p.of_rank q.of_rank key
+    (record { from = omega (arith, p.low, from_x); to = omega (arith, p.high, to_x) })
+    (record { from = omega (arith, q.low, from_y); to = omega (arith, q.high, to_y) }))
+    selectors
 
--- one that begins above the highest key has none in common
-pub apart_of_higher : (rank n : ℕ) (selectors : List Selector) (reached : Option ℕ) → n < length selectors → AllPairs (AreApartIn rank) (take n selectors) →
-    IsHighest rank (take n selectors) reached → (IsSomeAnd reached (λ last. (get_or selectors n nowhere).low ≤ last) → ⊥) →
-    AllPairs (AreApartIn rank) (take (n + 1) selectors)
-apart_of_higher rank n selectors None within before h above =
-    AllPairs-take_more (AreApartIn rank) selectors n within before (λ k d below of_k of_n key in_k in_n.
-    h k d (omega (arith, below, within, length-take n selectors))
-    (subst (IsOfRank rank) (sym (get_or-take n selectors k d below)) (record { of_rank = of_k; some_key = omega (arith, in_k.from, in_k.to) })))
-apart_of_higher rank n selectors (Some last) within before h above =
-    AllPairs-take_more (AreApartIn rank) selectors n within before (λ k d below of_k of_n key in_k in_n.
-    let front = get_or-take n selectors k d below in
-    let most = h.0 k d (omega (arith, below, within, length-take n selectors)) (subst (IsOfRank rank) (sym front) (record { of_rank = of_k; some_key = omega (arith, in_k.from, in_k.to) })) in
-    let P : Selector → Type 0 = λ s. s.high ≤ last in
-    let most' : (get_or selectors k d).high ≤ last = subst P front most in
-    let Q : Selector → Type 0 = λ s. s.low ≤ last in
-    above (subst Q (get_or_default selectors n d nowhere within) (let low : (get_or selectors n d).low ≤ last = omega (arith, most', in_k.to, in_n.from) in low)))
+-- ---- spans by their least keys
 
--- and its last key is the highest then
-pub IsHighest-higher : (rank n : ℕ) (selectors : List Selector) (reached : Option ℕ) → n < length selectors → IsHighest rank (take n selectors) reached →
-    IsOfRank rank (get_or selectors n nowhere) → (IsSomeAnd reached (λ last. (get_or selectors n nowhere).low ≤ last) → ⊥) →
-    IsHighest rank (take (n + 1) selectors) (Some (get_or selectors n nowhere).high)
-IsHighest-higher rank n selectors reached within h of_n above = (
-  λ k d below of_k.
-      let high = (get_or selectors n nowhere).high in
-      let P : Selector → Type 0 = λ s. s.high ≤ high in
-      let read = among selectors (n + 1) k d below in
-      elim (cases_eq k n) [
-        | inl same ↦ (
-            let is : get_or selectors k d ≡ get_or selectors n nowhere = ap (λ i. get_or selectors i d) same ∙ get_or_default selectors n d nowhere within in
-            let self : high ≤ high = omega arith in
-            subst P (sym (read ∙ is)) self)
-        | inr other ↦ (
-            let small : k < n = omega (arith, below, other, length-take (n + 1) selectors) in
-            let front = get_or-take n selectors k d small in
-            let of_k' = subst (IsOfRank rank) (read ∙ sym front) of_k in
-            let inside : k < length (take n selectors) = omega (arith, small, within, length-take n selectors) in
-            subst P (sym (read ∙ sym front)) (earlier_below rank n (take n selectors) reached (get_or selectors n nowhere) h of_n above k d inside of_k'))
-      ],
-  (
-    n,
-    omega (arith, within, length-take (n + 1) selectors),
-    λ d.
-        let is : get_or selectors n nowhere ≡ get_or (take (n + 1) selectors) n d =
-        get_or_default selectors n nowhere d within ∙ sym (get_or-take (n + 1) selectors n d (omega arith)) in
-        let P : Selector → Type 0 = λ s. IsOfRank rank s × (s.high ≡ (get_or selectors n nowhere).high) in
-        subst P is (of_n, refl),
-  ),
-)
-  where
-    earlier_below : (rank n : ℕ) (front : List Selector) (reached : Option ℕ) (next : Selector) → IsHighest rank front reached →
-        IsOfRank rank next → (IsSomeAnd reached (λ last. next.low ≤ last) → ⊥) → (k : ℕ) (d : Selector) → k < length front → IsOfRank rank (get_or front k d) →
-        (get_or front k d).high ≤ next.high
-    earlier_below rank n front None next h of_next above k d below of_k = absurd (h k d below of_k)
-    earlier_below rank n front (Some last) next h of_next above k d below of_k =
-        let most = h.0 k d below of_k in
-        elim (cases_lt last next.low) [
-          | inl past ↦ omega (arith, most, past, of_next.some_key)
-          | inr touches ↦ absurd (above touches)
-        ]
+-- spans of which each begins behind the one before it have no key in common
+pub apart_behind : (spans : List Span) → IsNonDecreasingBy (λ s. s.low) spans →
+    ((k : ℕ) (d : Span) → k + 1 < length spans → (get_or spans k d).high < (get_or spans (k + 1) d).low) → AllPairs AreSpansApart spans
+apart_behind spans rises behind i j d below within key from_i to_i from_j to_j =
+    let next = behind i d (omega (arith, below, within)) in
+    let later = rises (i + 1) j d (omega (arith, below)) within in
+    omega (arith, next, later, to_i, from_j)
+
+-- one that begins at or before the end of the one before it has a key in common with it
+pub key_of_both : (spans : List Span) (i : ℕ) (d : Span) → IsNonDecreasingBy (λ s. s.low) spans → All (λ s. s.low ≤ s.high) spans → 0 < i →
+    i < length spans → (get_or spans i d).low ≤ (get_or spans (i - 1) d).high → AllPairs AreSpansApart spans → ⊥
+key_of_both spans i d rises some above within touches all =
+    let before : i - 1 < i = omega (arith, above) in
+    all (i - 1) i d before within (get_or spans i d).low (rises (i - 1) i d (omega (arith, before)) within) touches (omega arith) (some i d within)
+
+-- two spans have no key in common both ways round
+pub AreSpansApart-turned : (a b : Span) → AreSpansApart a b → AreSpansApart b a
+AreSpansApart-turned a b h key from_b to_b from_a to_a = h key from_a to_a from_b to_b
 
 -- ---- all ranks
 
@@ -167,7 +111,3 @@ apart_in_ranks selectors ranks zero' one' two' i j d below within same =
 -- what is apart is apart in each rank
 pub apart_in_rank : (rank : ℕ) (selectors : List Selector) → AllPairs AreApart selectors → AllPairs (AreApartIn rank) selectors
 apart_in_rank rank selectors all i j d below within of_i of_j = all i j d below within (of_i ∙ sym of_j)
-
--- two selectors have no key in common both ways round
-pub AreApart-turned : (a b : Selector) → AreApart a b → AreApart b a
-AreApart-turned a b h same key in_b in_a = h (sym same) key in_a in_b

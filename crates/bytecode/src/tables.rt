@@ -4,14 +4,14 @@ ghost use Rattle.std.specs.Prelude.{◌≡◌, ◌≢◌, ◌⊎◌, ◌↔◌, 
 ghost use Rattle.int_kinds.specs.Kind.{Holds};
 ghost use Rattle.write_format.specs.Line.{IsCharArray, char_arrays};
 ghost use Rattle.message_cells.specs.Cells.{IsHeldStart};
-ghost use Rattle.run_effects.specs.Effect.{IsUnit, AreApart, KeepsSelectors, KeepsTimers, key_of, selectors_of, timer_of};
+ghost use Rattle.run_effects.specs.Effect.{IsUnit, KeepsSelectors, KeepsTimers, key_of, selectors_of, timer_of};
 ghost use Rattle.bytecode.specs.Tables.{GivesNothing, KeepsHandlers, KeepsTables, all_keys, all_selectors, all_timers};
 
 use crate::code::{Code, Fun, Handler};
 use crate::distinct::{keys_differ, selectors_are_apart, timers_differ};
 use int_kinds::{Kind, holds, is_number};
 use message_cells::begin_with_event;
-use run_effects::{Event, Selector};
+use run_effects::Event;
 use std::alloc::Global;
 use texts::NoMemory;
 use write_format::{CharCells, Format};
@@ -105,7 +105,7 @@ fn keeps_handlers(alloc: Global, code: &Code) -> Result<bool, NoMemory>
     ensures { IfOk result (λ keeps. IsTrue keeps ↔ KeepsHandlers code.now) }
 {
     let handlers = code.handlers.as_slice();
-    let keeps_selectors = keeps_selectors(selectors_of(alloc, handlers)?);
+    let keeps_selectors = keeps_selectors(alloc, handlers)?;
     let keeps_timers = keeps_timers(timers_of(alloc, handlers)?, code.timers.len());
     let keys = keys_of(alloc, handlers)?;
     let give_nothing = handlers_give_nothing(code.functions.as_slice(), handlers);
@@ -113,13 +113,13 @@ fn keeps_handlers(alloc: Global, code: &Code) -> Result<bool, NoMemory>
 }
 
 /// Whether the selectors have known ranks, and no two of one rank a key in common.
-fn keeps_selectors(selectors: Vec<Selector>) -> bool
-    ensures { IsTrue result ↔ KeepsSelectors selectors.items }
+fn keeps_selectors(alloc: Global, handlers: &[Handler]) -> Result<bool, NoMemory>
+    ensures { IfOk result (λ keeps. IsTrue keeps ↔ KeepsSelectors (all_selectors handlers.now)) }
 {
-    if !ranks_are_known(&selectors) {
-        return false;
+    if !ranks_are_known(handlers) {
+        return Ok(false);
     }
-    selectors_are_apart(selectors)
+    selectors_are_apart(alloc, handlers)
 }
 
 /// Whether the timers are among so many, and no two are the same.
@@ -130,19 +130,6 @@ fn keeps_timers(timers: Vec<u32>, count: usize) -> bool
         return false;
     }
     timers_differ(timers)
-}
-
-/// All selectors of the handlers.
-fn selectors_of(alloc: Global, handlers: &[Handler]) -> Result<Vec<Selector>, NoMemory>
-    ensures { IfOk result (λ selectors. selectors.items ≡ all_selectors handlers.now) }
-{
-    let mut selectors = Vec::new(alloc);
-    for handler in handlers {
-        if let Event::Message(own) = &handler.event {
-            selectors.extend_from_slice(own.as_slice())?;
-        }
-    }
-    Ok(selectors)
 }
 
 /// All timers of the handlers.
@@ -173,11 +160,27 @@ fn keys_of(alloc: Global, handlers: &[Handler]) -> Result<Vec<Option<u8>>, NoMem
     Ok(keys)
 }
 
-/// Whether each rank is 0 to 2.
-fn ranks_are_known(selectors: &[Selector]) -> bool
-    ensures { IsTrue result ↔ All (λ selector. selector.rank ≤ 2) selectors.now }
+/// Whether the rank of each selector is 0 to 2.
+fn ranks_are_known(handlers: &[Handler]) -> bool
+    ensures { IsTrue result ↔
+        All (λ handler. All (λ selector. selector.rank ≤ 2) (selectors_of handler.event)) handlers.now }
 {
-    selectors.iter().all(|selector| selector.rank <= 2)
+    handlers
+        .iter()
+        .all(|handler| has_known_ranks(&handler.event))
+}
+
+/// Whether the rank of each selector that an event has is 0 to 2.
+fn has_known_ranks(event: &Event) -> bool
+    ensures { IsTrue result ↔ All (λ selector. selector.rank ≤ 2) (selectors_of event.now) }
+{
+    match event {
+        Event::Message(selectors) => selectors
+            .as_slice()
+            .iter()
+            .all(|selector| selector.rank <= 2),
+        Event::PreStart | Event::Start | Event::Stop | Event::Timer(_) | Event::Key(_) => true,
+    }
 }
 
 /// Whether each timer is below the number of timers.
