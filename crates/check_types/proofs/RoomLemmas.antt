@@ -6,7 +6,7 @@ use Rattle.std.proofs.lemmas.List.Concat.{flat_map-append}
 use Rattle.write_format.specs.Line.{FormatText}
 use Rattle.capl_meaning.specs.Statement.{Handler}
 use Rattle.check_names.proofs.LoopLemmas.{drop_next}
-use Rattle.type_statements.proofs.RoomLemmas.{HaveNumbers}
+use Rattle.type_alone.proofs.RoomLemmas.{HaveNumbers}
 use Rattle.typed_source.specs.Program.{formats_of_body, formats_of_handlers}
 
 -- a part in the middle has room

@@ -25,8 +25,8 @@ use sound_programs::laws::{
 };
 use std::alloc::Global;
 use texts::NoMemory;
+use type_alone::StatementTables;
 use type_expressions::{Layout, TreeTables};
-use type_statements::StatementTables;
 use typed_tree::Typed;
 
 /// Why a program is not accepted.

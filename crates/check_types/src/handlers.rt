@@ -6,7 +6,7 @@ ghost use Rattle.capl_meaning.specs.Statement.{handlers_of_part};
 ghost use Rattle.check_names.specs.Part.{part_in, parts_in};
 ghost use Rattle.check_types.specs.Lines.{line_in};
 ghost use Rattle.check_types.specs.Handlers.{lines_of};
-ghost use Rattle.type_statements.specs.Tables.{AreTables, order_of};
+ghost use Rattle.type_alone.specs.Tables.{AreTables, order_of};
 ghost use Rattle.typed_source.specs.Program.{formats_of_handlers, typed_handlers};
 
 use crate::events::event_of;
@@ -15,7 +15,8 @@ use check_sorts::Scope;
 use items::Items;
 use std::alloc::Global;
 use texts::NoMemory;
-use type_statements::{StatementTables, make_body};
+use type_alone::StatementTables;
+use type_statements::make_body;
 use typed_tree::THandler;
 use write_format::Format;
 

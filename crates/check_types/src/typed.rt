@@ -7,7 +7,7 @@ ghost use Rattle.capl_meaning.specs.Offences.{offences_of};
 ghost use Rattle.capl_meaning.specs.Inside.Procedure.{handlers_of};
 ghost use Rattle.check_types.specs.Lines.{line_in};
 ghost use Rattle.check_types.specs.Handlers.{lines_of};
-ghost use Rattle.type_statements.specs.Tables.{AreTables, order_of};
+ghost use Rattle.type_alone.specs.Tables.{AreTables, order_of};
 ghost use Rattle.typed_source.specs.Program.{formats_of_functions, formats_of_handlers, typed_program};
 
 use crate::functions::make_functions;

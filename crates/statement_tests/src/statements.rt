@@ -4,7 +4,7 @@ ghost use Rattle.std.specs.Prelude.{Some};
 ghost use Rattle.check_sorts.specs.Constant.{AreConstantsOf};
 ghost use Rattle.typed_laws.specs.Laid.{AreDistinct};
 ghost use Rattle.type_expressions.specs.Layout.{IsLaidOut};
-ghost use Rattle.type_statements.specs.Tables.{AreTables};
+ghost use Rattle.type_alone.specs.Tables.{AreTables};
 
 use capl_tree::Stmt;
 use check_calls::Calls;
@@ -14,8 +14,9 @@ use parser_tests::sources::{expression, program, undeclared};
 use std::alloc::Global;
 use std::process::Abort;
 use std::test::Fail;
+use type_alone::{StatementTables, make_alone};
 use type_expressions::{Layout, TreeTables};
-use type_statements::{StatementTables, make_alone, make_body, make_statement};
+use type_statements::{make_body, make_statement};
 use typed_tree::TStmt;
 
 /// What is made of a `break`, outside of procedures.

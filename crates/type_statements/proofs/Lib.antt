@@ -1,8 +1,4 @@
 -- The lemmas of this crate.
-pub mod AloneLemmas
 pub mod By
-pub mod FormatLemmas
 pub mod MadeLemmas
-pub mod RoomLemmas
 pub mod RowLemmas
-pub mod WriteLemmas

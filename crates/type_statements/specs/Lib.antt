@@ -1,4 +1,2 @@
 -- The definitions of this crate.
 pub mod Rows
-pub mod Tables
-pub mod Write

@@ -3,15 +3,15 @@
 ghost use Rattle.std.specs.Prelude.{◌≡◌, IfOk, filter_map};
 ghost use Rattle.capl_meaning.specs.StatementRules.{label_of};
 ghost use Rattle.check_sorts.specs.Scope.{scope_in};
-ghost use Rattle.type_statements.specs.Tables.{AreTables};
+ghost use Rattle.type_alone.specs.Tables.{AreTables};
 
-use crate::tables::StatementTables;
 use capl_tree::Label;
 use check_sorts::Scope;
 use int_kinds::{Kind, wrap};
 use items::Items;
 use std::alloc::Global;
 use texts::NoMemory;
+use type_alone::StatementTables;
 
 /// A label in a kind: None where it is no constant, and no number for `default`.
 fn make_label(

@@ -13,17 +13,16 @@ ghost use Rattle.typed_source.specs.Statement.{formats_of, formats_of_part, retu
 ghost use Rattle.typed_source.specs.Program.{body_of, formats_of_body};
 ghost use Rattle.check_sorts.specs.Scope.{scope_in};
 ghost use Rattle.type_statements.specs.Rows.{arms_in, else_in, formats_in_arms, formats_in_else, formats_in_groups, groups_in, part_in};
-ghost use Rattle.type_statements.specs.Tables.{AreTables, order_of};
+ghost use Rattle.type_alone.specs.Tables.{AreTables, order_of};
 
-use crate::alone::make_alone;
 use crate::label::make_labels;
-use crate::tables::StatementTables;
 use capl_tree::{Arm, Expr, Group, Label, Stmt};
 use check_sorts::{Scope, kind_in};
 use int_kinds::{Kind, join};
 use items::{Boxed, Items};
 use std::alloc::Global;
 use texts::NoMemory;
+use type_alone::{StatementTables, make_alone};
 use type_expressions::make_expression;
 use typed_tree::{TArm, TExpr, TGroup, TStmt};
 use write_format::Format;

@@ -3,12 +3,12 @@ use Rattle.std.proofs.Common.{◌≡◌, ◌∙◌, ◌<◌, ℕ, ◌++◌, List
 use Rattle.capl_meaning.specs.Calls.{function_numbered}
 use Rattle.capl_meaning.specs.Names.{Function}
 use Rattle.check_names.specs.Function.{function_in}
-use Rattle.type_statements.specs.Tables.{order_of}
+use Rattle.type_alone.specs.Tables.{order_of}
 use Rattle.typed_source.specs.Program.{formats_of_function, function_of}
 use Rattle.check_types.proofs.MadeLemmas.{formats_more, functions_more, read_same}
 use Rattle.check_types.proofs.NameLemmas.{listed_is, ordered}
 use Rattle.check_types.proofs.RoomLemmas.{room_for_next}
-use Rattle.type_statements.proofs.RoomLemmas.{HaveNumbers}
+use Rattle.type_alone.proofs.RoomLemmas.{HaveNumbers}
 use Rattle.check_types.proofs.functions.make_functions.Goals as goal
 
 pub bounds-indices-at : goal.bounds-indices-at

@@ -1,6 +1,6 @@
 -- The functions and formats are those of the order so far.
 use Rattle.std.proofs.Common.{◌≡◌, ◌++◌, length, take}
-use Rattle.type_statements.specs.Tables.{order_of}
+use Rattle.type_alone.specs.Tables.{order_of}
 use Rattle.typed_source.specs.Program.{formats_of_functions, functions_of}
 use Rattle.check_types.proofs.functions.make_functions.Given as goal
 

@@ -8,11 +8,11 @@ use Rattle.check_names.specs.declared.part.ProgramPart.{ProgramPart}
 use Rattle.check_names.specs.Part.{part_in}
 use Rattle.check_types.specs.Lines.{line_in}
 use Rattle.check_types.specs.Handlers.{lines_of}
-use Rattle.type_statements.specs.Tables.{order_of}
+use Rattle.type_alone.specs.Tables.{order_of}
 use Rattle.typed_source.specs.Program.{formats_of_handlers, typed_handlers}
 use Rattle.check_types.proofs.MadeLemmas.{flat_map-map, handler_formats_more, handlers_more}
 use Rattle.check_types.proofs.RoomLemmas.{room_for_handlers}
-use Rattle.type_statements.proofs.RoomLemmas.{HaveNumbers}
+use Rattle.type_alone.proofs.RoomLemmas.{HaveNumbers}
 use Rattle.check_types.proofs.handlers.make_handlers.Goals as goal
 
 pub loop-part-preserved : goal.loop-part-preserved

@@ -5,7 +5,7 @@ use Rattle.capl_meaning.specs.Statement.{handlers_of_part}
 use Rattle.check_names.specs.Part.{part_in}
 use Rattle.check_types.specs.Lines.{line_in}
 use Rattle.check_types.specs.Handlers.{lines_of}
-use Rattle.type_statements.specs.Tables.{order_of}
+use Rattle.type_alone.specs.Tables.{order_of}
 use Rattle.typed_source.specs.Program.{formats_of_handlers, typed_handlers}
 use Rattle.check_types.proofs.handlers.make_handlers.Given as goal
 

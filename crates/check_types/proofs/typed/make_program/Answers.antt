@@ -11,7 +11,7 @@ use Rattle.check_types.proofs.IdentifierLemmas.{all_short}
 use Rattle.capl_meaning.specs.Statement.{handlers_of_part}
 use Rattle.capl_meaning.specs.Inside.Procedure.{handlers_of}
 use Rattle.check_types.proofs.RoomLemmas.{room_for_first, room_for_second}
-use Rattle.type_statements.specs.Tables.{order_of}
+use Rattle.type_alone.specs.Tables.{order_of}
 use Rattle.typed_source.specs.Program.{formats_of_functions, formats_of_handlers}
 use Rattle.check_types.proofs.typed.make_program.Goals as goal
 

@@ -11,9 +11,9 @@ use Rattle.typed_source.specs.Statement.{formats_of, formats_of_part, statement_
 use Rattle.typed_source.specs.Program.{formats_of_body}
 use Rattle.check_sorts.specs.Scope.{scope_in}
 use Rattle.type_statements.specs.Rows.{else_in, formats_in_arms, formats_in_else, formats_in_groups, groups_in}
-use Rattle.type_statements.specs.Tables.{order_of}
+use Rattle.type_alone.specs.Tables.{order_of}
 use Rattle.type_statements.proofs.MadeLemmas.{arms_turn, body_turn, do_made, for_formats_made, for_made, for_of, formats_turn, groups_turn, if_formats_made, if_made, part_formats, switch_formats_made, switch_made, there_already, while_made}
-use Rattle.type_statements.proofs.RoomLemmas.{room_first, room_rest, room_same, room_third, room_two}
+use Rattle.type_alone.proofs.RoomLemmas.{room_first, room_rest, room_same, room_third, room_two}
 use Rattle.type_statements.proofs.RowLemmas.{block_formats, do_formats, for_formats, if_formats, switch_formats, while_formats}
 use Rattle.type_statements.proofs.statement.+statement.Goals as goal
 

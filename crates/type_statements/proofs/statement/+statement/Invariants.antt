@@ -3,7 +3,7 @@ use Rattle.std.proofs.Common.{◌≡◌, ◌++◌, drop, length}
 use Rattle.typed_source.specs.Program.{body_of, formats_of_body}
 use Rattle.check_sorts.specs.Scope.{scope_in}
 use Rattle.type_statements.specs.Rows.{arms_in, formats_in_arms, formats_in_groups, groups_in}
-use Rattle.type_statements.specs.Tables.{order_of}
+use Rattle.type_alone.specs.Tables.{order_of}
 use Rattle.type_statements.proofs.statement.+statement.Given as goal
 
 abbrev pub invariant-make_body-loop-statement : goal.invariant-make_body-loop-statement

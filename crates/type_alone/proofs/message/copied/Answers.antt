@@ -2,9 +2,9 @@
 use Rattle.typed_source.specs.Expression.{expression_of}
 use Rattle.typed_tree.specs.declared.statement.TStmt.TheVariants.{Eval}
 use Rattle.check_sorts.specs.Scope.{scope_in}
-use Rattle.type_statements.specs.Tables.{order_of}
-use Rattle.type_statements.proofs.AloneLemmas.{variable_copied}
-use Rattle.type_statements.proofs.message.copied.Goals as goal
+use Rattle.type_alone.specs.Tables.{order_of}
+use Rattle.type_alone.proofs.AloneLemmas.{variable_copied}
+use Rattle.type_alone.proofs.message.copied.Goals as goal
 
 pub returns-in-Variable : goal.returns-in-Variable
 returns-in-Variable c left right to_is from_is =

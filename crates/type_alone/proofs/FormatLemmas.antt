@@ -28,7 +28,7 @@ use Rattle.capl_meaning.specs.Variable.{Variable}
 use Rattle.capl_meaning.specs.Statement.{fitting_pieces}
 use Rattle.check_sorts.specs.Format.{shown}
 use Rattle.typed_tree.specs.declared.statement.TStmt.TheVariants.{Empty, Write}
-use Rattle.type_statements.specs.Write.{AreMadeOf, FitFor, IsRead, format_written}
+use Rattle.type_alone.specs.Write.{AreMadeOf, FitFor, IsRead, format_written}
 use Rattle.typed_source.specs.Statement.{argument_by, argument_of, format_of, formats_written, numbers_of, pieces_written, text_argument, text_written, writing}
 
 -- the code of a text shows what is no number

@@ -4,8 +4,8 @@ use Rattle.std.specs.Prelude.{map}
 use Rattle.capl_meaning.specs.Sort.{sort_of}
 use Rattle.typed_source.specs.Statement.{argument_of, numbers_of}
 use Rattle.check_sorts.specs.Scope.{scope_in}
-use Rattle.type_statements.specs.Tables.{order_of}
-use Rattle.type_statements.proofs.write.make_arguments.Given as goal
+use Rattle.type_alone.specs.Tables.{order_of}
+use Rattle.type_alone.proofs.write.make_arguments.Given as goal
 
 abbrev pub invariant-loop-e : goal.invariant-loop-e
 invariant-loop-e l = record {

@@ -3,10 +3,10 @@ use Rattle.std.proofs.Common.{◌≡◌, ◌++◌, ◌∙◌, IfOk, OnOk, length
 use Rattle.capl_tree.specs.declared.expr.Expr.{the_lemmas}
 use Rattle.typed_source.specs.Statement.{alone_of, formats_of_alone}
 use Rattle.check_sorts.specs.Scope.{scope_in}
-use Rattle.type_statements.specs.Tables.{order_of}
-use Rattle.type_statements.proofs.AloneLemmas.{assignment_alone, paren_alone, paren_formats}
-use Rattle.type_statements.proofs.RoomLemmas.{room_same}
-use Rattle.type_statements.proofs.alone.+make_alone.Goals as goal
+use Rattle.type_alone.specs.Tables.{order_of}
+use Rattle.type_alone.proofs.AloneLemmas.{assignment_alone, paren_alone, paren_formats}
+use Rattle.type_alone.proofs.RoomLemmas.{room_same}
+use Rattle.type_alone.proofs.alone.+make_alone.Goals as goal
 
 pub returns-in-Paren-clause-tree : goal.returns-in-Paren-clause-tree
 returns-in-Paren-clause-tree t c =

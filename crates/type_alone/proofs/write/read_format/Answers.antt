@@ -1,8 +1,8 @@
 -- Nothing is wrong with a format that fits.
 use Rattle.std.proofs.Common.{Err, ap, ◌∙◌}
 use Rattle.write_format.specs.declared.refusal.FormatRefusal.{FormatRefusal}
-use Rattle.type_statements.proofs.FormatLemmas.{never_wrong}
-use Rattle.type_statements.proofs.write.read_format.Goals as goal
+use Rattle.type_alone.proofs.FormatLemmas.{never_wrong}
+use Rattle.type_alone.proofs.write.read_format.Goals as goal
 
 pub unreachable-requires : goal.unreachable-requires
 unreachable-requires c =

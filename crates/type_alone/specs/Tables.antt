@@ -3,7 +3,7 @@ use Rattle.std.specs.Prelude.{List, ℕ}
 use Rattle.capl_meaning.specs.Names.{Names}
 use Rattle.check_sorts.specs.Constant.{AreConstantsOf}
 use Rattle.type_expressions.specs.Made.{AreTreeTables, order_in}
-use Rattle.type_statements.specs.declared.tables.StatementTables.{StatementTables}
+use Rattle.type_alone.specs.declared.tables.StatementTables.{StatementTables}
 
 -- the tables are those of a program
 pub record AreTables (names : Names) (tables : StatementTables) : Type 0 where

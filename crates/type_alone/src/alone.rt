@@ -6,7 +6,7 @@ ghost use Rattle.typed_source.specs.Expression.{expression_of};
 ghost use Rattle.typed_source.specs.Statement.{alone_of, formats_of_alone, formats_of_call, of_call_alone};
 ghost use Rattle.typed_tree.specs.declared.statement.TStmt.TheVariants.{Eval};
 ghost use Rattle.check_sorts.specs.Scope.{scope_in};
-ghost use Rattle.type_statements.specs.Tables.{AreTables, order_of};
+ghost use Rattle.type_alone.specs.Tables.{AreTables, order_of};
 
 use crate::message::{assigned, evaluated, sent};
 use crate::tables::StatementTables;

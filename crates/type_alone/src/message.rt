@@ -9,7 +9,7 @@ ghost use Rattle.typed_source.specs.Statement.{of_assignment};
 ghost use Rattle.typed_tree.specs.declared.statement.TStmt.TheVariants.{Empty, Eval, Send};
 ghost use Rattle.check_sorts.specs.Message.{held_in};
 ghost use Rattle.check_sorts.specs.Scope.{scope_in};
-ghost use Rattle.type_statements.specs.Tables.{AreTables, order_of};
+ghost use Rattle.type_alone.specs.Tables.{AreTables, order_of};
 
 use crate::tables::StatementTables;
 use capl_tree::Expr;

@@ -8,7 +8,7 @@ ghost use Rattle.typed_source.specs.Expression.{expression_of};
 ghost use Rattle.typed_source.specs.Statement.{setting};
 ghost use Rattle.typed_tree.specs.declared.statement.TStmt.TheVariants.{Cancel, Empty};
 ghost use Rattle.check_sorts.specs.Scope.{scope_in};
-ghost use Rattle.type_statements.specs.Tables.{AreTables, order_of};
+ghost use Rattle.type_alone.specs.Tables.{AreTables, order_of};
 
 use crate::tables::StatementTables;
 use capl_tree::Expr;

@@ -3,9 +3,9 @@ use Rattle.std.proofs.Common.{map, refl, arith}
 use Rattle.capl_meaning.specs.Sort.{sort_of}
 use Rattle.typed_source.specs.Statement.{argument_of, numbers_of}
 use Rattle.check_sorts.specs.Scope.{scope_in}
-use Rattle.type_statements.specs.Tables.{order_of}
-use Rattle.type_statements.proofs.WriteLemmas.{no_more, numbers_step, one_more}
-use Rattle.type_statements.proofs.write.make_arguments.Goals as goal
+use Rattle.type_alone.specs.Tables.{order_of}
+use Rattle.type_alone.proofs.WriteLemmas.{no_more, numbers_step, one_more}
+use Rattle.type_alone.proofs.write.make_arguments.Goals as goal
 
 pub loop-e-preserved : goal.loop-e-preserved
 loop-e-preserved c =

@@ -1,7 +1,7 @@
 -- A text that shows the sorts of the arguments fits them, and no other has a format.
 use Rattle.std.proofs.Common.{◌∙◌, sym}
-use Rattle.type_statements.proofs.FormatLemmas.{fit_for, none_of_unshown, some_of_shown}
-use Rattle.type_statements.proofs.write.shown_format.Goals as goal
+use Rattle.type_alone.proofs.FormatLemmas.{fit_for, none_of_unshown, some_of_shown}
+use Rattle.type_alone.proofs.write.shown_format.Goals as goal
 
 pub read_format-requires : goal.read_format-requires
 read_format-requires c =

@@ -9,8 +9,8 @@ ghost use Rattle.capl_meaning.specs.Sort.{sort_of};
 ghost use Rattle.typed_source.specs.Statement.{argument_by, argument_of, formats_written, numbers_of, pieces_written, text_argument, text_written, writing};
 ghost use Rattle.typed_tree.specs.declared.statement.TStmt.TheVariants.{Write};
 ghost use Rattle.check_sorts.specs.Scope.{scope_in};
-ghost use Rattle.type_statements.specs.Tables.{AreTables, order_of};
-ghost use Rattle.type_statements.specs.Write.{AreMadeOf, FitFor, IsRead, format_written};
+ghost use Rattle.type_alone.specs.Tables.{AreTables, order_of};
+ghost use Rattle.type_alone.specs.Write.{AreMadeOf, FitFor, IsRead, format_written};
 
 use crate::tables::StatementTables;
 use capl_meaning::Sort;

@@ -4,9 +4,9 @@ use Rattle.std.proofs.lemmas.List.{append-nil}
 use Rattle.typed_tree.specs.declared.statement.TStmt.TheVariants.{Write}
 use Rattle.check_sorts.specs.Scope.{scope_in}
 use Rattle.typed_source.specs.Statement.{formats_written, pieces_written, text_written}
-use Rattle.type_statements.specs.Tables.{order_of}
-use Rattle.type_statements.proofs.FormatLemmas.{is_written, nothing_written}
-use Rattle.type_statements.proofs.write.make_write.Goals as goal
+use Rattle.type_alone.specs.Tables.{order_of}
+use Rattle.type_alone.proofs.FormatLemmas.{is_written, nothing_written}
+use Rattle.type_alone.proofs.write.make_write.Goals as goal
 
 pub shown_format-requires : goal.shown_format-requires
 shown_format-requires c = (
