@@ -1,10 +1,8 @@
-//! Tests of buses, of one channel, of two, and with planned errors: a module for each subject.
+//! Tests of buses, of one channel and of two: a module for each subject.
 //!
 //! They stand here, above those crates, so that each of those is proved without them.
 #![tactic(auto)]
 
-#[cfg(test)]
-mod errors;
 #[cfg(test)]
 mod heap_bus;
 #[cfg(test)]
