@@ -1,8 +1,8 @@
-//! Tests of the parser: sources with their trees, written as text, sources that have none, what sources
-//! weigh, and calls of the laws on the grammar and on readers.
+//! Tests of the parser: sources that have no tree, how deep sources nest, what they weigh, and calls of the
+//! laws on the grammar and on readers.
 //!
-//! They stand here, above those crates, so that each of those is proved without them. `sources` has the trees
-//! of short sources, for tests of what stands above the parser.
+//! They stand here, above those crates, so that each of those is proved without them. `sources` has what is
+//! parsed of sources, and the trees of short ones, for these tests and those of what stands above the parser.
 #![tactic(auto)]
 
 #[cfg(test)]

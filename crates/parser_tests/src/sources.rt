@@ -1,15 +1,30 @@
-// The trees of short sources, for tests of what stands above the parser.
+// What the parser gives of a source, for tests of it; and the trees of short sources, for tests of what
+// stands above it.
 
 ghost use Rattle.std.specs.Prelude.{◌≡◌, [], IfOk};
 ghost use Rattle.check_names.specs.Few.{IsFew};
 
 use capl_lexer::lex;
-use capl_parser::parse;
-use capl_tree::{Expr, Program, Stmt, TopItem};
+use capl_parser::{ParseRefusal, parse};
+use capl_tree::{Expr, FileTree, Program, Stmt, TopItem};
 use items::Items;
 use small_trees::laws::programs_declare_no_more_than_their_tokens;
 use std::alloc::Global;
 use std::test::Fail;
+
+/// What is parsed of these bytes, or None where they are no tokens.
+pub fn parsed(
+    alloc: Global,
+    source: &[u8],
+) -> Result<Option<Result<FileTree, ParseRefusal>>, Fail> {
+    if source.len() > 100_000 {
+        return Err(Fail::new("long"));
+    }
+    match lex(alloc, source) {
+        Ok(tokens) => Ok(Some(parse(alloc, &tokens))),
+        Err(_) => Ok(None),
+    }
+}
 
 /// The program of one file that is this source, which is short, so that the program declares few.
 pub fn program(alloc: Global, source: &str) -> Result<Program, Fail>

@@ -508,7 +508,7 @@ fn show_top_item(out: &mut String, item: &TopItem) -> Result<(), Fail> {
 }
 
 /// The tree of a file.
-pub(super) fn show_file(out: &mut String, tree: &FileTree) -> Result<(), Fail> {
+pub(crate) fn show_file(out: &mut String, tree: &FileTree) -> Result<(), Fail> {
     for item in tree.items.as_slice() {
         show_top_item(out, item)?;
     }
