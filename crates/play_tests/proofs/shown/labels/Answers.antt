@@ -2,7 +2,7 @@
 use Rattle.std.proofs.Common.{ℕ, List, length, arith, ap, subst, sym}
 use Rattle.sim_play.specs.Play.{HaveFiles}
 use Rattle.play_tests.proofs.FileLists.{have_files}
-use Rattle.play_tests.proofs.written.labels.Goals as goal
+use Rattle.play_tests.proofs.shown.labels.Goals as goal
 
 pub returns : goal.returns
 returns c =

@@ -1,6 +1,6 @@
 -- There are a name and a list of one file for each name so far.
 use Rattle.std.proofs.Common.{◌≡◌, All, length}
-use Rattle.play_tests.proofs.written.labels.Given as goal
+use Rattle.play_tests.proofs.shown.labels.Given as goal
 
 abbrev pub invariant-loop-name : goal.invariant-loop-name
 invariant-loop-name l = record {

@@ -3,12 +3,12 @@
 ghost use Rattle.std.specs.Prelude.{IfOk};
 ghost use Rattle.bytecode.specs.Verified.{IsShortCode};
 
-use crate::written::{check_rows, played};
 use bytecode::{Code, Fun, Handler, Instr, Verified, verify};
 use int_kinds::Kind;
 use items::Items;
 use message_cells::MESSAGE_KINDS;
-use run_bench::{Course, start_of};
+use play_tests::shown::played;
+use run_bench::{Course, has_rows, start_of};
 use run_effects::Event;
 use sim_play::Show;
 use std::alloc::Global;
@@ -77,7 +77,7 @@ fn code_without_a_source_runs(rt: HostRuntime) -> Result<(), Fail> {
         let shown = played(alloc, start_of(alloc, course)?, &["N"], show, 0, &[])?;
         assert_eq!(rt; shown.out.sink().written(), written.as_bytes());
         assert!(rt; shown.is_whole);
-        check_rows(&rt, &shown.meter, &[(1, 0)]);
+        assert!(rt; has_rows(&shown.meter, &[(1, 0)]));
     }
     Ok(())
 }
