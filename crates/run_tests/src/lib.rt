@@ -1,18 +1,12 @@
-//! Tests of sim_core: simulations of sources in memory that are run to their ends, on both buses; and calls
-//! of the laws on code and runs of sources.
+//! Tests of sim_core: simulations of sources in memory that are run to their ends, on both buses.
 //!
-//! They stand here, above those crates, so that each of those is proved without them. What the tests run is
-//! made by run_bench.
+//! They stand here, above that crate, so that it is proved without them. What the tests run is made by
+//! run_bench. `pairs` has the runs of two nodes, for these tests and those of laws.
 #![tactic(auto)]
 
 #[cfg(test)]
-mod buses;
-#[cfg(test)]
 mod checks;
-#[cfg(test)]
-mod laws;
-#[cfg(test)]
-mod pairs;
+pub mod pairs;
 #[cfg(test)]
 mod runs;
 #[cfg(test)]

@@ -1,9 +1,22 @@
-// Runs of two nodes.
+// What a run is and must leave, and such runs of two nodes.
 
-use crate::runs::Run;
 use run_bench::Entry;
 
-pub(crate) const PAIRS: [Run; 6] = [
+/// A run, and what it must leave.
+#[derive(Clone, Copy)]
+pub struct Run {
+    /// The further items of its scenario.
+    pub items: &'static str,
+    /// The sources of its nodes.
+    pub sources: &'static [&'static str],
+    /// Its entries.
+    pub entries: &'static [Entry],
+    /// The runs and turns of each procedure, node by node.
+    pub rows: &'static [(u64, u64)],
+}
+
+/// Runs of two nodes.
+pub const PAIRS: [Run; 6] = [
     // One pick takes the second node first; then one node is left, and the pick that is missing takes it.
     Run {
         items: "picks 1",

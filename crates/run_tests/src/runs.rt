@@ -1,7 +1,7 @@
 // Runs to their ends.
 
 use crate::checks::{check_entries, check_rows};
-use crate::pairs::PAIRS;
+use crate::pairs::{PAIRS, Run};
 use can_bus::Bus;
 use run_bench::{Entry, Start, heap_start, plain_start};
 use run_records::MemRecord;
@@ -9,19 +9,6 @@ use stack_vm::Meter;
 use std::alloc::Global;
 use std::process::Abort;
 use std::test::Fail;
-
-/// A run, and what it must leave.
-#[derive(Clone, Copy)]
-pub(crate) struct Run {
-    /// The further items of its scenario.
-    pub(crate) items: &'static str,
-    /// The sources of its nodes.
-    pub(crate) sources: &'static [&'static str],
-    /// Its entries.
-    pub(crate) entries: &'static [Entry],
-    /// The runs and turns of each procedure, node by node.
-    pub(crate) rows: &'static [(u64, u64)],
-}
 
 /// What a run leaves, and how often its procedures ran.
 pub(crate) fn ran<B: Bus + Drop>(

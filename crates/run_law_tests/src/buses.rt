@@ -3,18 +3,18 @@
 ghost use Rattle.std.specs.Prelude.{◌≡◌, [], IfOk};
 ghost use Rattle.sim_core.specs.Core.{HasRun, states_of};
 
-use crate::checks::{check_entries, check_rows};
-use crate::pairs::PAIRS;
 use arbitration::PlainBus;
 use bus_heap::HeapBus;
 use can_bus::Bus;
 use node_run::TaskFault;
-use run_bench::{Start, heap_start, plain_start};
+use run_bench::{Start, are_noted, has_rows, heap_start, plain_start};
 use run_records::{MemRecord, Record};
+use run_tests::pairs::{PAIRS, Run};
 use sim_core::Core;
 use sim_core::laws::one_result;
 use stack_vm::Meter;
 use std::alloc::Global;
+use std::process::Abort;
 use std::test::Fail;
 
 /// A simulation that was run to its end, and what it left.
@@ -59,6 +59,18 @@ fn left_by_both(
     Ok((list, heap))
 }
 
+/// A run left its entries and its rows, in this order, and no other.
+fn check_left<B: Bus>(rt: &impl Abort, left: &Left<B>, run: &Run) {
+    let noted = left.into.noted();
+    let meter = &left.meter;
+    assert!(rt;
+        are_noted(noted, run.entries),
+        "{noted:?} for {:?}",
+        run.entries
+    );
+    assert!(rt; has_rows(meter, run.rows), "{meter:?} for {:?}", run.rows);
+}
+
 #[test]
 fn a_list_and_a_heap_leave_the_same(rt: HostRuntime) -> Result<(), Fail> {
     let alloc = rt.alloc();
@@ -66,9 +78,7 @@ fn a_list_and_a_heap_leave_the_same(rt: HostRuntime) -> Result<(), Fail> {
     let list = plain_start(alloc, run.items, run.sources)?;
     let heap = heap_start(alloc, run.items, run.sources)?;
     let (list, heap) = left_by_both(alloc, list, heap)?;
-    check_entries(&rt, list.into.noted(), run.entries);
-    check_entries(&rt, heap.into.noted(), run.entries);
-    check_rows(&rt, &list.meter, run.rows);
-    check_rows(&rt, &heap.meter, run.rows);
+    check_left(&rt, &list, run);
+    check_left(&rt, &heap, run);
     Ok(())
 }

@@ -5,7 +5,7 @@ use Rattle.run_records.specs.Record.{RecordMeaning}
 use Rattle.stack_vm.specs.declared.meter.MeterRow.{MeterRow}
 use Rattle.sim_core.specs.Core.{CoreState, HasRun, states_of}
 use Rattle.sim_core.specs.Result.{IsSameResult, TakesInOneWay}
-use Rattle.run_tests.proofs.buses.left_by_both.Goals as goal
+use Rattle.run_law_tests.proofs.buses.left_by_both.Goals as goal
 
 -- what two simulations leave that begin alike, by the law on results
 alike : {R : Type 0} (meaning : RecordMeaning R) (into : R) (before begun : CoreState BusState) (meter opened : List MeterRow) (after other : CoreState BusState) (into_after into_other : R)
