@@ -7,8 +7,9 @@
 Builds the program of object_program.txt over the crates of this repository. Then it makes each kind of text in the
 sizes given, 1, 8 and 64 MiB if not, and has the program read the file, load its code, and store that again, each so
 many rounds (5 if not given) in a process of its own, pinned to one core. What is stored has to be the text. A row tells
-what was answered, the median of the processor seconds of `load` and of `store`, without what reading the file takes,
-these in loops, and the most memory that `load` takes beside the text. A loop is what the program at --loop, ./capl if
+what was answered; how long the call of `load` took, by the program's own clock, the median of the rounds, and that in
+loops; the median of the processor seconds of the call of `store`; and the most memory that `load` takes beside the
+text. A loop is what the program at --loop, ./capl if
 not given, takes to count to 3,200,000 in CAPL.
 
 The build takes place in a temporary folder, or in FOLDER, which is kept, as that of run.py. With --write the texts are
@@ -298,7 +299,7 @@ def build(folder):
 
 
 def timed(command, core, folder):
-    """What a command writes, its processor seconds and its most memory in megabytes."""
+    """The words that a command writes, its processor seconds and its most memory in megabytes."""
     pin = lambda: os.sched_setaffinity(0, {core})
     run = subprocess.Popen(command, cwd=folder, stdout=subprocess.PIPE, preexec_fn=pin, text=True)
     said = run.stdout.read()
@@ -306,34 +307,35 @@ def timed(command, core, folder):
     run.returncode = os.waitstatus_to_exitcode(status)
     if run.returncode:
         stop(f"{' '.join(map(str, command))} ended with status {run.returncode}")
-    return said.strip(), usage.ru_utime + usage.ru_stime, usage.ru_maxrss / 1000
+    return said.split(), usage.ru_utime + usage.ru_stime, usage.ru_maxrss / 1000
 
 
 def median_of(runs):
-    """What the runs wrote, the median of their seconds and the most of their memory."""
-    return runs[0][0], statistics.median(it[1] for it in runs), max(it[2] for it in runs)
+    """The median of the runs' seconds, and the most of their memory."""
+    return statistics.median(it[1] for it in runs), max(it[2] for it in runs)
 
 
 def loop_seconds(words, folder):
     """The seconds of a loop."""
     (folder / "s.scn").write_text("scenario 1\nnode N n.can\nturns 4000000\nuntil 1\n", encoding="utf-8")
     (folder / "n.can").write_text(LOOPS, encoding="utf-8")
-    return median_of([timed([words.loop, "window", "s.scn"], words.core, folder) for _ in range(words.rounds)])[1]
+    return median_of([timed([words.loop, "window", "s.scn"], words.core, folder) for _ in range(words.rounds)])[0]
 
 
 def report(words, program, folder, name, size, loop):
     """Prints the row of a text of a size."""
     file = folder / "text"
     write(file, name, size)
-    found = {}
-    for work in ("read", "load", "store"):
-        found[work] = median_of([timed([program, work, file], words.core, folder) for _ in range(words.rounds)])
-    answer = found["load"][0]
-    if answer.isdigit() and found["store"][0] != "true":
+    runs = {work: [timed([program, work, file], words.core, folder) for _ in range(words.rounds)]
+            for work in ("read", "load", "store")}
+    answer = runs["load"][0][0][0]
+    stored = answer.isdigit()
+    if stored and any(said != ["true"] for said, _, _ in runs["store"]):
         stop(f"what is stored of {name} is another text")
-    loading = found["load"][1] - found["read"][1]
-    storing = f'{found["store"][1] - found["load"][1]:8.3f}' if answer.isdigit() else f"{'-':>8}"
-    memory = found["load"][2] - found["read"][2]
+    found = {work: median_of(each) for work, each in runs.items()}
+    loading = statistics.median(int(said[-1]) for said, _, _ in runs["load"]) / 1_000_000
+    storing = f'{found["store"][0] - found["load"][0]:8.3f}' if stored else f"{'-':>8}"
+    memory = found["load"][1] - found["read"][1]
     print(f"{name:24} {size:4} {answer:>10} {loading:8.3f} {loading / loop:6.1f} {storing} {memory:8.0f}", flush=True)
 
 
